@@ -1,0 +1,160 @@
+//! A large accepted section with many short records, the same in every run: mostly statepoints with up to six pairs,
+//! some with deoptimisation values, and here and there a plain stack map or a patch point with live-outs.
+
+/// The registers of a frame by their DWARF numbers: frame pointer and stack pointer.
+const RBP: u16 = 6;
+const RSP: u16 = 7;
+
+/// Entries of the pool, one for every so many functions.
+const FUNCTIONS_PER_CONSTANT: u64 = 16;
+
+/// A section as long as fits in `limit` bytes.
+pub fn build(limit: usize) -> Vec<u8> {
+    let mut parts = Parts { numbers: Numbers(1), ..Parts::default() };
+    while parts.add_function(limit) {}
+    parts.bytes()
+}
+
+/// The three lists of a section as bytes, and how many records there are.
+#[derive(Default)]
+struct Parts {
+    numbers: Numbers,
+    functions: Vec<u8>,
+    constants: Vec<u8>,
+    records: Vec<u8>,
+    record_count: u32,
+}
+
+impl Parts {
+    /// Adds a function with one to eight records, unless the section would be too long.
+    fn add_function(&mut self, limit: usize) -> bool {
+        let (function_count, constant_count) = (self.functions.len() as u64 / 24, self.constants.len() as u64 / 8);
+        if constant_count * FUNCTIONS_PER_CONSTANT <= function_count {
+            self.constants.extend((1 << 32 | self.numbers.next()).to_le_bytes());
+        }
+        let (start, count) = (self.records.len(), 1 + self.numbers.below(8));
+        for number in 0..count {
+            self.add_record(number as u32);
+        }
+        if 16 + self.functions.len() + 24 + self.constants.len() + self.records.len() > limit {
+            self.records.truncate(start);
+            return false;
+        }
+        let stack_size = 8 * (3 + self.numbers.below(64));
+        for field in [0x40_0000 + 0x400 * function_count, stack_size, count] {
+            self.functions.extend(field.to_le_bytes());
+        }
+        self.record_count += count as u32;
+        true
+    }
+
+    /// The number-th record of its function. One in eight is no statepoint, and half of those have live-outs.
+    fn add_record(&mut self, number: u32) {
+        let mut locations = Vec::new();
+        let mut live_outs = 0;
+        match self.numbers.below(16) {
+            0 => self.add_plain(&mut locations),
+            1 => {
+                self.add_plain(&mut locations);
+                live_outs = 1 + self.numbers.below(6) as u16;
+            }
+            _ => self.add_statepoint(&mut locations),
+        }
+        self.write_record(number, &locations, live_outs);
+    }
+
+    /// Up to six values of any kind.
+    fn add_plain(&mut self, locations: &mut Vec<Location>) {
+        for _ in 0..self.numbers.below(7) {
+            let value = self.value();
+            locations.push(value);
+        }
+    }
+
+    /// Three constants, sometimes deoptimisation values, and up to six pairs: the first object is its own base, and
+    /// each other pointer is derived from it or is an object of its own.
+    fn add_statepoint(&mut self, locations: &mut Vec<Location>) {
+        let deopt = if self.numbers.below(8) == 0 { self.numbers.below(4) } else { 0 };
+        locations.extend([constant(0), constant(0), constant(deopt as i32)]);
+        for _ in 0..deopt {
+            let value = self.value();
+            locations.push(value);
+        }
+        let object = self.slot();
+        for pair in 0..self.numbers.below(7) {
+            let derived = if pair == 0 { object } else { self.slot() };
+            let base = if self.numbers.below(2) == 0 { object } else { derived };
+            locations.extend([base, derived]);
+        }
+    }
+
+    fn slot(&mut self) -> Location {
+        (3, 8, RSP, 8 * self.numbers.below(64) as i32)
+    }
+
+    fn value(&mut self) -> Location {
+        match self.numbers.below(5) {
+            0 => (1, 8, self.numbers.below(16) as u16, 0),
+            1 => (2, 8, RBP, -8 * self.numbers.below(64) as i32),
+            2 => self.slot(),
+            3 => constant(self.numbers.below(1000) as i32 - 500),
+            _ => (5, 8, 0, self.numbers.below(self.constants.len() as u64 / 8) as i32),
+        }
+    }
+
+    fn write_record(&mut self, number: u32, locations: &[Location], live_outs: u16) {
+        let id = self.numbers.next();
+        let out = &mut self.records;
+        out.extend(id.to_le_bytes());
+        out.extend((16 + 24 * number).to_le_bytes());
+        out.extend([0, 0]);
+        out.extend((locations.len() as u16).to_le_bytes());
+        for &(kind, size, register, offset) in locations {
+            out.extend([kind, 0]);
+            out.extend(size.to_le_bytes());
+            out.extend(register.to_le_bytes());
+            out.extend([0, 0]);
+            out.extend(offset.to_le_bytes());
+        }
+        out.resize(out.len() + 4 * (locations.len() % 2), 0);
+        out.extend([0, 0]);
+        out.extend(live_outs.to_le_bytes());
+        for register in 0..live_outs {
+            out.extend(register.to_le_bytes());
+            out.extend([0, 8]);
+        }
+        out.resize(out.len() + 4 * (1 - usize::from(live_outs) % 2), 0);
+    }
+
+    /// The whole section.
+    fn bytes(self) -> Vec<u8> {
+        let counts = [self.functions.len() as u32 / 24, self.constants.len() as u32 / 8, self.record_count];
+        let header = [3, 0, 0, 0].into_iter().chain(counts.into_iter().flat_map(u32::to_le_bytes));
+        header.chain(self.functions).chain(self.constants).chain(self.records).collect()
+    }
+}
+
+/// Kind, size, register, offset.
+type Location = (u8, u16, u16, i32);
+
+fn constant(value: i32) -> Location {
+    (4, 8, 0, value)
+}
+
+/// A sequence of numbers that look random and are the same in every run (SplitMix64).
+#[derive(Default)]
+struct Numbers(u64);
+
+impl Numbers {
+    fn next(&mut self) -> u64 {
+        self.0 = self.0.wrapping_add(0x9e37_79b9_7f4a_7c15);
+        let mixed = (self.0 ^ self.0 >> 30).wrapping_mul(0xbf58_476d_1ce4_e5b9);
+        let mixed = (mixed ^ mixed >> 27).wrapping_mul(0x94d0_49bb_1331_11eb);
+        mixed ^ mixed >> 31
+    }
+
+    /// A number from 0 up to, not including, the limit.
+    fn below(&mut self, limit: u64) -> u64 {
+        self.next() % limit
+    }
+}

@@ -1,0 +1,91 @@
+/* Calls the library from C on the worked rows A to H, whose bytes are written out by hand. */
+#include "treskibben.h"
+
+#include <inttypes.h>
+#include <stdio.h>
+#include <stdlib.h>
+#include <string.h>
+
+static const uint8_t row_b[15] = {3};
+static const uint8_t row_c[16] = {3};
+static const uint8_t row_d[16] = {1};
+static const uint8_t row_e[17] = {3};
+static const uint8_t row_f[16] = {3, 0, 0, 0, 0, 0, 0, 0, 0, 0, 0, 0, 1, 0, 0, 0};
+static const uint8_t row_g[16] = {3, 0, 0, 0, 1, 0, 0, 0, 0, 0, 0, 0, 0, 0, 0, 0};
+
+static const uint8_t row_h[152] = {
+    /* header: version 3, one function, no constants, one record */
+    3, 0, 0, 0, 1, 0, 0, 0, 0, 0, 0, 0, 1, 0, 0, 0,
+    /* function: address 0x1000, stack size 24, one record */
+    0, 0x10, 0, 0, 0, 0, 0, 0, 24, 0, 0, 0, 0, 0, 0, 0, 1, 0, 0, 0, 0, 0, 0, 0,
+    /* record: ID 7, offset 0x20, flags, seven locations */
+    7, 0, 0, 0, 0, 0, 0, 0, 0x20, 0, 0, 0, 0, 0, 7, 0,
+    /* three constants of 0 */
+    4, 0, 8, 0, 0, 0, 0, 0, 0, 0, 0, 0,
+    4, 0, 8, 0, 0, 0, 0, 0, 0, 0, 0, 0,
+    4, 0, 8, 0, 0, 0, 0, 0, 0, 0, 0, 0,
+    /* RSP+8 and RSP+8, RSP+8 and RSP+16 */
+    3, 0, 8, 0, 7, 0, 0, 0, 8, 0, 0, 0,
+    3, 0, 8, 0, 7, 0, 0, 0, 8, 0, 0, 0,
+    3, 0, 8, 0, 7, 0, 0, 0, 8, 0, 0, 0,
+    3, 0, 8, 0, 7, 0, 0, 0, 16, 0, 0, 0,
+    /* padding, zeros, no live-outs, padding */
+    0, 0, 0, 0, 0, 0, 0, 0, 0, 0, 0, 0,
+};
+
+struct row {
+    char name;
+    const uint8_t *bytes;
+    size_t length;
+    uint64_t number;
+    uint64_t place;
+};
+
+static const struct row rows[] = {
+    {'A', row_b, 0, 1, 0},
+    {'B', row_b, sizeof row_b, 1, 0},
+    {'C', row_c, sizeof row_c, 0, 0},
+    {'D', row_d, sizeof row_d, 2, 0},
+    {'E', row_e, sizeof row_e, 9, 16},
+    {'F', row_f, sizeof row_f, 5, 12},
+    {'G', row_g, sizeof row_g, 4, 16},
+    {'H', row_h, sizeof row_h, 0, 0},
+};
+
+/* Checks a copy of the row's bytes, which has no byte to spare and must stay as it is. */
+static int passes(const struct row *row)
+{
+    uint8_t *copy = malloc(row->length + (row->length == 0));
+    treskibben_answer answer;
+    int same;
+
+    if (copy == NULL) {
+        fprintf(stderr, "row %c: no memory\n", row->name);
+        return 0;
+    }
+    memcpy(copy, row->bytes, row->length);
+    answer = treskibben_check(copy, row->length);
+    same = memcmp(copy, row->bytes, row->length) == 0;
+    free(copy);
+    if (same && answer.number == row->number && answer.place == row->place && answer.value == 0) {
+        return 1;
+    }
+    fprintf(stderr, "row %c: number %" PRIu64 ", place %" PRIu64 ", value %" PRIu64 ", bytes %s; ",
+            row->name, answer.number, answer.place, answer.value, same ? "unchanged" : "changed");
+    fprintf(stderr, "expected number %" PRIu64 ", place %" PRIu64 ", value 0, bytes unchanged\n",
+            row->number, row->place);
+    return 0;
+}
+
+int main(void)
+{
+    size_t count = sizeof rows / sizeof rows[0];
+    size_t passed = 0;
+    size_t i;
+
+    for (i = 0; i < count; i++) {
+        passed += (size_t)passes(&rows[i]);
+    }
+    printf("%zu passed, %zu failed\n", passed, count - passed);
+    return passed == count ? EXIT_SUCCESS : EXIT_FAILURE;
+}

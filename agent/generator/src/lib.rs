@@ -1,0 +1,106 @@
+//! Random stack map sections for tests and benchmarks: whole ones, and damaged ones.
+//!
+//! Everything is made from a seed, so that a run can be had again. The encoder is this package's
+//! own: where it says what a section must be answered, that is one more opinion beside those of
+//! the library and of the second implementation.
+
+pub mod aimed;
+pub mod damage;
+pub mod edges;
+pub mod layout;
+pub mod rng;
+pub mod valid;
+
+pub use layout::Section;
+pub use rng::Rng;
+
+/// The bytes of a section, whole or not.
+#[derive(Clone, Debug)]
+pub struct Case {
+    /// How it was made.
+    pub name: &'static str,
+    pub bytes: Vec<u8>,
+    /// The answer, where it is known beforehand: number and place, both 0 for a whole section.
+    pub answer: Option<(u64, u64)>,
+}
+
+impl Case {
+    /// A case with a known answer.
+    pub fn known(name: &'static str, bytes: Vec<u8>, number: u64, place: usize) -> Case {
+        Case { name, bytes, answer: Some((number, place as u64)) }
+    }
+
+    /// A case whose answer nobody has worked out.
+    pub fn open(name: &'static str, bytes: Vec<u8>) -> Case {
+        Case { name, bytes, answer: None }
+    }
+}
+
+/// A random case: whole, aimed at one refusal or at several, damaged at random, or noise.
+pub fn case(rng: &mut Rng) -> Case {
+    let section = match rng.below(4_096) {
+        0 => medium(rng),
+        _ => valid::section(rng),
+    };
+    match rng.below(16) {
+        0 | 1 => Case::known("whole", section.encode(), 0, 0),
+        2..=8 => aimed(rng, &section),
+        9 | 10 => aimed_twice(rng, &section),
+        11 => Case::open("noise", noise(rng)),
+        _ => damaged(rng, &section),
+    }
+}
+
+/// A whole section of up to 64 kB.
+fn medium(rng: &mut Rng) -> Section {
+    let length = layout::HEADER + 8 * rng.below(8_192);
+    valid::of_length(rng, length)
+}
+
+/// A case with one fault.
+fn aimed(rng: &mut Rng, section: &Section) -> Case {
+    let mut built = section.build();
+    let number = 1 + rng.below(9) as u64;
+    match aimed::aim(rng, number, section, &mut built) {
+        Some(place) => Case::known("one fault", built.bytes, number, place),
+        None => Case::known("whole", built.bytes, 0, 0),
+    }
+}
+
+/// A case with two or three faults: which is given depends on their order.
+fn aimed_twice(rng: &mut Rng, section: &Section) -> Case {
+    let mut built = section.build();
+    for _ in 0..2 + rng.below(2) {
+        let number = 2 + rng.below(8) as u64;
+        aimed::aim(rng, number, section, &mut built);
+    }
+    Case::open("several faults", built.bytes)
+}
+
+/// A case with one to three damages.
+fn damaged(rng: &mut Rng, section: &Section) -> Case {
+    let mut built = section.build();
+    let other = valid::section(rng).encode();
+    for _ in 0..=rng.below(3) {
+        damage::damage(rng, &mut built, &other);
+    }
+    Case::open("damaged", built.bytes)
+}
+
+/// Bytes that are no section, after a header with small counts that is mostly right.
+fn noise(rng: &mut Rng) -> Vec<u8> {
+    let mut bytes = vec![3, 0, 0, 0];
+    for _ in 0..3 {
+        let count = rng.pick(&[0u32, 0, 1, 1, 2, u32::MAX]);
+        bytes.extend_from_slice(&count.to_le_bytes());
+    }
+    let zeros = 1 + rng.below(8);
+    for _ in 0..rng.below(160) {
+        let byte = if rng.below(8) < zeros { 0 } else { rng.byte() };
+        bytes.push(byte);
+    }
+    if rng.one_in(8) {
+        bytes[0] = rng.byte();
+    }
+    bytes
+}

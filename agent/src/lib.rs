@@ -1,0 +1,56 @@
+//! LLVM stack map sections, version 3: a safe interface to a library whose every function is proved.
+//!
+//! [`check`] says whether a section keeps the layout, and of one that doesn't, which rule it breaks
+//! and at which byte. Every slice of bytes gets an answer; none makes a function panic, read beyond
+//! its slice or run without end.
+//!
+//! ```
+//! // A section of no functions, no constants and no records: version 3 and fifteen zeros.
+//! let mut section = vec![3];
+//! section.resize(16, 0);
+//! assert_eq!(treskibben::check(&section), Ok(()));
+//!
+//! // One byte more is one too many, and the refusal says where it is.
+//! section.push(0);
+//! let refusal = treskibben::check(&section).unwrap_err();
+//! assert_eq!((refusal.number(), refusal.place()), (9, 16));
+//! assert_eq!(refusal.to_string(), "refused 9 at 16: bytes after the last record");
+//! ```
+
+#![deny(missing_docs, unsafe_code)]
+
+#[allow(unsafe_code)]
+mod ffi;
+mod refusal;
+
+pub use refusal::Refusal;
+
+/// Checks that `section` is a whole version 3 stack map section and nothing else.
+///
+/// # Errors
+///
+/// The first of these faults, in the order of the check: the length and the header, the functions
+/// and constants, then record after record, and last the end.
+///
+/// | Number | Cause | Place |
+/// |---|---|---|
+/// | 1 | section under 16 or over 16,777,216 bytes | 0 |
+/// | 2 | version not 3 | 0 |
+/// | 3 | a byte required to be zero isn't | that byte |
+/// | 4 | a function, constant or record isn't wholly inside | its first byte |
+/// | 5 | record counts, added exactly, differ from NumRecords | 12 |
+/// | 6 | location kind not 1 to 5 | that byte |
+/// | 7 | ConstIndex offset negative or not below NumConstants | the location's first byte |
+/// | 8 | record address over 2^64 - 1 | the record's first byte |
+/// | 9 | bytes after the last record | the first such byte |
+///
+/// # Examples
+///
+/// ```
+/// // 15 bytes are fewer than a header has.
+/// let refusal = treskibben::check(&[3; 15]).unwrap_err();
+/// assert_eq!((refusal.number(), refusal.place()), (1, 0));
+/// ```
+pub fn check(section: &[u8]) -> Result<(), Refusal> {
+    ffi::check(section).outcome().map(|_| ())
+}

@@ -1,0 +1,108 @@
+//! What a refused call says.
+
+use std::error::Error;
+use std::fmt;
+
+/// Why an input was refused, and where.
+///
+/// The number names the cause. What the place counts depends on the cause: mostly it is a byte of
+/// the section or of the listing, counted from 0, and it is 0 where no byte is to blame.
+#[derive(Clone, Copy, Debug, PartialEq, Eq, Hash)]
+pub struct Refusal {
+    number: u64,
+    place: u64,
+}
+
+/// The cause of each refusal; the first is number 1.
+const CAUSES: [&str; 24] = [
+    "section under 16 or over 16,777,216 bytes, or listing over 33,554,432 bytes",
+    "version not 3",
+    "a byte required to be zero isn't",
+    "a function, constant or record isn't wholly inside",
+    "record counts, added exactly, differ from NumRecords",
+    "location kind not 1 to 5",
+    "ConstIndex offset negative or not below NumConstants",
+    "record address over 2^64 - 1",
+    "bytes after the last record",
+    "no record of that number or address",
+    "no location or live-out of that number",
+    "not a statepoint",
+    "image over 1,048,576 bytes, or first address + length over 2^64 - 1",
+    "lists unequal, over 65,536 entries, old starts not strictly rising, or a 0 in either",
+    "more than one record at the address",
+    "stack size unknown, or extent not inside the image",
+    "over 256 pairs",
+    "pair of wrong form",
+    "a slot not wholly inside the extent",
+    "collision",
+    "base neither 0 nor an old start",
+    "listing breaks its grammar",
+    "over 65,535 locations or live-outs in a record",
+    "output shorter than the whole result",
+];
+
+impl Refusal {
+    /// The refusal of this number, which is not 0, at this place.
+    pub(crate) fn new(number: u64, place: u64) -> Refusal {
+        Refusal { number, place }
+    }
+
+    /// The number of the cause, from 1.
+    pub fn number(&self) -> u64 {
+        self.number
+    }
+
+    /// Where the fault is: for the check of a section, the byte that [`check`](crate::check) names.
+    pub fn place(&self) -> u64 {
+        self.place
+    }
+
+    /// The cause in words.
+    pub fn cause(&self) -> &'static str {
+        let index = self.number.checked_sub(1).and_then(|i| usize::try_from(i).ok());
+        match index.and_then(|i| CAUSES.get(i)) {
+            Some(cause) => cause,
+            None => "a cause that this version has no words for",
+        }
+    }
+}
+
+impl fmt::Display for Refusal {
+    fn fmt(&self, f: &mut fmt::Formatter<'_>) -> fmt::Result {
+        write!(f, "refused {} at {}: {}", self.number, self.place, self.cause())
+    }
+}
+
+impl Error for Refusal {}
+
+#[cfg(test)]
+mod tests {
+    use super::*;
+
+    #[test]
+    fn each_number_has_words_of_its_own() {
+        for (i, cause) in CAUSES.iter().enumerate() {
+            assert_eq!(Refusal::new(i as u64 + 1, 0).cause(), *cause);
+            assert!(!cause.is_empty());
+            assert!(!CAUSES[..i].contains(cause), "{cause}");
+        }
+    }
+
+    #[test]
+    fn words_stand_beside_their_own_number() {
+        let words = [(10, "no record"), (13, "image"), (17, "256 pairs"), (20, "collision"), (24, "output")];
+        for (number, start) in words {
+            let refusal = Refusal::new(number, 3);
+            assert!(refusal.cause().contains(start), "{refusal}");
+            assert!(refusal.to_string().starts_with(&format!("refused {number} at 3: ")));
+        }
+    }
+
+    #[test]
+    fn numbers_beyond_the_table_still_print() {
+        for number in [0, 25, u64::MAX] {
+            let text = Refusal::new(number, 4).to_string();
+            assert!(text.starts_with(&format!("refused {number} at 4: a cause")), "{text}");
+        }
+    }
+}

@@ -1,0 +1,140 @@
+//! Sections that LLVM itself wrote. `llvm/build` compiles small programs for two targets at two levels, and for each
+//! section the proved check, the second implementation and llvm-readobj must agree.
+
+#[path = "llvm/compare.rs"]
+mod compare;
+#[path = "llvm/coverage.rs"]
+mod coverage;
+#[path = "llvm/readobj.rs"]
+mod readobj;
+#[path = "llvm/sections.rs"]
+mod sections;
+
+use compare::compare;
+use reference::section::{self, Section};
+use sections::{Built, LEVELS, TARGETS};
+
+/// The section as the second implementation reads it; it must accept it.
+fn read(name: &str, bytes: &[u8]) -> Section {
+    section::read(bytes).unwrap_or_else(|refusal| panic!("{name}: refused {} at {}", refusal.number, refusal.place))
+}
+
+/// Number and place of both implementations' verdict, which must be the same; none where they accept.
+fn verdict(name: &str, bytes: &[u8]) -> Option<(u64, u64)> {
+    let proved = treskibben::check(bytes).err().map(|refusal| (refusal.number(), refusal.place()));
+    let second = section::check(bytes).err().map(|refusal| (refusal.number, refusal.place));
+    assert_eq!(proved, second, "{name}: the proved verdict and the second one");
+    proved
+}
+
+fn compared(name: &str, bytes: &[u8], printed: &str) {
+    let printed = readobj::parse(printed).unwrap_or_else(|fault| panic!("{name}.readobj: {fault}"));
+    compare(&read(name, bytes), &printed).unwrap_or_else(|fault| panic!("{name}: {fault}"));
+}
+
+#[test]
+fn every_section_is_accepted_and_read_as_llvm_prints_it() {
+    for Built { name, bytes, printed, .. } in sections::single() {
+        assert_eq!(verdict(name, bytes), None, "{name}");
+        compared(name, bytes, printed);
+    }
+}
+
+/// Without this the tests could become empty unseen.
+#[test]
+fn the_sections_show_every_shape() {
+    for target in TARGETS {
+        let of_target = sections::single().filter(|built| built.target == *target);
+        coverage::assert_every_shape(target, of_target.map(|built| read(&built.name, &built.bytes)));
+    }
+}
+
+#[test]
+fn two_linked_maps_are_refused_at_the_second_header() {
+    for target in TARGETS {
+        for level in LEVELS {
+            let two = sections::named("two", target, level);
+            let first = sections::named("constants", target, level).bytes.len();
+            let second = sections::named("statepoint", target, level);
+            assert_eq!(verdict(&two.name, &two.bytes), Some((9, first as u64)), "{}", two.name);
+
+            let (before, after) = two.bytes.split_at(first);
+            assert_eq!(verdict(&two.name, before), None, "{}: the first map", two.name);
+            assert_eq!(verdict(&two.name, after), None, "{}: the second map", two.name);
+            compared(&two.name, before, &two.printed);
+            same_but_for_addresses(&two.name, after, &second.bytes);
+        }
+    }
+}
+
+/// The second map is the one of its object alone, but that the linker moved the functions.
+fn same_but_for_addresses(name: &str, linked: &[u8], alone: &[u8]) {
+    let functions = read(name, alone).functions.len();
+    assert_eq!(read(name, linked).functions.len(), functions, "{name}");
+    let mut expected = alone.to_vec();
+    for number in 0..functions {
+        let address = 16 + 24 * number..16 + 24 * number + 8;
+        assert_ne!(linked[address.clone()], alone[address.clone()], "{name}: function {number} did not move");
+        expected[address.clone()].copy_from_slice(&linked[address]);
+    }
+    assert_eq!(linked, expected, "{name}: the second map");
+}
+
+/// Any one byte damaged: both implementations give one verdict, and where they accept, the comparison with
+/// the printed text fails. So every byte is either checked or compared, and the comparison can fail.
+#[test]
+fn every_damaged_byte_is_noticed() {
+    for Built { name, bytes, printed, .. } in sections::single() {
+        compared(name, bytes, printed);
+        let printed = readobj::parse(printed).unwrap();
+        let mut differing = 0;
+        for place in 0..bytes.len() {
+            for flip in [0x01, 0x80, 0xff] {
+                let mut damaged = bytes.clone();
+                damaged[place] ^= flip;
+                if verdict(name, &damaged).is_none() {
+                    let difference = compare(&read(name, &damaged), &printed);
+                    assert!(difference.is_err(), "{name}: byte {place} with {flip:#x} passes unseen");
+                    differing += 1;
+                }
+            }
+        }
+        assert!(differing > 0, "{name}: the comparison was never asked");
+    }
+}
+
+/// A field of the printed text changed: the comparison names it. A line it does not know: the parser says so.
+#[test]
+fn a_changed_text_is_noticed() {
+    let built = sections::named("statepoint", "x86_64", "O2");
+    compared(&built.name, &built.bytes, &built.printed);
+    let section = read(&built.name, &built.bytes);
+    for (from, to) in [
+        ("Function address: 9", "Function address: 8"),
+        ("stack size: 24", "stack size: 25"),
+        ("  #1: 81985529216486895", "  #1: 81985529216486894"),
+        ("Record ID: 3", "Record ID: 4"),
+        ("instruction offset: 6", "instruction offset: 7"),
+        ("Indirect [R#7 + 8]", "Direct R#7 + 8"),
+        ("Indirect [R#7 + 8]", "Indirect [R#6 + 8]"),
+        ("Indirect [R#7 + 8]", "Indirect [R#7 + -8]"),
+        ("Constant 4294967289, size: 8", "Constant 4294967288, size: 8"),
+        ("Constant 0, size: 8", "Constant 0, size: 4"),
+    ] {
+        assert!(built.printed.contains(from), "{from:?} is not printed");
+        let printed = readobj::parse(&built.printed.replacen(from, to, 1)).unwrap();
+        assert!(compare(&section, &printed).is_err(), "{to:?} for {from:?} passes unseen");
+    }
+    for (from, to) in [
+        ("Version: 3", "Version: 4"),
+        ("Num Constants: 1", "Num Constants: 0"),
+        ("Num Records: 7", "Num Records: 6"),
+        ("Constant 0", "Novelty 0"),
+        ("3 locations:\n", "3 locations:\n      A new line\n"),
+        ("0 live-outs: [ ]", "0 live-outs: [ R#0 (8-bytes) ]"),
+        ("R#7", "R#65536"),
+    ] {
+        assert!(built.printed.contains(from), "{from:?} is not printed");
+        assert!(readobj::parse(&built.printed.replacen(from, to, 1)).is_err(), "{to:?} is read");
+    }
+}

@@ -1,0 +1,81 @@
+//! The type of a refusal: its numbers, its words, and its use as an error.
+
+use std::collections::HashSet;
+use std::error::Error;
+use treskibben::{check, Refusal};
+
+/// A section of 16 bytes with these counts, `rest` after it.
+fn section(counts: [u8; 3], rest: &[u8]) -> Vec<u8> {
+    let mut bytes = vec![3, 0, 0, 0];
+    for count in counts {
+        bytes.extend_from_slice(&[count, 0, 0, 0]);
+    }
+    bytes.extend_from_slice(rest);
+    bytes
+}
+
+/// A section with one function at `address`, one record at offset 1 and in it one location.
+fn with_location(address: [u8; 8], location: [u8; 12]) -> Vec<u8> {
+    let mut rest = address.to_vec();
+    rest.extend_from_slice(&[24, 0, 0, 0, 0, 0, 0, 0, 1, 0, 0, 0, 0, 0, 0, 0]);
+    rest.extend_from_slice(&[7, 0, 0, 0, 0, 0, 0, 0, 1, 0, 0, 0, 0, 0, 1, 0]);
+    rest.extend_from_slice(&location);
+    rest.extend_from_slice(&[0; 12]);
+    section([1, 0, 1], &rest)
+}
+
+/// One section for each refusal, with the text that the refusal prints.
+fn refused() -> Vec<(Vec<u8>, &'static str)> {
+    let (low, high) = ([0; 8], [255; 8]);
+    let whole = [1, 0, 8, 0, 3, 0, 0, 0, 0, 0, 0, 0];
+    let not_zero = [1, 0, 8, 0, 3, 0, 0, 9, 0, 0, 0, 0];
+    let kind = [6, 0, 8, 0, 3, 0, 0, 0, 0, 0, 0, 0];
+    let index = [5, 0, 8, 0, 3, 0, 0, 0, 0, 0, 0, 0];
+    assert_eq!(check(&with_location(low, whole)), Ok(()));
+    vec![
+        (vec![], "refused 1 at 0: section under 16 or over 16,777,216 bytes, or listing over 33,554,432 bytes"),
+        (vec![0; 16], "refused 2 at 0: version not 3"),
+        (with_location(low, not_zero), "refused 3 at 63: a byte required to be zero isn't"),
+        (section([1, 0, 0], &[]), "refused 4 at 16: a function, constant or record isn't wholly inside"),
+        (section([0, 0, 1], &[]), "refused 5 at 12: record counts, added exactly, differ from NumRecords"),
+        (with_location(low, kind), "refused 6 at 56: location kind not 1 to 5"),
+        (with_location(low, index), "refused 7 at 56: ConstIndex offset negative or not below NumConstants"),
+        (with_location(high, whole), "refused 8 at 40: record address over 2^64 - 1"),
+        (section([0, 0, 0], &[0]), "refused 9 at 16: bytes after the last record"),
+    ]
+}
+
+#[test]
+fn each_refusal_prints_number_place_and_cause() {
+    for (nth, (bytes, text)) in refused().into_iter().enumerate() {
+        let refusal = check(&bytes).unwrap_err();
+        assert_eq!(refusal.to_string(), text);
+        assert_eq!(refusal.number(), nth as u64 + 1);
+        let parts = format!("refused {} at {}: {}", refusal.number(), refusal.place(), refusal.cause());
+        assert_eq!(parts, text);
+    }
+}
+
+#[test]
+fn a_refusal_is_an_error() {
+    fn load(bytes: &[u8]) -> Result<(), Box<dyn Error + Send + Sync>> {
+        check(bytes)?;
+        Ok(())
+    }
+    let error = load(&[]).unwrap_err();
+    assert!(error.to_string().starts_with("refused 1 at 0: "));
+    assert!(error.source().is_none());
+    assert!(error.downcast_ref::<Refusal>().is_some());
+    assert!(load(&section([0, 0, 0], &[])).is_ok());
+}
+
+#[test]
+fn refusals_are_equal_where_number_and_place_are() {
+    let all: Vec<Refusal> = refused().iter().map(|(bytes, _)| check(bytes).unwrap_err()).collect();
+    let set: HashSet<Refusal> = all.iter().copied().collect();
+    assert_eq!(set.len(), all.len());
+    let again = check(&[]).unwrap_err();
+    assert_eq!(again, all[0]);
+    assert_ne!(again, all[1]);
+    assert_eq!(format!("{again:?}"), "Refusal { number: 1, place: 0 }");
+}

@@ -1,0 +1,96 @@
+//! The worked rows A to H, written out by hand, and the samples that the repository ships.
+
+use generator::layout::{Function, Location, Record, Section};
+use std::fs;
+use std::path::Path;
+
+/// Row C: `03` and fifteen zeros.
+const C: [u8; 16] = [3, 0, 0, 0, 0, 0, 0, 0, 0, 0, 0, 0, 0, 0, 0, 0];
+
+/// Row H: a function with one statepoint of two pairs.
+#[rustfmt::skip]
+const H: [u8; 152] = [
+    // header: version 3, one function, no constants, one record
+    3, 0, 0, 0, 1, 0, 0, 0, 0, 0, 0, 0, 1, 0, 0, 0,
+    // function: address 0x1000, stack size 24, one record
+    0, 0x10, 0, 0, 0, 0, 0, 0, 24, 0, 0, 0, 0, 0, 0, 0, 1, 0, 0, 0, 0, 0, 0, 0,
+    // record: ID 7, offset 0x20, flags, seven locations
+    7, 0, 0, 0, 0, 0, 0, 0, 0x20, 0, 0, 0, 0, 0, 7, 0,
+    // three constants of 0
+    4, 0, 8, 0, 0, 0, 0, 0, 0, 0, 0, 0,
+    4, 0, 8, 0, 0, 0, 0, 0, 0, 0, 0, 0,
+    4, 0, 8, 0, 0, 0, 0, 0, 0, 0, 0, 0,
+    // RSP+8 and RSP+8, RSP+8 and RSP+16
+    3, 0, 8, 0, 7, 0, 0, 0, 8, 0, 0, 0,
+    3, 0, 8, 0, 7, 0, 0, 0, 8, 0, 0, 0,
+    3, 0, 8, 0, 7, 0, 0, 0, 8, 0, 0, 0,
+    3, 0, 8, 0, 7, 0, 0, 0, 16, 0, 0, 0,
+    // padding, zeros, no live-outs, padding
+    0, 0, 0, 0, 0, 0, 0, 0, 0, 0, 0, 0,
+];
+
+/// Row C with one byte changed.
+fn c_with(place: usize, byte: u8) -> Vec<u8> {
+    let mut bytes = C.to_vec();
+    bytes[place] = byte;
+    bytes
+}
+
+/// Row C and one zero byte.
+fn c_and_zero() -> Vec<u8> {
+    let mut bytes = C.to_vec();
+    bytes.push(0);
+    bytes
+}
+
+/// Number and place of the answer; both 0 where the section is accepted.
+fn answer(section: &[u8]) -> (u64, u64) {
+    match treskibben::check(section) {
+        Ok(()) => (0, 0),
+        Err(refusal) => (refusal.number(), refusal.place()),
+    }
+}
+
+#[test]
+fn rows_a_to_h() {
+    assert_eq!(answer(&[]), (1, 0), "A");
+    assert_eq!(answer(&C[..15]), (1, 0), "B");
+    assert_eq!(answer(&C), (0, 0), "C");
+    assert_eq!(answer(&c_with(0, 1)), (2, 0), "D");
+    assert_eq!(answer(&c_and_zero()), (9, 16), "E");
+    assert_eq!(answer(&c_with(12, 1)), (5, 12), "F");
+    assert_eq!(answer(&c_with(4, 1)), (4, 16), "G");
+    assert_eq!(answer(&H), (0, 0), "H");
+}
+
+#[test]
+fn samples_are_the_rows() {
+    let samples = Path::new(env!("CARGO_MANIFEST_DIR")).join("../samples");
+    let rows = [
+        ("c-empty", C.to_vec()),
+        ("d-version-1", c_with(0, 1)),
+        ("e-byte-after", c_and_zero()),
+        ("f-record-missing", c_with(12, 1)),
+        ("g-function-missing", c_with(4, 1)),
+        ("h-statepoint", H.to_vec()),
+    ];
+    for (name, bytes) in rows {
+        let sample = fs::read(samples.join(name).with_extension("section")).expect(name);
+        assert_eq!(sample, bytes, "{name}");
+    }
+}
+
+#[test]
+fn the_generator_writes_row_h() {
+    let constant = Location { kind: 4, size: 8, register: 0, offset: 0 };
+    let slot = |offset| Location { kind: 3, size: 8, register: 7, offset };
+    let mut locations = vec![constant; 3];
+    locations.extend([8, 8, 8, 16].map(slot));
+    let section = Section {
+        functions: vec![Function { address: 0x1000, stack_size: 24, record_count: 1 }],
+        constants: vec![],
+        records: vec![Record { id: 7, offset: 0x20, locations, live_outs: vec![] }],
+    };
+    assert_eq!(section.encode(), H);
+    assert_eq!(section.length(), H.len());
+}

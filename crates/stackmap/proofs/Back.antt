@@ -1,0 +1,282 @@
+-- The bytes of a section are read back as the section, and their refusal is the section's.
+use Prim.Native.Nat.{ℕ, zero, suc, _+_, _*_, _-_, _%_, _^_, _≤_, _<_}
+use mathlib.Core.Path.{_≡_, refl, sym, _∙_, ap}
+use mathlib.Core.List.{List, [], _∷_, _++_, append-nil}
+use mathlib.Core.Bool.{Bool, true, false}
+use native.Mathlib.Omega.{arith}
+use native.Mathlib.Nat.{add-zero, add-assoc}
+use borrow.Author.Tests.{le-leb, eq-eqb, eqb-true}
+use lib.ListN.{length, getD, drop, length-append, length-drop, length-replicate}
+use lib.Dec.{leb, eqb}
+use Rattle.wire.specs.Word.{word}
+use Rattle.wire.proofs.Laws.{word-drop}
+use Rattle.stackmap.specs.declared.Verdict.{Verdict}
+use Rattle.stackmap.specs.declared.Verdict.the-variants.{Valid, Refused}
+use Rattle.stackmap.specs.Verdict.{must, chain, bind, shift}
+use Rattle.stackmap.specs.Fields.{Field, _of_, size, all, many}
+use Rattle.stackmap.specs.Section.{Function, Record, Section, functionFields, constantFields, locationFields, liveOutFields, recordFields, sectionFields, encodeSection, Encodable, readFunction, readConstant, readLocation, readLiveOut, recordLength, readRecord, readRecords, readFunctions, readSection, Owner, owners, counted, Entry, address, entriesFrom, entriesOf}
+use Rattle.stackmap.specs.Record.{recordInside, recordBytes, recordCheck}
+use Rattle.stackmap.specs.Check.{headerCheck, tablesCheck, recordsCheck, sectionCheck}
+use Rattle.stackmap.specs.Fault.{entryFault, entriesFault, sectionFault}
+use Rattle.stackmap.proofs.Verdicts.{must-rest, chain-rest}
+use Rattle.stackmap.proofs.Fields.{Has, HasFrom, split, many-back, fields-back, length-bytesOf, size-append, size-all}
+use Rattle.stackmap.proofs.Items.{function-size, constant-size, location-size, live-out-size, function-back, constant-back, location-back, live-out-back, byte-word, zeros-back, locations-fault, live-outs-valid}
+
+-- a record
+
+module _ (r : Record) where
+  abbrev n : ℕ
+  n = length (r .locations)
+
+  abbrev m : ℕ
+  m = length (r .liveOuts)
+
+  abbrev locationsStop : ℕ
+  locationsStop = 16 + 12 * n + n % 2 * 4
+
+  abbrev A : List Field
+  A = (8 of r .id) ∷ (4 of r .offset) ∷ (2 of 0) ∷ (2 of n) ∷ []
+
+  abbrev B : List Field
+  B = all locationFields (r .locations)
+
+  abbrev C : List Field
+  C = ((n % 2 * 4 + 2) of 0) ∷ (2 of m) ∷ []
+
+  abbrev D : List Field
+  D = all liveOutFields (r .liveOuts)
+
+  abbrev E : List Field
+  E = (((m + 1) % 2 * 4) of 0) ∷ []
+
+  sizes : (size (all locationFields (r .locations)) ≡ 12 * n) × (size (all liveOutFields (r .liveOuts)) ≡ 4 * m)
+  sizes = (size-all locationFields 12 location-size (r .locations), size-all liveOutFields 4 live-out-size (r .liveOuts))
+
+  pub record-size : size (recordFields r) ≡ locationsStop + 4 + 4 * m + (m + 1) % 2 * 4
+  unfolding recordFields size
+  record-size = simp size-append (omega (arith, sizes))
+
+  -- the numbers of a record that stands at the start of s
+  record Parts (s : List ℕ) : Type 0 where
+    id : word 8 s 0 ≡ r .id
+    offset : word 4 s 8 ≡ r .offset
+    flags : word 2 s 12 ≡ 0
+    locations-num : word 2 s 14 ≡ n
+    locations-in : Has s 16 (all locationFields (r .locations))
+    padding : word (n % 2 * 4 + 2) s (16 + 12 * n) ≡ 0
+    live-outs-num : word 2 s (locationsStop + 2) ≡ m
+    live-outs-in : Has s (locationsStop + 4) (all liveOutFields (r .liveOuts))
+    last : word ((m + 1) % 2 * 4) s (locationsStop + 4 + 4 * m) ≡ 0
+
+  parts : (s : List ℕ) → Has s 0 (recordFields r) → Parts s
+  unfolding recordFields size
+  parts s h =
+      let k₁ = split s 0 (locationsStop + 4 + 4 * m) (A ++ B ++ C ++ D) E (simp size-append (omega (arith, sizes))) h in
+      let k₂ = split s 0 (locationsStop + 4) (A ++ B ++ C) D (simp size-append (omega (arith, sizes))) (k₁ .0) in
+      let k₃ = split s 0 (16 + 12 * n) (A ++ B) C (simp size-append (omega (arith, sizes))) (k₂ .0) in
+      let k₄ = split s 0 16 A B refl (k₃ .0) in
+      let e₂ : 16 + 12 * n + (0 + (n % 2 * 4 + 2)) ≡ locationsStop + 2 = omega arith in
+      record {
+        id = k₄ .0 .0;
+        offset = k₄ .0 .1 .0;
+        flags = k₄ .0 .1 .1 .0;
+        locations-num = k₄ .0 .1 .1 .1 .0;
+        locations-in = k₄ .1;
+        padding = rw add-zero at (k₃ .1 .0);
+        live-outs-num = rw (e₂) at (k₃ .1 .1 .0);
+        live-outs-in = k₂ .1;
+        last = rw add-zero at (k₁ .1 .0)
+      }
+
+  record-back : (s : List ℕ) → Has s 0 (recordFields r) → readRecord s ≡ r
+  unfolding readRecord
+  record-back s h =
+      let p = parts s h in
+      rw (p .id, p .offset, p .locations-num, p .live-outs-num,
+        many-back locationFields readLocation 12 location-size s (location-back s) (r .locations) 16 (p .locations-in),
+        many-back liveOutFields readLiveOut 4 live-out-size s (live-out-back s) (r .liveOuts) _ (p .live-outs-in))
+
+  record-long : (s : List ℕ) → Has s 0 (recordFields r) → recordLength s ≡ size (recordFields r)
+  unfolding recordLength
+  record-long s h = let p = parts s h in rw (p .locations-num, p .live-outs-num, record-size)
+
+-- the check of its bytes, where they are inside
+record-fault : (e : Entry) (s : List ℕ) (c : ℕ) → Has s 0 (recordFields (e .body)) → size (recordFields (e .body)) ≤ length s
+    → recordCheck s c (e .owner .function .address) ≡ entryFault c e
+unfolding recordCheck recordInside recordBytes entryFault address must chain
+record-fault e s c h l =
+    let p = parts (e .body) s h in
+    let b = e .body in
+    rw (record-long b s h, le-leb _ _ l, p .offset, zeros-back 2 s 12 (p .flags), p .locations-num, p .live-outs-num,
+      locations-fault s c (b .locations) 16 (p .locations-in),
+      zeros-back _ s _ (p .padding),
+      live-outs-valid s (b .liveOuts) _ (p .live-outs-in),
+      zeros-back _ s _ (p .last))
+
+-- the walk
+
+-- numbers of a part that starts at p
+has-drop : (s : List ℕ) (p a o : ℕ) (fs : List Field) → HasFrom s (p + a) o fs → HasFrom (drop p s) a o fs
+has-drop s p a o [] h = tt
+has-drop s p a o (f ∷ fs) h = (rw (word-drop, ← add-assoc p a o) (h .0), has-drop s p a (o + f .width) fs (h .1))
+
+records-back : (s : List ℕ) (rs : List Record) (at : ℕ) → Has s at (all recordFields rs) → readRecords (length rs) s at ≡ rs
+unfolding readRecords all
+records-back s [] at h = refl
+records-back s (r ∷ rs) at h =
+    let k = split s at (at + size (recordFields r)) (recordFields r) (all recordFields rs) refl h in
+    let j : Has (drop at s) 0 (recordFields r) = has-drop s at 0 0 (recordFields r) (rw add-zero (k .0)) in
+    rw (record-back r (drop at s) j, record-long r (drop at s) j, records-back s rs _ (k .1))
+
+-- go on after a part that ends at n, if it is valid
+on : (at n : ℕ) (x : Verdict) (k : ℕ → Verdict) (y : Verdict) → ((e : ℕ) → x ≡ Valid e → e ≡ n) → k (at + n) ≡ y
+    → bind (shift at x) k ≡ chain (shift at x) y
+unfolding bind shift chain
+on at n (Valid e) k y h g = rw (h e refl) g
+on at n (Refused q p) k y h g = refl
+
+entry-valid : (c : ℕ) (e : Entry) (n : ℕ) → entryFault c e ≡ Valid n → n ≡ size (recordFields (e .body))
+unfolding entryFault
+entry-valid c e n h = let k = chain-rest _ _ _ (must-rest _ _ _ _ _ h) in cc
+
+-- the walk over the bytes gives what the entries' refusals give
+records-walk : (s : List ℕ) (c stop : ℕ) → stop ≤ length s → (os : List Owner) (i at : ℕ) (rs : List Record) → length os ≡ length rs
+    → Has s at (all recordFields rs) → at + size (all recordFields rs) ≡ stop
+    → recordsCheck os s c at ≡ entriesFault c (entriesFrom i at os rs) stop
+unfolding recordsCheck entriesFrom entriesFault all size
+records-walk s c stop inside [] i at [] l h e = ap Valid (omega arith)
+records-walk s c stop inside [] i at (r ∷ rs) l h e = absurd (omega arith)
+records-walk s c stop inside (o ∷ os) i at [] l h e = absurd (omega arith)
+records-walk s c stop inside (o ∷ os) i at (r ∷ rs) l h e =
+    let x : Entry = record { number = i; first = at; owner = o; body = r } in
+    let z = size-append (recordFields r) (all recordFields rs) in
+    let j = split s at (at + size (recordFields r)) (recordFields r) (all recordFields rs) refl h in
+    let d = has-drop s at 0 0 (recordFields r) (rw add-zero (j .0)) in
+    let f = record-fault x (drop at s) c d (rw length-drop (omega arith)) in
+    let t = records-walk s c stop inside os (suc i) (at + size (recordFields r)) rs (omega arith) (j .1) (omega arith) in
+    rw f (on at _ (entryFault c x) _ _ (entry-valid c x) t)
+
+pub length-owners : (i : ℕ) (fs : List Function) → length (owners i fs) ≡ counted fs
+unfolding owners counted
+length-owners i [] = refl
+length-owners i (f ∷ fs) = rw (length-append, length-replicate, length-owners (suc i) fs)
+
+entries-valid : (c : ℕ) (es : List Entry) (stop n : ℕ) → entriesFault c es stop ≡ Valid n → n ≡ stop
+unfolding entriesFault
+entries-valid c [] stop n h = cc
+entries-valid c (e ∷ es) stop n h = entries-valid c es stop n (chain-rest _ _ _ h)
+
+-- the test of the end, where the end is known
+at-end : (x : Verdict) (n : ℕ) → ((e : ℕ) → x ≡ Valid e → e ≡ n) → bind x (λ p. must (eqb p n) 9 p (Valid p)) ≡ x
+unfolding bind must
+at-end (Valid e) n h = rw (eq-eqb e n (h e refl))
+at-end (Refused q p) n h = refl
+
+-- 1 and then 5, and then what is left
+finish : (a b : Bool) (q : ℕ) (x y : Verdict) → (b ≡ true → x ≡ y) → chain (must a 1 0 (Valid 4)) (chain (must b 5 12 (Valid q)) x) ≡ must a 1 0 (must b 5 12 y)
+unfolding chain must
+finish true true q x y h = h refl
+finish true false q x y h = refl
+finish false b q x y h = refl
+
+module _ (t : Section) (fit : Encodable t) where
+  abbrev s : List ℕ
+  s = encodeSection t
+
+  abbrev nf : ℕ
+  nf = length (t .functions)
+
+  abbrev nc : ℕ
+  nc = length (t .constants)
+
+  abbrev H : List Field
+  H = (1 of 3) ∷ (3 of 0) ∷ (4 of nf) ∷ (4 of nc) ∷ (4 of length (t .records)) ∷ []
+
+  abbrev F : List Field
+  F = all functionFields (t .functions)
+
+  abbrev K : List Field
+  K = all constantFields (t .constants)
+
+  abbrev R : List Field
+  R = all recordFields (t .records)
+
+  tables : (size F ≡ 24 * nf) × (size K ≡ 8 * nc)
+  tables = (size-all functionFields 24 function-size (t .functions), size-all constantFields 8 constant-size (t .constants))
+
+  pub encoded-length : length (encodeSection t) ≡ size (sectionFields t)
+  unfolding encodeSection
+  encoded-length = length-bytesOf (sectionFields t)
+
+  pub section-size : size (sectionFields t) ≡ 16 + 24 * nf + 8 * nc + size R
+  unfolding sectionFields size
+  section-size = simp size-append (omega (arith, tables))
+
+  has : Has s 0 (sectionFields t)
+  unfolding encodeSection
+  has = fields-back s 0 0 (sectionFields t) [] fit (rw append-nil)
+
+  record Whats : Type 0 where
+    version : word 1 s 0 ≡ 3
+    reserved : word 3 s 1 ≡ 0
+    functions-num : word 4 s 4 ≡ nf
+    constants-num : word 4 s 8 ≡ nc
+    records-num : word 4 s 12 ≡ length (t .records)
+    functions-in : Has s 16 F
+    constants-in : Has s (16 + 24 * nf) K
+    records-in : Has s (16 + 24 * nf + 8 * nc) R
+
+  whats : Whats
+  unfolding sectionFields size
+  whats =
+      let k₁ = split s 0 (16 + 24 * nf + 8 * nc) (H ++ F ++ K) R (simp size-append (omega (arith, tables))) has in
+      let k₂ = split s 0 (16 + 24 * nf) (H ++ F) K (simp size-append (omega (arith, tables))) (k₁ .0) in
+      let k₃ = split s 0 16 H F refl (k₂ .0) in
+      record {
+        version = k₃ .0 .0;
+        reserved = k₃ .0 .1 .0;
+        functions-num = k₃ .0 .1 .1 .0;
+        constants-num = k₃ .0 .1 .1 .1 .0;
+        records-num = k₃ .0 .1 .1 .1 .1 .0;
+        functions-in = k₃ .1;
+        constants-in = k₂ .1;
+        records-in = k₁ .1
+      }
+
+  functions-read : readFunctions (encodeSection t) ≡ t .functions
+  unfolding readFunctions
+  functions-read =
+      let w = whats in
+      rw (w .functions-num, many-back functionFields readFunction 24 function-size s (function-back s) (t .functions) 16 (w .functions-in))
+
+  -- the bytes of a section are read back as the section
+  pub read-back : readSection (encodeSection t) ≡ t
+  unfolding readSection
+  read-back =
+      let w = whats in
+      rw (functions-read, w .functions-num, w .constants-num, w .records-num,
+        many-back constantFields readConstant 8 constant-size s (constant-back s) (t .constants) _ (w .constants-in),
+        records-back s (t .records) _ (w .records-in))
+
+  walk : eqb (counted (t .functions)) (length (t .records)) ≡ true
+      → recordsCheck (owners 0 (t .functions)) s nc (16 + 24 * nf + 8 * nc) ≡ entriesFault nc (entriesOf t) (size (sectionFields t))
+  unfolding entriesOf
+  walk e =
+      let w = whats in
+      let n : length (owners 0 (t .functions)) ≡ length (t .records) = length-owners 0 (t .functions) ∙ eqb-true _ _ e in
+      records-walk s nc (size (sectionFields t)) (omega (arith, encoded-length)) (owners 0 (t .functions)) 0
+      (16 + 24 * nf + 8 * nc) (t .records) n (w .records-in) (sym section-size)
+
+  -- and refused, or accepted, as the section is
+  pub check-back : sectionCheck (encodeSection t) ≡ sectionFault t
+  unfolding sectionCheck headerCheck tablesCheck sectionFault chain must
+  check-back =
+      let w = whats in
+      let v : getD s 0 0 ≡ 3 = sym (byte-word s 0) ∙ w .version in
+      let z = section-size in
+      let l : 16 ≤ size (sectionFields t) = omega arith in
+      let l₁ : 16 + 24 * nf ≤ size (sectionFields t) = omega arith in
+      let l₂ : 16 + 24 * nf + 8 * nc ≤ size (sectionFields t) = omega arith in
+      rw (encoded-length, le-leb 16 _ l, v, zeros-back 3 s 1 (w .reserved), w .functions-num, w .constants-num, w .records-num,
+        functions-read, le-leb _ _ l₁, le-leb _ _ l₂)
+      (finish (leb (size (sectionFields t)) 16777216) (eqb (counted (t .functions)) (length (t .records))) _ _ _ (λ e. rw (walk e) (at-end _ _ (entries-valid _ _ _))))

@@ -1,0 +1,10 @@
+pub mod Verdicts
+pub mod Tests
+pub mod Steps
+pub mod Fields
+pub mod Items
+pub mod Back
+pub mod Forth
+pub mod WellFormed
+pub mod Within
+pub mod Turns

@@ -1,0 +1,155 @@
+-- Accepted bytes and well-formed sections correspond one to one.
+use Prim.Native.Nat.{ℕ, zero, suc, _+_, _*_, _/_, _%_, _^_, _≤_, _<_}
+use mathlib.Core.Path.{_≡_, refl, sym, _∙_, ap}
+use mathlib.Core.List.{List, [], _∷_, _++_, List·Memᴰ, List·Memᴰ·head, List·Memᴰ·tail, List·Memᴰ·not-nil, List·Memᴰ·cases-cons}
+use mathlib.Core.Logic.{_⊎_, inl, inr}
+use mathlib.Core.Bool.{Bool, true, false}
+use native.Mathlib.Omega.{arith}
+use borrow.Author.Tests.{lt-ltb, le-leb, eq-eqb, eqb-true, leb-true, ltb-true}
+use lib.ListN.{length, getD}
+use lib.Dec.{leb, ltb, eqb}
+use Rattle.wire.specs.Word.{Bytes, bytes}
+use Rattle.stackmap.specs.declared.Verdict.{Verdict}
+use Rattle.stackmap.specs.declared.Verdict.the-variants.{Valid, Refused}
+use Rattle.stackmap.specs.Verdict.{must, chain, pick, shift}
+use Rattle.stackmap.specs.Fields.{Field, bytesOf, size}
+use Rattle.stackmap.specs.Section.{Location, Section, recordFields, sectionFields, encodeSection, Encodable, readSection, Entry, entriesOf}
+use Rattle.stackmap.specs.Check.{sectionCheck}
+use Rattle.stackmap.specs.Fault.{locationFault, locationsFault, entryFault, entriesFault, sectionFault, GoodLocation, GoodEntry, WellFormed}
+use Rattle.stackmap.specs.Laws.{OneToOne, BuiltRefusal}
+use Rattle.stackmap.proofs.Verdicts.{must-held, must-rest, chain-first, chain-rest, shift-valid}
+use Rattle.stackmap.proofs.Back.{read-back, check-back, encoded-length}
+use Rattle.stackmap.proofs.Forth.{accepted-encodable, accepted-bytes, accepted-fault}
+
+module _ (c : ℕ) where
+  good-location : (l : Location) (at : ℕ) → GoodLocation c l → locationFault c l at ≡ Valid (at + 12)
+  unfolding locationFault must pick
+  good-location l at g = rw (le-leb _ _ (g .kind-low), le-leb _ _ (g .kind-high)) (go (eqb (l .kind) 5) refl)
+    where
+      go : (t : Bool) → eqb (l .kind) 5 ≡ t
+          → pick (eqb (l .kind) 5) (must (ltb (l .offset) (2 ^ 31)) 7 at (must (ltb (l .offset) c) 7 at (Valid (at + 12)))) (Valid (at + 12)) ≡ Valid (at + 12)
+      go true e = let i = g .pool (eqb-true _ _ e) in rw (e, lt-ltb _ _ (i .0), lt-ltb _ _ (i .1))
+      go false e = rw e
+
+  valid-location : (l : Location) (at e : ℕ) → locationFault c l at ≡ Valid e → GoodLocation c l
+  unfolding locationFault pick
+  valid-location l at e h =
+      let h₁ = must-rest _ _ _ _ _ h in
+      let h₂ = must-rest _ _ _ _ _ h₁ in
+      record {
+        kind-low = leb-true _ _ (must-held _ _ _ _ _ h);
+        kind-high = leb-true _ _ (must-held _ _ _ _ _ h₁);
+        pool = λ k.
+            let h₃ : must (ltb (l .offset) (2 ^ 31)) 7 at (must (ltb (l .offset) c) 7 at (Valid (at + 12))) ≡ Valid e = rw (eq-eqb _ _ k) at h₂ in
+            (ltb-true _ _ (must-held _ _ _ _ _ h₃), ltb-true _ _ (must-held _ _ _ _ _ (must-rest _ _ _ _ _ h₃)))
+      }
+
+  good-locations : (ls : List Location) (at : ℕ) → ((l : Location) → List·Memᴰ l ls → GoodLocation c l) → locationsFault c ls at ≡ Valid (at + 12 * length ls)
+  unfolding locationsFault chain
+  good-locations [] at g = ap Valid (omega arith)
+  good-locations (l ∷ ls) at g =
+      rw (good-location l at (g l (List·Memᴰ·head refl)), good-locations ls (at + 12) (λ x m. g x (List·Memᴰ·tail m))) (ap Valid (omega arith))
+
+  valid-locations : (ls : List Location) (at e : ℕ) → locationsFault c ls at ≡ Valid e → (l : Location) → List·Memᴰ l ls → GoodLocation c l
+  unfolding locationsFault
+  valid-locations [] at e h l m = absurd (List·Memᴰ·not-nil m)
+  valid-locations (x ∷ xs) at e h l m = go (valid-locations xs (at + 12) e (chain-rest _ _ _ h) l) (List·Memᴰ·cases-cons m)
+    where
+      go : (List·Memᴰ l xs → GoodLocation c l) → (l ≡ x) ⊎ List·Memᴰ l xs → GoodLocation c l
+      go ih (inl q) = rw q (valid-location x at _ (chain-first _ _ _ h .1))
+      go ih (inr q) = ih q
+
+  good-entry : (e : Entry) → GoodEntry c e → entryFault c e ≡ Valid (size (recordFields (e .body)))
+  unfolding entryFault must chain
+  good-entry e g = rw (le-leb _ _ (g .address-fits), good-locations (e .body .locations) 16 (g .locations-good))
+
+  valid-entry : (e : Entry) (n : ℕ) → entryFault c e ≡ Valid n → GoodEntry c e
+  unfolding entryFault
+  valid-entry e n h =
+      record {
+        address-fits = leb-true _ _ (must-held _ _ _ _ _ h);
+        locations-good = valid-locations (e .body .locations) 16 _ (chain-first _ _ _ (must-rest _ _ _ _ _ h) .1)
+      }
+
+  good-entries : (es : List Entry) (stop : ℕ) → ((e : Entry) → List·Memᴰ e es → GoodEntry c e) → entriesFault c es stop ≡ Valid stop
+  unfolding entriesFault chain shift
+  good-entries [] stop g = refl
+  good-entries (e ∷ es) stop g =
+      rw (good-entry e (g e (List·Memᴰ·head refl)), good-entries es stop (λ x m. g x (List·Memᴰ·tail m)))
+
+  valid-entries : (es : List Entry) (stop n : ℕ) → entriesFault c es stop ≡ Valid n → (e : Entry) → List·Memᴰ e es → GoodEntry c e
+  unfolding entriesFault
+  valid-entries [] stop n h e m = absurd (List·Memᴰ·not-nil m)
+  valid-entries (x ∷ xs) stop n h e m = go (valid-entries xs stop n (chain-rest _ _ _ h) e) (List·Memᴰ·cases-cons m)
+    where
+      go : (List·Memᴰ e xs → GoodEntry c e) → (e ≡ x) ⊎ List·Memᴰ e xs → GoodEntry c e
+      go ih (inl q) = rw q (valid-entry x _ (shift-valid _ _ _ (chain-first _ _ _ h .1) .1))
+      go ih (inr q) = ih q
+
+-- well formed is: encodable, and without fault
+pub well-valid : (t : Section) → WellFormed t → sectionFault t ≡ Valid (size (sectionFields t))
+unfolding sectionFault must
+well-valid t w =
+    rw (le-leb _ _ (w .small), eq-eqb _ _ (w .adds-up), good-entries (length (t .constants)) (entriesOf t) (size (sectionFields t)) (w .entries-good))
+
+pub valid-well : (t : Section) (n : ℕ) → Encodable t → sectionFault t ≡ Valid n → WellFormed t
+unfolding sectionFault
+valid-well t n f h =
+    let h₁ = must-rest _ _ _ _ _ h in
+    record {
+      fits = f;
+      small = leb-true _ _ (must-held _ _ _ _ _ h);
+      adds-up = eqb-true _ _ (must-held _ _ _ _ _ h₁);
+      entries-good = valid-entries _ _ _ n (must-rest _ _ _ _ _ h₁)
+    }
+
+-- a well-formed section's bytes are accepted, and read back as the section
+pub well-formed-accepted : (t : Section) → WellFormed t → (sectionCheck (encodeSection t) ≡ Valid (length (encodeSection t))) × (readSection (encodeSection t) ≡ t)
+well-formed-accepted t w = (check-back t (w .fits) ∙ well-valid t w ∙ ap Valid (sym (encoded-length t (w .fits))), read-back t (w .fits))
+
+-- accepted bytes are read as a well-formed section, and are its bytes
+pub accepted-well-formed : (s : List ℕ) (e : ℕ) → Bytes s → sectionCheck s ≡ Valid e → WellFormed (readSection s) × (encodeSection (readSection s) ≡ s)
+accepted-well-formed s e w k = (valid-well (readSection s) e (accepted-encodable s e k w) (accepted-fault s e k w), accepted-bytes s e k w)
+
+abbrev Below : List ℕ → Type 0
+Below [] = Unit {0}
+Below (x ∷ xs) = (x < 256) × Below xs
+
+below-join : (xs ys : List ℕ) → Below xs → Below ys → Below (xs ++ ys)
+below-join [] ys h k = k
+below-join (x ∷ xs) ys h k = (h .0, below-join xs ys (h .1) k)
+
+below-bytes : (n v : ℕ) → Below (bytes n v)
+unfolding bytes
+below-bytes zero v = tt
+below-bytes (suc n) v = (omega arith, below-bytes n (v / 256))
+
+below-fields : (fs : List Field) → Below (bytesOf fs)
+unfolding bytesOf
+below-fields [] = tt
+below-fields (f ∷ fs) = below-join (bytes (f .width) (f .value)) (bytesOf fs) (below-bytes (f .width) (f .value)) (below-fields fs)
+
+below-at : (xs : List ℕ) → Below xs → (i : ℕ) → getD xs i 0 < 256
+below-at [] h i = omega arith
+below-at (x ∷ xs) h zero = h .0
+below-at (x ∷ xs) h (suc i) = below-at xs (h .1) i
+
+pub bytes-of : (fs : List Field) → Bytes (bytesOf fs)
+bytes-of fs = record { below = below-at (bytesOf fs) (below-fields fs) }
+
+section-bytes : (t : Section) → Bytes (encodeSection t)
+unfolding encodeSection
+section-bytes t = bytes-of (sectionFields t)
+
+pub one-to-one : OneToOne
+one-to-one =
+    record {
+      read-well = λ s w k. accepted-well-formed s (length s) w k .0;
+      encode-read = λ s w k. accepted-well-formed s (length s) w k .1;
+      encode-bytes = section-bytes;
+      encode-accepted = λ t w. well-formed-accepted t w .0;
+      read-encode = λ t w. well-formed-accepted t w .1
+    }
+
+pub built : BuiltRefusal
+built = check-back

@@ -1,0 +1,148 @@
+-- What a valid verdict tells of the section's parts, and that each place of a verdict is inside its stretch.
+use Prim.Native.Nat.{ℕ, zero, suc, _+_, _*_, _-_, _%_, _^_, _≤_}
+use mathlib.Core.Path.{_≡_, refl}
+use mathlib.Core.List.{List, [], _∷_}
+use mathlib.Core.Bool.{Bool, true, false}
+use native.Mathlib.Omega.{arith}
+use borrow.Author.Tests.{leb-true, eqb-true}
+use lib.ListN.{length, getD, take, drop, length-drop}
+use lib.Seq.{take-all}
+use lib.Dec.{leb, ltb, eqb}
+use Rattle.wire.specs.Word.{word}
+use Rattle.stackmap.specs.declared.Verdict.{Verdict}
+use Rattle.stackmap.specs.declared.Verdict.the-variants.{Valid, Refused}
+use Rattle.stackmap.specs.Verdict.{must, chain, bind, pick, shift}
+use Rattle.stackmap.specs.Section.{numLocations, locationsEnd, numLiveOuts, recordLength, recordsAt, constantsAt, Owner}
+use Rattle.stackmap.specs.Record.{zeros, locationCheck, locations, liveOuts, recordInside, recordBytes, recordCheck}
+use Rattle.stackmap.specs.Check.{headerCheck, tablesCheck, recordsCheck}
+use Rattle.stackmap.specs.Walk.{Walkable}
+use Rattle.stackmap.proofs.Verdicts.{must-held, must-rest}
+
+-- a record that is inside
+pub is-inside : (s : List ℕ) (e : ℕ) → recordInside s ≡ Valid e → recordLength s ≤ length s
+unfolding recordInside
+is-inside s e h = leb-true _ _ (must-held (leb (recordLength s) (length s)) 4 0 (Valid (recordLength s)) e h)
+
+-- its header is inside
+pub header-inside : (s : List ℕ) → recordLength s ≤ length s → 16 ≤ length s
+unfolding recordLength
+header-inside s h = omega arith
+
+-- the place of a verdict
+abbrev pub endOf : Verdict → ℕ
+endOf (Valid p) = p
+endOf (Refused k p) = p
+
+-- it is at most n
+pub record Within (n : ℕ) (r : Verdict) : Type 0 where
+  pub most : endOf r ≤ n
+
+within-must : (m : ℕ) (b : Bool) (n p : ℕ) (k : Verdict) → p ≤ m → Within m k → Within m (must b n p k)
+unfolding must
+within-must m true n p k h w = w
+within-must m false n p k h w = record { most = h }
+
+within-chain : (m : ℕ) (a k : Verdict) → Within m a → Within m k → Within m (chain a k)
+unfolding chain
+within-chain m (Valid e) k h w = w
+within-chain m (Refused n p) k h w = h
+
+within-pick : (m : ℕ) (b : Bool) (j k : Verdict) → Within m j → Within m k → Within m (pick b j k)
+unfolding pick
+within-pick m true j k h w = h
+within-pick m false j k h w = w
+
+zeros-within : (m n : ℕ) (s : List ℕ) (at : ℕ) → at + n ≤ m → Within m (zeros n s at)
+unfolding zeros
+zeros-within m zero s at h = omega arith
+zeros-within m (suc n) s at h = within-must m _ 3 at _ (omega arith) (zeros-within m n s (at + 1) (omega arith))
+
+liveOuts-within : (m n : ℕ) (s : List ℕ) (at : ℕ) → at + 4 * n ≤ m → Within m (liveOuts n s at)
+unfolding liveOuts
+liveOuts-within m zero s at h = omega arith
+liveOuts-within m (suc n) s at h = within-must m _ 3 (at + 2) _ (omega arith) (liveOuts-within m n s (at + 4) (omega arith))
+
+location-within : (m : ℕ) (s : List ℕ) (c at : ℕ) → at + 12 ≤ m → Within m (locationCheck s c at)
+unfolding locationCheck
+location-within m s c at h =
+    within-must m _ 6 at _ (omega arith)
+    (within-must m _ 6 at _ (omega arith)
+    (within-must m _ 3 _ _ (omega arith)
+    (within-must m _ 3 _ _ (omega arith)
+    (within-must m _ 3 _ _ (omega arith)
+    (within-pick m _ _ _
+    (within-must m _ 7 at _ (omega arith) (within-must m _ 7 at _ (omega arith) (omega arith)))
+    (omega arith))))))
+
+locations-within : (m n : ℕ) (s : List ℕ) (c at : ℕ) → at + 12 * n ≤ m → Within m (locations n s c at)
+unfolding locations
+locations-within m zero s c at h = omega arith
+locations-within m (suc n) s c at h =
+    within-chain m _ _ (location-within m s c at (omega arith)) (locations-within m n s c (at + 12) (omega arith))
+
+-- every place that the check of a record gives is inside its stretch
+bytes-within : (s : List ℕ) (c : ℕ) → recordLength s ≤ length s → Within (length s) (recordBytes s c)
+unfolding recordBytes recordLength
+bytes-within s c h =
+    within-chain _ _ _ (zeros-within _ 2 s 12 (omega arith))
+    (within-chain _ _ _ (locations-within _ (numLocations s) s c 16 (omega arith))
+    (within-chain _ _ _ (zeros-within _ _ s _ (omega arith))
+    (within-chain _ _ _ (liveOuts-within _ _ s _ (omega arith))
+    (within-chain _ (zeros ((numLiveOuts s + 1) % 2 * 4) s (locationsEnd s + 4 + 4 * numLiveOuts s)) _ (zeros-within _ _ s _ (omega arith))
+    (omega arith)))))
+
+pub record-within : (s : List ℕ) (c a : ℕ) → Within (length s) (recordCheck s c a)
+unfolding recordCheck recordInside chain must
+record-within s c a = go (leb (recordLength s) (length s)) refl
+  where
+    go : (b : Bool) → leb (recordLength s) (length s) ≡ b → Within (length s) (recordCheck s c a)
+    go true e = rw e (within-must (length s) (leb (a + word 4 s 8) (2 ^ 64 - 1)) 8 0 (recordBytes s c) (omega arith) (bytes-within s c (leb-true _ _ e)))
+    go false e = rw e (record { most = omega arith })
+
+within-shift : (m p : ℕ) (r : Verdict) → p ≤ m → Within (m - p) r → Within m (shift p r)
+unfolding shift
+within-shift m p (Valid e) h w = record { most = let z = w .most in omega arith }
+within-shift m p (Refused n e) h w = record { most = let z = w .most in omega arith }
+
+within-bind : (m : ℕ) (a : Verdict) (k : ℕ → Verdict) → Within m a → ((e : ℕ) → e ≤ m → Within m (k e)) → Within m (bind a k)
+unfolding bind
+within-bind m (Valid e) k h w = w e (h .most)
+within-bind m (Refused n p) k h w = record { most = h .most }
+
+-- a record that stands at `at`
+pub at-within : (s : List ℕ) (c a at : ℕ) → at ≤ length s → Within (length s) (shift at (recordCheck (drop at s) c a))
+at-within s c a at h = within-shift _ _ _ h (rw length-drop at (record-within (drop at s) c a))
+
+pub walk-within : (os : List Owner) (s : List ℕ) (c at : ℕ) → at ≤ length s → Within (length s) (recordsCheck os s c at)
+unfolding recordsCheck
+walk-within [] s c at h = record { most = h }
+walk-within (o ∷ os) s c at h =
+    within-bind _ _ _
+    (at-within s c (o .function .address) at h)
+    (λ e w. walk-within os s c e w)
+
+-- the part `&s[p..]`
+pub part-from : (s : List ℕ) (p : ℕ) → take (length s - p) (drop p s) ≡ drop p s
+part-from s p = take-all (length s - p) (drop p s) (omega (arith, length-drop p s))
+
+pub header-held : (s : List ℕ) (e : ℕ) → headerCheck s ≡ Valid e → 16 ≤ length s
+unfolding headerCheck
+header-held s e h = leb-true _ _ (must-held _ _ _ _ _ h)
+
+-- where the records begin, and what the walk over them relies on
+pub record Tabled (s : List ℕ) (e : ℕ) : Type 0 where
+  pub begins : e ≡ recordsAt s
+  pub inside : recordsAt s ≤ length s
+  pub walkable : Walkable s
+
+pub tables-held : (s : List ℕ) (e : ℕ) → tablesCheck s ≡ Valid e → Tabled s e
+unfolding tablesCheck
+tables-held s e h =
+    let h₁ = must-rest _ _ _ _ _ h in
+    let h₂ = must-rest _ _ _ _ _ h₁ in
+    let h₃ = must-rest _ _ _ _ _ h₂ in
+    record {
+      begins = cc;
+      inside = leb-true _ _ (must-held _ _ _ _ _ h₁);
+      walkable = record { inside = leb-true _ _ (must-held _ _ _ _ _ h); adds-up = eqb-true _ _ (must-held _ _ _ _ _ h₂) }
+    }

@@ -1,0 +1,247 @@
+use native.Mathlib.Omega.{arith}
+use Rattle.stackmap.specs.Record.{recordBytes}
+use Rattle.stackmap.specs.Section.{recordLength}
+use Rattle.stackmap.specs.Verdict.{chain}
+use borrow.Author.Needs.{needs}
+use Rattle.stackmap.proofs.record.record_bytes.Statement.{statement}
+use Rattle.stackmap.proofs.record.record_bytes.Tie as tie
+use Rattle.stackmap.proofs.record.record_bytes.Reads as reads
+use Rattle.stackmap.proofs.record.record_bytes.Lts as lts
+use Rattle.stackmap.proofs.record.all_live_outs.Reads as all-live-outs-reads
+use Rattle.stackmap.proofs.record.all_locations.Reads as all-locations-reads
+use Rattle.stackmap.proofs.record.zero_bytes.Reads as zero-bytes-reads
+use Rattle.wire.proofs.u16_at.Reads as u16-at-reads
+
+u16-at-requires : tie.Need-u16-at-requires
+unfolding recordLength
+u16-at-requires c κs = search needs
+
+cast-locations : tie.Need-cast-locations
+cast-locations c = search needs
+
+mul-pad : tie.Need-mul-pad
+mul-pad c = search needs
+
+add-pad : tie.Need-add-pad
+add-pad c = search needs
+
+mul-end : tie.Need-mul-end
+mul-end c = search needs
+
+add-end : tie.Need-add-end
+add-end c = search needs
+
+add-u16-at : tie.Need-add-u16-at
+add-u16-at c = search needs
+
+u16-at-requires-2 : tie.Need-u16-at-requires-2
+unfolding recordLength
+u16-at-requires-2 c κs = let h = rw (← c .u16-at .ensures) at (c .before .before .pre) in omega arith
+
+cast-outs : tie.Need-cast-outs
+cast-outs c = search needs
+
+add-pad2 : tie.Need-add-pad2
+add-pad2 c = search needs
+
+mul-pad2 : tie.Need-mul-pad2
+mul-pad2 c = search needs
+
+add-pad2-2 : tie.Need-add-pad2-2
+add-pad2-2 c = search needs
+
+zero-bytes-requires : tie.Need-zero-bytes-requires
+unfolding recordLength
+zero-bytes-requires c κs = search needs
+
+enum-known-n : tie.Need-enum-known-n
+enum-known-n c = search needs
+
+returns : tie.Need-returns
+unfolding recordBytes recordLength chain
+returns c =
+    rw
+    (← c .before .before .before .before .before .u16-at .ensures, ← c .before .before .before .before .u16-at2 .ensures
+    , ← c .before .before .before .zero-bytes .ensures
+    , c .before .n .given .1)
+
+enum-told : tie.Need-enum-told
+enum-told c = search needs
+
+all-locations-requires : tie.Need-all-locations-requires
+unfolding recordLength
+all-locations-requires c κs = let h = rw (← c .before .before .before .before .u16-at .ensures, ← c .before .before .before .u16-at2 .ensures) at (c .before .before .before .before .before .before .pre) in omega arith
+
+enum-known-n-2 : tie.Need-enum-known-n-2
+enum-known-n-2 c = search needs
+
+returns-2 : tie.Need-returns-2
+unfolding recordBytes recordLength chain
+returns-2 c =
+    rw
+    (← c .before .before .before .before .before .before .before .before .u16-at .ensures, ← c .before .before .before .before .before .before .before .u16-at2 .ensures
+    , ← c .before .before .before .before .before .before .zero-bytes .ensures
+    , c .before .before .before .before .enum-told .given .1
+    , ← c .before .before .before .all-locations .ensures
+    , c .before .n2 .given .1)
+
+enum-told-2 : tie.Need-enum-told-2
+enum-told-2 c = search needs
+
+mul-zero-bytes : tie.Need-mul-zero-bytes
+mul-zero-bytes c = search needs
+
+add-zero-bytes : tie.Need-add-zero-bytes
+add-zero-bytes c = search needs
+
+zero-bytes-requires-2 : tie.Need-zero-bytes-requires-2
+unfolding recordLength
+zero-bytes-requires-2 c κs = let h = rw (← c .before .before .before .before .before .before .before .u16-at .ensures, ← c .before .before .before .before .before .before .u16-at2 .ensures) at (c .before .before .before .before .before .before .before .before .before .pre) in omega arith
+
+enum-known-n-3 : tie.Need-enum-known-n-3
+enum-known-n-3 c = search needs
+
+returns-3 : tie.Need-returns-3
+unfolding recordBytes recordLength chain
+returns-3 c =
+    rw
+    (← c .before .before .before .before .before .before .before .before .before .before .before .u16-at .ensures, ← c .before .before .before .before .before .before .before .before .before .before .u16-at2 .ensures
+    , ← c .before .before .before .before .before .before .before .before .before .zero-bytes .ensures
+    , c .before .before .before .before .before .before .before .enum-told .given .1
+    , ← c .before .before .before .before .before .before .all-locations .ensures
+    , c .before .before .before .before .enum-told2 .given .1
+    , ← c .before .before .before .zero-bytes2 .ensures
+    , c .before .n3 .given .1)
+
+enum-told-3 : tie.Need-enum-told-3
+enum-told-3 c = search needs
+
+add-all-live-outs : tie.Need-add-all-live-outs
+add-all-live-outs c = search needs
+
+all-live-outs-requires : tie.Need-all-live-outs-requires
+unfolding recordLength
+all-live-outs-requires c κs = let h = rw (← c .before .before .before .before .before .before .before .before .before .before .u16-at .ensures, ← c .before .before .before .before .before .before .before .before .before .u16-at2 .ensures) at (c .before .before .before .before .before .before .before .before .before .before .before .before .pre) in omega arith
+
+enum-known-n-4 : tie.Need-enum-known-n-4
+enum-known-n-4 c = search needs
+
+returns-4 : tie.Need-returns-4
+unfolding recordBytes recordLength chain
+returns-4 c =
+    rw
+    (← c .before .before .before .before .before .before .before .before .before .before .before .before .before .before .u16-at .ensures, ← c .before .before .before .before .before .before .before .before .before .before .before .before .before .u16-at2 .ensures
+    , ← c .before .before .before .before .before .before .before .before .before .before .before .before .zero-bytes .ensures
+    , c .before .before .before .before .before .before .before .before .before .before .enum-told .given .1
+    , ← c .before .before .before .before .before .before .before .before .before .all-locations .ensures
+    , c .before .before .before .before .before .before .before .enum-told2 .given .1
+    , ← c .before .before .before .before .before .before .zero-bytes2 .ensures
+    , c .before .before .before .before .enum-told3 .given .1
+    , ← c .before .before .before .all-live-outs .ensures
+    , c .before .n4 .given .1)
+
+enum-told-4 : tie.Need-enum-told-4
+enum-told-4 c = search needs
+
+add-zero-bytes-2 : tie.Need-add-zero-bytes-2
+add-zero-bytes-2 c = search needs
+
+mul-zero-bytes-2 : tie.Need-mul-zero-bytes-2
+mul-zero-bytes-2 c = search needs
+
+zero-bytes-requires-3 : tie.Need-zero-bytes-requires-3
+unfolding recordLength
+zero-bytes-requires-3 c κs = let h = rw (← c .before .before .before .before .before .before .before .before .before .before .before .before .before .u16-at .ensures, ← c .before .before .before .before .before .before .before .before .before .before .before .before .u16-at2 .ensures) at (c .before .before .before .before .before .before .before .before .before .before .before .before .before .before .before .pre) in omega arith
+
+enum-known-n-5 : tie.Need-enum-known-n-5
+enum-known-n-5 c = search needs
+
+returns-5 : tie.Need-returns-5
+unfolding recordBytes recordLength chain
+returns-5 c =
+    rw
+    (← c .before .before .before .before .before .before .before .before .before .before .before .before .before .before .before .before .before .u16-at .ensures, ← c .before .before .before .before .before .before .before .before .before .before .before .before .before .before .before .before .u16-at2 .ensures
+    , ← c .before .before .before .before .before .before .before .before .before .before .before .before .before .before .before .zero-bytes .ensures
+    , c .before .before .before .before .before .before .before .before .before .before .before .before .before .enum-told .given .1
+    , ← c .before .before .before .before .before .before .before .before .before .before .before .before .all-locations .ensures
+    , c .before .before .before .before .before .before .before .before .before .before .enum-told2 .given .1
+    , ← c .before .before .before .before .before .before .before .before .before .zero-bytes2 .ensures
+    , c .before .before .before .before .before .before .before .enum-told3 .given .1
+    , ← c .before .before .before .before .before .before .all-live-outs .ensures
+    , c .before .before .before .before .enum-told4 .given .1
+    , ← c .before .before .before .zero-bytes3 .ensures
+    , c .before .n5 .given .1)
+
+enum-told-5 : tie.Need-enum-told-5
+enum-told-5 c = search needs
+
+add-t24 : tie.Need-add-t24
+add-t24 c = search needs
+
+mul-t19 : tie.Need-mul-t19
+mul-t19 c = search needs
+
+add-t27 : tie.Need-add-t27
+add-t27 c = search needs
+
+returns-6 : tie.Need-returns-6
+unfolding recordBytes recordLength chain
+returns-6 c =
+    rw
+    (← c .before .before .before .before .before .before .before .before .before .before .before .before .before .before .before .before .u16-at .ensures, ← c .before .before .before .before .before .before .before .before .before .before .before .before .before .before .before .u16-at2 .ensures
+    , ← c .before .before .before .before .before .before .before .before .before .before .before .before .before .before .zero-bytes .ensures
+    , c .before .before .before .before .before .before .before .before .before .before .before .before .enum-told .given .1
+    , ← c .before .before .before .before .before .before .before .before .before .before .before .all-locations .ensures
+    , c .before .before .before .before .before .before .before .before .before .enum-told2 .given .1
+    , ← c .before .before .before .before .before .before .before .before .zero-bytes2 .ensures
+    , c .before .before .before .before .before .before .enum-told3 .given .1
+    , ← c .before .before .before .before .before .all-live-outs .ensures
+    , c .before .before .before .enum-told4 .given .1
+    , ← c .before .before .zero-bytes3 .ensures
+    , c .enum-told5 .given .1)
+
+pub record-bytes-spec : {M : Type 1} → statement M
+record-bytes-spec =
+    tie.close
+    (tie.spec
+    u16-at-requires
+    cast-locations
+    mul-pad
+    add-pad
+    mul-end
+    add-end
+    add-u16-at
+    u16-at-requires-2
+    cast-outs
+    add-pad2
+    mul-pad2
+    add-pad2-2
+    zero-bytes-requires
+    enum-known-n
+    returns
+    enum-told
+    all-locations-requires
+    enum-known-n-2
+    returns-2
+    enum-told-2
+    mul-zero-bytes
+    add-zero-bytes
+    zero-bytes-requires-2
+    enum-known-n-3
+    returns-3
+    enum-told-3
+    add-all-live-outs
+    all-live-outs-requires
+    enum-known-n-4
+    returns-4
+    enum-told-4
+    add-zero-bytes-2
+    mul-zero-bytes-2
+    zero-bytes-requires-3
+    enum-known-n-5
+    returns-5
+    enum-told-5
+    add-t24
+    mul-t19
+    add-t27
+    returns-6)

@@ -1,0 +1,108 @@
+use native.Mathlib.Omega.{arith}
+use Prim.Native.Nat.{_<_}
+use borrow.Author.Tests.{lt-leb, le-leb}
+use lib.ListN.{length}
+use Rattle.stackmap.specs.Record.{recordInside}
+use Rattle.stackmap.specs.Section.{recordLength}
+use Rattle.stackmap.specs.Verdict.{must}
+use borrow.Author.Needs.{needs}
+use Rattle.stackmap.proofs.record.record_inside.Statement.{statement}
+use Rattle.stackmap.proofs.record.record_inside.Tie as tie
+use Rattle.stackmap.proofs.record.record_inside.Reads as reads
+use Rattle.stackmap.proofs.record.record_inside.Lts as lts
+use Rattle.wire.proofs.u16_at.Reads as u16-at-reads
+
+returns : tie.Need-returns
+unfolding recordInside recordLength must
+returns c =
+    let s = c .before .before .args .s .now in
+    let h : length s < recordLength s = omega arith in
+    rw (lt-leb _ _ h)
+
+u16-at-requires : tie.Need-u16-at-requires
+u16-at-requires c κs = search needs
+
+cast-locations : tie.Need-cast-locations
+cast-locations c = search needs
+
+mul-end : tie.Need-mul-end
+mul-end c = search needs
+
+add-end : tie.Need-add-end
+add-end c = search needs
+
+mul-end-2 : tie.Need-mul-end-2
+mul-end-2 c = search needs
+
+add-end-2 : tie.Need-add-end-2
+add-end-2 c = search needs
+
+add-if2 : tie.Need-add-if2
+add-if2 c = search needs
+
+returns-2 : tie.Need-returns-2
+unfolding recordInside recordLength must
+returns-2 c =
+    let s = c .before .before .before .before .args .s .now in
+    let h : length s < recordLength s = omega (arith, c .before .u16-at .ensures) in
+    rw (lt-leb _ _ h)
+
+add-u16-at : tie.Need-add-u16-at
+add-u16-at c = search needs
+
+u16-at-requires-2 : tie.Need-u16-at-requires-2
+u16-at-requires-2 c κs = search needs
+
+cast-outs : tie.Need-cast-outs
+cast-outs c = search needs
+
+add-next : tie.Need-add-next
+add-next c = search needs
+
+mul-next : tie.Need-mul-next
+mul-next c = search needs
+
+add-next-2 : tie.Need-add-next-2
+add-next-2 c = search needs
+
+add-next-3 : tie.Need-add-next-3
+add-next-3 c = search needs
+
+mul-next-2 : tie.Need-mul-next-2
+mul-next-2 c = search needs
+
+add-next-4 : tie.Need-add-next-4
+add-next-4 c = search needs
+
+returns-3 : tie.Need-returns-3
+unfolding recordInside recordLength must
+returns-3 c = rw (← c .before .before .before .u16-at .ensures, ← c .before .u16-at2 .ensures, lt-leb _ _ (c .if3 .taken))
+
+returns-4 : tie.Need-returns-4
+unfolding recordInside recordLength must
+returns-4 c = rw (← c .before .before .before .u16-at .ensures, ← c .before .u16-at2 .ensures, le-leb _ _ (c .if3 .left))
+
+pub record-inside-spec : {M : Type 1} → statement M
+record-inside-spec =
+    tie.close
+    (tie.spec
+    returns
+    u16-at-requires
+    cast-locations
+    mul-end
+    add-end
+    mul-end-2
+    add-end-2
+    add-if2
+    returns-2
+    add-u16-at
+    u16-at-requires-2
+    cast-outs
+    add-next
+    mul-next
+    add-next-2
+    add-next-3
+    mul-next-2
+    add-next-4
+    returns-3
+    returns-4)

@@ -1,0 +1,87 @@
+-- The answer about the part from `at` on is said of the whole section.
+use Prim.Native.Nat.{_+_, _*_, _-_}
+use mathlib.Core.Path.{_≡_}
+use native.Mathlib.Omega.{arith}
+use borrow.Author.Needs.{needs}
+use lib.ListN.{length, drop, length-drop}
+use Rattle.stackmap.specs.Verdict.{shift}
+use Rattle.stackmap.specs.Section.{readFunction}
+use Rattle.stackmap.specs.Record.{recordCheck}
+use Rattle.stackmap.specs.Walk.{ownerAt}
+use Rattle.stackmap.proofs.Within.{part-from, record-within, Within}
+use Rattle.stackmap.proofs.walk.record_at.Statement.{statement}
+use Rattle.stackmap.proofs.walk.record_at.Tie as tie
+use Rattle.stackmap.proofs.walk.record_at.Reads as reads
+use Rattle.stackmap.proofs.walk.record_at.Lts as lts
+use Rattle.stackmap.proofs.record.check_record.Reads as check-record-reads
+use Rattle.wire.proofs.u64_at.Reads as u64-at-reads
+
+mul-u64-at : tie.Need-mul-u64-at
+mul-u64-at c = search needs
+
+add-u64-at : tie.Need-add-u64-at
+add-u64-at c = search needs
+
+u64-at-requires : tie.Need-u64-at-requires
+u64-at-requires c κs = search needs
+
+sub-check-record : tie.Need-sub-check-record
+sub-check-record c = search needs
+
+part-check-record-start : tie.Need-part-check-record-start
+part-check-record-start c = search needs
+
+part-check-record-end : tie.Need-part-check-record-end
+part-check-record-end c = search needs
+
+check-record-requires : tie.Need-check-record-requires
+check-record-requires c κs = let h = c .check-record-arg .given in search needs
+
+-- what the call says of the list from `at` on
+answer :
+    (c : tie.After-check-record) →
+    c .check-record .result
+    ≡ recordCheck (drop (c .before .before .before .before .args .at) (c .before .before .before .before .args .s .now)) (c .before .before .before .before .args .constants) (ownerAt (c .before .before .before .before .args .s .now) (c .before .before .before .before .args .function) .function .address)
+unfolding ownerAt readFunction
+answer c = rw (← c .before .before .u64-at .ensures) (rw part-from at (c .check-record .ensures))
+
+inside : (c : tie.After-check-record) → Within (length (c .before .before .before .before .args .s .now) - c .before .before .before .before .args .at) (c .check-record .result)
+inside c = rw (answer c, ← length-drop) (record-within _ _ _)
+
+enum-known-n : tie.Need-enum-known-n
+enum-known-n c = search needs
+
+add-t16 : tie.Need-add-t16
+add-t16 c = let w = (rw (c .before .n .given .1) at (inside (c .before .before .before))) .most in omega arith
+
+enum-known-size : tie.Need-enum-known-size
+enum-known-size c = search needs
+
+add-t17 : tie.Need-add-t17
+add-t17 c = let w = (rw (c .before .size .given .1) at (inside (c .before .before .before))) .most in omega arith
+
+returns : tie.Need-returns
+unfolding shift ownerAt readFunction
+returns c = rw (← answer (c .before .before .before), c .before .n .given .1)
+
+returns-2 : tie.Need-returns-2
+unfolding shift ownerAt readFunction
+returns-2 c = rw (← answer (c .before .before .before), c .before .size .given .1)
+
+pub record-at-spec : {M : Type 1} → statement M
+record-at-spec =
+    tie.close
+    (tie.spec
+    mul-u64-at
+    add-u64-at
+    u64-at-requires
+    sub-check-record
+    part-check-record-start
+    part-check-record-end
+    check-record-requires
+    enum-known-n
+    add-t16
+    enum-known-size
+    add-t17
+    returns
+    returns-2)

@@ -1,0 +1,50 @@
+-- The check of a whole section, in document 01's order: 1, 2, 3 in the header, 4 for functions then constants, 5, then each
+-- record, and 9 last.
+use Prim.Native.Nat.{ℕ, zero, suc, _+_, _*_, _-_, _/_}
+use mathlib.Core.Path.{_≡_}
+use mathlib.Core.List.{List, [], _∷_}
+use lib.ListN.{length, getD, drop}
+use lib.Dec.{leb, eqb}
+use Rattle.stackmap.specs.declared.Verdict.{Verdict}
+use Rattle.stackmap.specs.declared.Verdict.the-variants.{Valid, Refused}
+use Rattle.stackmap.specs.Layout.{headerSize, version, headerZerosAt, headerZeros, numRecordsAt, functionSize, constantSize, sectionMost}
+use Rattle.stackmap.specs.Verdict.{must, chain, bind, shift}
+use Rattle.stackmap.specs.Section.{numFunctions, numConstants, numRecords, constantsAt, recordsAt, readFunctions, Owner, owners, counted}
+use Rattle.stackmap.specs.Record.{zeros, recordCheck}
+
+-- 1, 2, 3: the bytes of the header
+unfoldable pub headerCheck : List ℕ → Verdict
+headerCheck s =
+    must (leb headerSize (length s)) 1 0
+    (must (leb (length s) sectionMost) 1 0
+    (must (eqb (getD s 0 0) version) 2 0
+    (zeros headerZeros s headerZerosAt)))
+
+-- 4: the first item of n bytes from `at` that is not wholly inside
+abbrev pub firstOutside : ℕ → List ℕ → ℕ → ℕ
+firstOutside n s at = at + n * ((length s - at) / n)
+
+-- 4, 5: the functions and the constants are inside, and the record counts add up
+unfoldable pub tablesCheck : List ℕ → Verdict
+tablesCheck s =
+    must (leb (constantsAt s) (length s)) 4 (firstOutside functionSize s headerSize)
+    (must (leb (recordsAt s) (length s)) 4 (firstOutside constantSize s (constantsAt s))
+    (must (eqb (counted (readFunctions s)) (numRecords s)) 5 numRecordsAt
+    (Valid (recordsAt s))))
+
+-- the records of these owners from `at`, in a section of c constants; each is read from its own stretch of s
+unfoldable pub recordsCheck : List Owner → List ℕ → ℕ → ℕ → Verdict
+recordsCheck [] s c at = Valid at
+recordsCheck (o ∷ os) s c at =
+    bind (shift at (recordCheck (drop at s) c (o .function .address))) (λ p. recordsCheck os s c p)
+
+-- the whole section
+unfoldable pub sectionCheck : List ℕ → Verdict
+sectionCheck s =
+    chain (headerCheck s)
+    (chain (tablesCheck s)
+    (bind (recordsCheck (owners 0 (readFunctions s)) s (numConstants s) (recordsAt s))
+    (λ p. must (eqb p (length s)) 9 p (Valid p))))
+
+abbrev pub Accepted : List ℕ → Type 0
+Accepted s = sectionCheck s ≡ Valid (length s)

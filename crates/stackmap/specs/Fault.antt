@@ -1,0 +1,58 @@
+-- The refusal of a section's bytes, said of the section as data: 1, 5, 8, 6 or 7, or its length. These are the refusals that
+-- bytes written from data can get. A place in a record is counted from the record's first byte.
+use Prim.Native.Nat.{ℕ, _+_, _≤_, _<_}
+use mathlib.Core.Path.{_≡_}
+use mathlib.Core.List.{List, [], _∷_, List·Memᴰ}
+use lib.ListN.{length}
+use lib.Dec.{ltb, leb, eqb}
+use Rattle.stackmap.specs.declared.Verdict.{Verdict}
+use Rattle.stackmap.specs.declared.Verdict.the-variants.{Valid, Refused}
+use Rattle.stackmap.specs.Layout.{sectionMost, addressMost, negativeFrom, recordHeadSize, locationSize, kindLeast, kindMost, kindConstIndex, numRecordsAt}
+use Rattle.stackmap.specs.Verdict.{must, chain, pick, shift}
+use Rattle.stackmap.specs.Fields.{size}
+use Rattle.stackmap.specs.Section.{Location, Section, recordFields, sectionFields, Encodable, Entry, address, entriesOf, counted}
+
+unfoldable pub locationFault : ℕ → Location → ℕ → Verdict
+locationFault constants l at =
+    must (leb kindLeast (l .kind)) 6 at
+    (must (leb (l .kind) kindMost) 6 at
+    (pick (eqb (l .kind) kindConstIndex)
+    (must (ltb (l .offset) negativeFrom) 7 at (must (ltb (l .offset) constants) 7 at (Valid (at + locationSize))))
+    (Valid (at + locationSize))))
+
+unfoldable pub locationsFault : ℕ → List Location → ℕ → Verdict
+locationsFault constants [] at = Valid at
+locationsFault constants (l ∷ ls) at = chain (locationFault constants l at) (locationsFault constants ls (at + locationSize))
+
+unfoldable pub entryFault : ℕ → Entry → Verdict
+entryFault constants e =
+    must (leb (address e) addressMost) 8 0
+    (chain (locationsFault constants (e .body .locations) recordHeadSize) (Valid (size (recordFields (e .body)))))
+
+unfoldable pub entriesFault : ℕ → List Entry → ℕ → Verdict
+entriesFault constants [] end = Valid end
+entriesFault constants (e ∷ es) end = chain (shift (e .first) (entryFault constants e)) (entriesFault constants es end)
+
+unfoldable pub sectionFault : Section → Verdict
+sectionFault t =
+    must (leb (size (sectionFields t)) sectionMost) 1 0
+    (must (eqb (counted (t .functions)) (length (t .records))) 5 numRecordsAt
+    (entriesFault (length (t .constants)) (entriesOf t) (size (sectionFields t))))
+
+-- What an accepted section's data is.
+
+-- a location of kind 1 to 5, whose pool entry exists where it has one
+pub record GoodLocation (constants : ℕ) (l : Location) : Type 0 where
+  pub kind-low : kindLeast ≤ l .kind
+  pub kind-high : l .kind ≤ kindMost
+  pub pool : l .kind ≡ kindConstIndex → (l .offset < negativeFrom) × (l .offset < constants)
+
+pub record GoodEntry (constants : ℕ) (e : Entry) : Type 0 where
+  pub address-fits : address e ≤ addressMost
+  pub locations-good : (l : Location) → List·Memᴰ l (e .body .locations) → GoodLocation constants l
+
+pub record WellFormed (t : Section) : Type 0 where
+  pub fits : Encodable t
+  pub small : size (sectionFields t) ≤ sectionMost
+  pub adds-up : counted (t .functions) ≡ length (t .records)
+  pub entries-good : (e : Entry) → List·Memᴰ e (entriesOf t) → GoodEntry (length (t .constants)) e

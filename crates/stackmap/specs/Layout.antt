@@ -1,0 +1,125 @@
+-- The numbers of document 01, "Section bytes", each named once: sizes in bytes, places in an item, paddings and limits.
+use Prim.Native.Nat.{ℕ, _+_, _*_, _-_, _%_, _^_}
+
+-- The header: version (one byte), three zero bytes, NumFunctions, NumConstants, NumRecords (4 bytes each).
+
+abbrev pub headerSize : ℕ
+headerSize = 16
+
+abbrev pub version : ℕ
+version = 3
+
+-- three zero bytes stand after the version
+abbrev pub headerZerosAt : ℕ
+headerZerosAt = 1
+
+abbrev pub headerZeros : ℕ
+headerZeros = 3
+
+abbrev pub numFunctionsAt : ℕ
+numFunctionsAt = 4
+
+abbrev pub numConstantsAt : ℕ
+numConstantsAt = 8
+
+abbrev pub numRecordsAt : ℕ
+numRecordsAt = 12
+
+-- A function: address, stack size, record count, 8 each.
+
+abbrev pub functionSize : ℕ
+functionSize = 24
+
+abbrev pub stackSizeAt : ℕ
+stackSizeAt = 8
+
+abbrev pub recordCountAt : ℕ
+recordCountAt = 16
+
+-- a stack size that is not known
+abbrev pub stackSizeUnknown : ℕ
+stackSizeUnknown = 2 ^ 64 - 1
+
+abbrev pub constantSize : ℕ
+constantSize = 8
+
+-- A record: ID (8), instruction offset (4), flags (2, zero), NumLocations (2); the locations; a padding; 2 zero bytes;
+-- NumLiveOuts (2); the live-outs; a padding.
+
+abbrev pub recordHeadSize : ℕ
+recordHeadSize = 16
+
+abbrev pub instructionOffsetAt : ℕ
+instructionOffsetAt = 8
+
+abbrev pub flagsAt : ℕ
+flagsAt = 12
+
+abbrev pub flagsSize : ℕ
+flagsSize = 2
+
+abbrev pub numLocationsAt : ℕ
+numLocationsAt = 14
+
+-- 4 zero bytes if NumLocations is odd
+abbrev pub locationsPadding : ℕ → ℕ
+locationsPadding n = n % 2 * 4
+
+-- 2 zero bytes and NumLiveOuts stand before the live-outs
+abbrev pub liveOutsHeadZeros : ℕ
+liveOutsHeadZeros = 2
+
+abbrev pub liveOutsHeadSize : ℕ
+liveOutsHeadSize = 4
+
+-- 4 zero bytes if NumLiveOuts is even
+abbrev pub liveOutsPadding : ℕ → ℕ
+liveOutsPadding n = (n + 1) % 2 * 4
+
+-- A location: kind (1), zero (1), size (2), register (2), zero (2), signed offset (4).
+
+abbrev pub locationSize : ℕ
+locationSize = 12
+
+abbrev pub locationSizeAt : ℕ
+locationSizeAt = 2
+
+abbrev pub locationRegisterAt : ℕ
+locationRegisterAt = 4
+
+abbrev pub locationOffsetAt : ℕ
+locationOffsetAt = 8
+
+-- Kinds 1 Register, 2 Direct, 3 Indirect, 4 Constant, 5 ConstIndex.
+
+abbrev pub kindLeast : ℕ
+kindLeast = 1
+
+abbrev pub kindMost : ℕ
+kindMost = 5
+
+abbrev pub kindConstIndex : ℕ
+kindConstIndex = 5
+
+-- a signed offset is held as its 32 bits: it is negative from here on
+abbrev pub negativeFrom : ℕ
+negativeFrom = 2 ^ 31
+
+-- A live-out: register (2), zero (1), size (1).
+
+abbrev pub liveOutSize : ℕ
+liveOutSize = 4
+
+abbrev pub liveOutZeroAt : ℕ
+liveOutZeroAt = 2
+
+abbrev pub liveOutSizeAt : ℕ
+liveOutSizeAt = 3
+
+-- Limits: a section's length, and an address.
+
+abbrev pub sectionMost : ℕ
+sectionMost = 16777216
+
+abbrev pub addressMost : ℕ
+addressMost = 2 ^ 64 - 1

@@ -1,0 +1,9 @@
+pub mod Layout
+pub mod Verdict
+pub mod Fields
+pub mod Section
+pub mod Record
+pub mod Check
+pub mod Walk
+pub mod Fault
+pub mod Laws

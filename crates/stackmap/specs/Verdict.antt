@@ -1,0 +1,40 @@
+-- Verdicts: valid up to a place, or a refusal's number and place; and how tests are put one after the other.
+use Prim.Native.Nat.{ℕ, _+_}
+use mathlib.Core.Bool.{Bool, true, false}
+use Rattle.stackmap.specs.declared.Verdict.{Verdict}
+use Rattle.stackmap.specs.declared.Verdict.the-variants.{Valid, Refused}
+
+-- Document 01's number and place for each case of a verdict; what is accepted has 0 and 0.
+
+abbrev pub numberOf : Verdict → ℕ
+numberOf (Valid e) = 0
+numberOf (Refused n p) = n
+
+abbrev pub placeOf : Verdict → ℕ
+placeOf (Valid e) = 0
+placeOf (Refused n p) = p
+
+-- k where the test holds, and else the refusal n at p
+unfoldable pub must : Bool → ℕ → ℕ → Verdict → Verdict
+must true n p k = k
+must false n p k = Refused n p
+
+-- the first refusal of the two
+unfoldable pub chain : Verdict → Verdict → Verdict
+chain (Valid e) k = k
+chain (Refused n p) k = Refused n p
+
+-- go on from where the first ended, or its refusal
+unfoldable pub bind : Verdict → (ℕ → Verdict) → Verdict
+bind (Valid e) k = k e
+bind (Refused n p) k = Refused n p
+
+-- a where the test holds, and else b
+unfoldable pub pick : Bool → Verdict → Verdict → Verdict
+pick true a b = a
+pick false a b = b
+
+-- a verdict on a part that starts at p, said of the whole
+unfoldable pub shift : ℕ → Verdict → Verdict
+shift p (Valid e) = Valid (p + e)
+shift p (Refused n q) = Refused n (p + q)

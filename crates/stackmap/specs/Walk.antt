@@ -1,0 +1,30 @@
+-- Where a walk over the records stands among the functions.
+use Prim.Native.Nat.{ℕ, _+_, _*_, _-_, _≤_, _<_}
+use mathlib.Core.Path.{_≡_}
+use mathlib.Core.List.{List, _++_}
+use lib.ListN.{length, replicate}
+use Rattle.stackmap.specs.Layout.{headerSize, functionSize}
+use Rattle.stackmap.specs.Fields.{many}
+use Rattle.stackmap.specs.Section.{numFunctions, numRecords, constantsAt, readFunction, readFunctions, Owner, owners, counted}
+
+-- the first byte of function number i
+abbrev pub functionAt : ℕ → ℕ
+functionAt i = headerSize + functionSize * i
+
+unfoldable pub ownerAt : List ℕ → ℕ → Owner
+ownerAt s i = record { number = i; function = readFunction s (functionAt i) }
+
+-- the owners of the records still ahead: `left` records of the function before `next`, and those of all functions from `next` on
+unfoldable pub ahead : List ℕ → ℕ → ℕ → List Owner
+ahead s next left =
+    replicate left (ownerAt s (next - 1)) ++ owners next (many readFunction functionSize (numFunctions s - next) s (functionAt next))
+
+-- `left` records of the function before `next` are ahead, so there is such a function where any is left
+pub record Turning (s : List ℕ) (next left : ℕ) : Type 0 where
+  pub most : next ≤ numFunctions s
+  pub begun : 0 < left → 0 < next
+
+-- what the walk over a section relies on: the functions are inside, and their record counts add up
+pub record Walkable (s : List ℕ) : Type 0 where
+  pub inside : constantsAt s ≤ length s
+  pub adds-up : counted (readFunctions s) ≡ numRecords s

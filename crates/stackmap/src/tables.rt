@@ -1,0 +1,78 @@
+// The header, the functions and the constants.
+ghost use mathlib.Core.Path.{_≡_};
+ghost use Prim.Native.Nat.{_+_, _*_, _≤_};
+ghost use lib.ListN.{length};
+ghost use lib.Dec.{eqb};
+ghost use Rattle.stackmap.specs.Layout.{headerSize, functionSize};
+ghost use Rattle.stackmap.specs.Fields.{many};
+ghost use Rattle.stackmap.specs.Section.{readFunction, counted};
+ghost use Rattle.stackmap.specs.Check.{headerCheck, tablesCheck};
+use crate::Verdict;
+use crate::record;
+
+pub const HEADER_SIZE: usize = 16;
+pub const NUM_FUNCTIONS_AT: usize = 4;
+pub const NUM_CONSTANTS_AT: usize = 8;
+pub const NUM_RECORDS_AT: usize = 12;
+pub const FUNCTION_SIZE: usize = 24;
+pub const RECORD_COUNT_AT: usize = 16;
+const CONSTANT_SIZE: usize = 8;
+const VERSION: u8 = 3;
+const SECTION_MOST: usize = 16777216;
+
+pub fn header(s: &[u8]) -> Verdict
+    ensures { λ r. ⌜ r ≡ headerCheck (now (s .entry)) ⌝ }
+{
+    if s.len() < HEADER_SIZE {
+        return Verdict::Refused(1, 0);
+    }
+    if s.len() > SECTION_MOST {
+        return Verdict::Refused(1, 0);
+    }
+    if s[0] != VERSION {
+        return Verdict::Refused(2, 0);
+    }
+    record::zero_bytes(s, 1, 3)
+}
+
+// Whether the record counts of the first `functions` functions add up to `total`, exactly.
+fn counts_add_up(s: &[u8], functions: usize, total: u64) -> bool
+    requires { ⌜ headerSize + functionSize * functions ≤ length (now s) ⌝ }
+    ensures { λ r. ⌜ r ≡ eqb (counted (many readFunction functionSize functions (now (s .entry)) headerSize)) total ⌝ }
+{
+    let mut f: usize = HEADER_SIZE;
+    let mut left = functions;
+    let mut rest = total;
+    while left > 0 {
+        let count = wire::u64_at(s, f + RECORD_COUNT_AT);
+        if count > rest {
+            return false;
+        }
+        rest -= count;
+        f += FUNCTION_SIZE;
+        left -= 1;
+    }
+    rest == 0
+}
+
+pub fn tables(s: &[u8]) -> Verdict
+    requires { ⌜ headerSize ≤ length (now s) ⌝ }
+    ensures { λ r. ⌜ r ≡ tablesCheck (now (s .entry)) ⌝ }
+{
+    let functions = wire::u32_at(s, NUM_FUNCTIONS_AT) as usize;
+    let constants = wire::u32_at(s, NUM_CONSTANTS_AT) as usize;
+    let records = wire::u32_at(s, NUM_RECORDS_AT) as u64;
+    let after = HEADER_SIZE + FUNCTION_SIZE * functions;
+    if after > s.len() {
+        return Verdict::Refused(4, HEADER_SIZE + FUNCTION_SIZE * ((s.len() - HEADER_SIZE) / FUNCTION_SIZE));
+    }
+    let end = after + CONSTANT_SIZE * constants;
+    if end > s.len() {
+        return Verdict::Refused(4, after + CONSTANT_SIZE * ((s.len() - after) / CONSTANT_SIZE));
+    }
+    if counts_add_up(s, functions, records) {
+        Verdict::Valid(end)
+    } else {
+        Verdict::Refused(5, NUM_RECORDS_AT)
+    }
+}

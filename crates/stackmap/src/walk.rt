@@ -1,0 +1,68 @@
+// The walk over the records, each read from its own stretch of the section.
+ghost use mathlib.Core.Path.{_≡_};
+ghost use Prim.Native.Nat.{_+_, _*_, _≤_, _<_};
+ghost use lib.ListN.{length, drop};
+ghost use Rattle.stackmap.specs.Verdict.{shift};
+ghost use Rattle.stackmap.specs.Section.{numFunctions, numConstants, constantsAt, readFunctions, owners};
+ghost use Rattle.stackmap.specs.Record.{recordCheck};
+ghost use Rattle.stackmap.specs.Check.{recordsCheck};
+ghost use Rattle.stackmap.specs.Walk.{ahead, ownerAt, Turning, Walkable};
+use crate::Verdict;
+use crate::record;
+use crate::tables;
+
+// Which function owns the next record: the one before `next`, while `left` of its records are ahead.
+pub struct Turn {
+    pub next: usize,
+    pub left: u64,
+}
+
+// Passes over functions that have no record left, to the owner of the next record.
+pub fn owner(s: &[u8], turn: Turn) -> Turn
+    requires { ⌜ (constantsAt (now s) ≤ length (now s)) × Turning (now s) (turn .next) (turn .left) × (0 < length (ahead (now s) (turn .next) (turn .left))) ⌝ }
+    ensures { λ r. ⌜ (ahead (now (s .entry)) (r .next) (r .left) ≡ ahead (now (s .entry)) (turn .next) (turn .left)) × (0 < r .left) × (0 < r .next) × (r .next ≤ numFunctions (now (s .entry))) ⌝ }
+{
+    let mut next = turn.next;
+    let mut left = turn.left;
+    while left == 0 {
+        left = wire::u64_at(s, tables::HEADER_SIZE + tables::FUNCTION_SIZE * next + tables::RECORD_COUNT_AT);
+        next += 1;
+    }
+    Turn { next, left }
+}
+
+// The record at `at`, of function number `function`.
+pub fn record_at(s: &[u8], constants: u32, function: usize, at: usize) -> Verdict
+    requires { ⌜ (constantsAt (now s) ≤ length (now s)) × (function < numFunctions (now s)) × (at ≤ length (now s)) ⌝ }
+    ensures { λ r. ⌜ r ≡ shift at (recordCheck (drop at (now (s .entry))) constants (ownerAt (now (s .entry)) function .function .address)) ⌝ }
+{
+    let address = wire::u64_at(s, tables::HEADER_SIZE + tables::FUNCTION_SIZE * function);
+    match record::check_record(&s[at..], constants, address) {
+        Verdict::Refused(n, p) => Verdict::Refused(n, at + p),
+        Verdict::Valid(size) => Verdict::Valid(at + size),
+    }
+}
+
+// All records; the first stands at `at`.
+pub fn all_records(s: &[u8], at: usize) -> Verdict
+    requires { ⌜ Walkable (now s) × (at ≤ length (now s)) ⌝ }
+    ensures { λ r. ⌜ r ≡ recordsCheck (owners 0 (readFunctions (now (s .entry)))) (now (s .entry)) (numConstants (now (s .entry))) at ⌝ }
+{
+    let constants = wire::u32_at(s, tables::NUM_CONSTANTS_AT);
+    let mut remaining = wire::u32_at(s, tables::NUM_RECORDS_AT);
+    let mut turn = Turn { next: 0, left: 0 };
+    let mut p = at;
+    while remaining > 0 {
+        let t = owner(s, turn);
+        let next = t.next;
+        match record_at(s, constants, next - 1, p) {
+            Verdict::Refused(n, q) => return Verdict::Refused(n, q),
+            Verdict::Valid(end) => {
+                p = end;
+            }
+        }
+        turn = Turn { next, left: t.left - 1 };
+        remaining -= 1;
+    }
+    Verdict::Valid(p)
+}
