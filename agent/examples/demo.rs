@@ -25,7 +25,10 @@ fn main() -> ExitCode {
     }
     let mut code = ExitCode::SUCCESS;
     for file in files.iter().map(Path::new) {
-        let name = file.file_name().unwrap_or(file.as_os_str()).to_string_lossy();
+        let name = file
+            .file_name()
+            .unwrap_or(file.as_os_str())
+            .to_string_lossy();
         match report(file) {
             Ok(text) => println!("{name}: {text}"),
             Err(error) => {

@@ -59,7 +59,10 @@ impl Refusal {
 
     /// The cause in words.
     pub fn cause(&self) -> &'static str {
-        let index = self.number.checked_sub(1).and_then(|i| usize::try_from(i).ok());
+        let index = self
+            .number
+            .checked_sub(1)
+            .and_then(|i| usize::try_from(i).ok());
         match index.and_then(|i| CAUSES.get(i)) {
             Some(cause) => cause,
             None => "a cause that this version has no words for",
@@ -69,7 +72,13 @@ impl Refusal {
 
 impl fmt::Display for Refusal {
     fn fmt(&self, f: &mut fmt::Formatter<'_>) -> fmt::Result {
-        write!(f, "refused {} at {}: {}", self.number, self.place, self.cause())
+        write!(
+            f,
+            "refused {} at {}: {}",
+            self.number,
+            self.place,
+            self.cause()
+        )
     }
 }
 
@@ -90,11 +99,19 @@ mod tests {
 
     #[test]
     fn words_stand_beside_their_own_number() {
-        let words = [(10, "no record"), (13, "image"), (17, "256 pairs"), (20, "collision"), (24, "output")];
+        let words = [
+            (10, "no record"),
+            (13, "image"),
+            (17, "256 pairs"),
+            (20, "collision"),
+            (24, "output"),
+        ];
         for (number, start) in words {
             let refusal = Refusal::new(number, 3);
             assert!(refusal.cause().contains(start), "{refusal}");
-            assert!(refusal.to_string().starts_with(&format!("refused {number} at 3: ")));
+            assert!(refusal
+                .to_string()
+                .starts_with(&format!("refused {number} at 3: ")));
         }
     }
 
@@ -102,7 +119,10 @@ mod tests {
     fn numbers_beyond_the_table_still_print() {
         for number in [0, 25, u64::MAX] {
             let text = Refusal::new(number, 4).to_string();
-            assert!(text.starts_with(&format!("refused {number} at 4: a cause")), "{text}");
+            assert!(
+                text.starts_with(&format!("refused {number} at 4: a cause")),
+                "{text}"
+            );
         }
     }
 }

@@ -3,10 +3,11 @@
 //!
 //! The random sections follow from a seed. It is printed; `TRESKIBBEN_SEED` sets it.
 
-use generator::{edges, Case, Rng};
+use generator::{edges, largest, Case, Rng};
 use std::env;
 use std::fmt::Write as _;
 use std::io::Write as _;
+use std::panic::resume_unwind;
 use std::sync::atomic::{AtomicU64, Ordering};
 use std::thread;
 use std::time::{SystemTime, UNIX_EPOCH};
@@ -20,15 +21,19 @@ const LEAST: u64 = 1_000;
 /// How often each number was the answer; 0 is acceptance.
 type Counts = [u64; 10];
 
-/// Writes a line past the test's capture, so that it is seen whatever happens next.
-fn say(line: &str) {
-    let _ = writeln!(std::io::stderr(), "differential: {line}");
+/// Writes a text past the test's capture, so that it is seen whatever happens next.
+fn say(text: &str) {
+    let text = format!("differential: {text}\n");
+    let _ = std::io::stderr().write_all(text.as_bytes());
 }
 
 /// The seed that is asked for, or one from the clock.
 fn seed() -> u64 {
     match env::var("TRESKIBBEN_SEED") {
-        Ok(text) => text.trim().parse().expect("TRESKIBBEN_SEED is a number below 2^64"),
+        Ok(text) => text
+            .trim()
+            .parse()
+            .expect("TRESKIBBEN_SEED is a number below 2^64"),
         Err(_) => {
             let now = SystemTime::now().duration_since(UNIX_EPOCH);
             now.map_or(1, |since| since.as_nanos() as u64)
@@ -61,12 +66,17 @@ fn compare(case: &Case) -> u64 {
     };
     let known = case.answer.unwrap_or(second);
     if library != second || library != known {
-        say(&format!("a difference, in a section made as '{}':", case.name));
-        say(&hex(&case.bytes));
-        say(&format!("number and place by the library: {library:?}"));
-        say(&format!("by the second implementation: {second:?}"));
-        say(&format!("known beforehand: {:?}", case.answer));
-        panic!("library {library:?}, second implementation {second:?}, known {:?}", case.answer);
+        let answers = format!(
+            "(number, place) by the library {library:?}, by the second implementation {second:?}, \
+             known beforehand {:?}",
+            case.answer
+        );
+        say(&format!(
+            "a difference in '{}'\n{}\n{answers}",
+            case.name,
+            hex(&case.bytes)
+        ));
+        panic!("{answers}");
     }
     library.0
 }
@@ -94,24 +104,36 @@ fn random_sections() {
     let threads = thread::available_parallelism().map_or(2, usize::from);
     let mut counts = Counts::default();
     thread::scope(|scope| {
-        let workers: Vec<_> = (0..threads).map(|_| scope.spawn(|| work(seed, &next))).collect();
+        let workers: Vec<_> = (0..threads)
+            .map(|_| scope.spawn(|| work(seed, &next)))
+            .collect();
         for worker in workers {
-            let own = worker.join().expect("no difference");
-            counts.iter_mut().zip(own).for_each(|(sum, count)| *sum += count);
+            let own = worker.join().unwrap_or_else(|panic| resume_unwind(panic));
+            counts
+                .iter_mut()
+                .zip(own)
+                .for_each(|(sum, count)| *sum += count);
         }
     });
-    say(&format!("{} sections, {} accepted", counts.iter().sum::<u64>(), counts[0]));
+    say(&format!(
+        "{} sections, {} accepted",
+        counts.iter().sum::<u64>(),
+        counts[0]
+    ));
     say(&format!("refused by 1 to 9: {:?}", &counts[1..]));
     assert!(counts.iter().sum::<u64>() >= 1_000_000);
     for (number, count) in counts.iter().enumerate() {
-        assert!(*count >= LEAST, "{number} was the answer only {count} times");
+        assert!(
+            *count >= LEAST,
+            "{number} was the answer only {count} times"
+        );
     }
 }
 
 #[test]
 fn edges_of_the_rules() {
     let mut cases = 0;
-    edges::small(&mut |case| {
+    edges::all(&mut |case| {
         compare(&case);
         cases += 1;
     });
@@ -122,7 +144,7 @@ fn edges_of_the_rules() {
 fn largest_sections() {
     let seed = seed();
     say(&format!("largest sections of TRESKIBBEN_SEED={seed}"));
-    edges::large(seed, &mut |case| {
+    largest::all(seed, &mut |case| {
         compare(&case);
     });
 }

@@ -51,7 +51,12 @@ fn each_refusal_prints_number_place_and_cause() {
         let refusal = check(&bytes).unwrap_err();
         assert_eq!(refusal.to_string(), text);
         assert_eq!(refusal.number(), nth as u64 + 1);
-        let parts = format!("refused {} at {}: {}", refusal.number(), refusal.place(), refusal.cause());
+        let parts = format!(
+            "refused {} at {}: {}",
+            refusal.number(),
+            refusal.place(),
+            refusal.cause()
+        );
         assert_eq!(parts, text);
     }
 }
@@ -71,7 +76,10 @@ fn a_refusal_is_an_error() {
 
 #[test]
 fn refusals_are_equal_where_number_and_place_are() {
-    let all: Vec<Refusal> = refused().iter().map(|(bytes, _)| check(bytes).unwrap_err()).collect();
+    let all: Vec<Refusal> = refused()
+        .iter()
+        .map(|(bytes, _)| check(bytes).unwrap_err())
+        .collect();
     let set: HashSet<Refusal> = all.iter().copied().collect();
     assert_eq!(set.len(), all.len());
     let again = check(&[]).unwrap_err();

@@ -82,14 +82,33 @@ fn samples_are_the_rows() {
 
 #[test]
 fn the_generator_writes_row_h() {
-    let constant = Location { kind: 4, size: 8, register: 0, offset: 0 };
-    let slot = |offset| Location { kind: 3, size: 8, register: 7, offset };
+    let constant = Location {
+        kind: 4,
+        size: 8,
+        register: 0,
+        offset: 0,
+    };
+    let slot = |offset| Location {
+        kind: 3,
+        size: 8,
+        register: 7,
+        offset,
+    };
     let mut locations = vec![constant; 3];
     locations.extend([8, 8, 8, 16].map(slot));
     let section = Section {
-        functions: vec![Function { address: 0x1000, stack_size: 24, record_count: 1 }],
+        functions: vec![Function {
+            address: 0x1000,
+            stack_size: 24,
+            record_count: 1,
+        }],
         constants: vec![],
-        records: vec![Record { id: 7, offset: 0x20, locations, live_outs: vec![] }],
+        records: vec![Record {
+            id: 7,
+            offset: 0x20,
+            locations,
+            live_outs: vec![],
+        }],
     };
     assert_eq!(section.encode(), H);
     assert_eq!(section.length(), H.len());

@@ -1,7 +1,7 @@
 //! Damages that aim at one refusal. On a section without fault each gives exactly that refusal,
 //! and says at which place.
 
-use crate::layout::{Built, Section, COUNTS, CONSTANT, FUNCTION, HEADER};
+use crate::layout::{Built, Section, CONSTANT, COUNTS, FUNCTION, HEADER};
 use crate::rng::Rng;
 
 /// The largest number of locations, or of live-outs, that a record can state.
@@ -41,7 +41,11 @@ fn not_zero(rng: &mut Rng, built: &mut Built) -> Option<usize> {
     let mut first = usize::MAX;
     let records = built.zeros.len() > 3 && !rng.one_in(6);
     for _ in 0..=rng.below(3) {
-        let nth = if records { 3 + rng.below(built.zeros.len() - 3) } else { rng.below(3) };
+        let nth = if records {
+            3 + rng.below(built.zeros.len() - 3)
+        } else {
+            rng.below(3)
+        };
         let place = built.zeros[nth];
         let value = rng.pick(&[1, 2, 3, 0x80, 0xff]);
         built.set(place, 1, value);
@@ -87,7 +91,10 @@ fn many_constants(rng: &mut Rng, section: &Section, built: &mut Built) -> Option
 }
 
 fn many_locations(rng: &mut Rng, built: &mut Built) -> Option<usize> {
-    let start = built.records.get(rng.below(built.records.len().max(1)))?.start;
+    let start = built
+        .records
+        .get(rng.below(built.records.len().max(1)))?
+        .start;
     let inside = built.bytes.len().checked_sub(start + 20)? / 12;
     let count = above(rng, inside.min(MOST), 16)?;
     built.set(start + 14, 2, count);
@@ -95,7 +102,10 @@ fn many_locations(rng: &mut Rng, built: &mut Built) -> Option<usize> {
 }
 
 fn many_live_outs(rng: &mut Rng, built: &mut Built) -> Option<usize> {
-    let spot = built.records.get(rng.below(built.records.len().max(1)))?.clone();
+    let spot = built
+        .records
+        .get(rng.below(built.records.len().max(1)))?
+        .clone();
     let inside = built.bytes.len().checked_sub(spot.out_count + 2)? / 4;
     let count = above(rng, inside.min(MOST), 16)?;
     built.set(spot.out_count, 2, count);
@@ -123,7 +133,9 @@ pub fn item_at(section: &Section, built: &Built, place: usize) -> usize {
         place - (place - constants) % CONSTANT
     } else {
         let after = built.records.partition_point(|r| r.start <= place);
-        after.checked_sub(1).map_or(place, |nth| built.records[nth].start)
+        after
+            .checked_sub(1)
+            .map_or(place, |nth| built.records[nth].start)
     }
 }
 
@@ -137,11 +149,19 @@ fn counts(rng: &mut Rng, section: &Section, built: &mut Built) -> Option<usize> 
             let nth = rng.below(functions);
             let old = section.functions[nth].record_count;
             let large = [old + (1 << 32), old + (1 << 63), u64::MAX, u64::MAX - old];
-            let new = if rng.one_in(2) { beside(rng, old) } else { rng.pick(&large) };
+            let new = if rng.one_in(2) {
+                beside(rng, old)
+            } else {
+                rng.pick(&large)
+            };
             built.set(HEADER + FUNCTION * nth + 16, 8, new);
         }
         _ => {
-            let new = if rng.one_in(2) { beside(rng, records) } else { u64::from(u32::MAX) };
+            let new = if rng.one_in(2) {
+                beside(rng, records)
+            } else {
+                u64::from(u32::MAX)
+            };
             built.set(COUNTS[2], 4, new);
         }
     }
@@ -170,7 +190,9 @@ fn wrapping_counts(rng: &mut Rng, section: &Section, built: &mut Built) {
 }
 
 fn kind(rng: &mut Rng, built: &mut Built) -> Option<usize> {
-    let place = *built.locations.get(rng.below(built.locations.len().max(1)))?;
+    let place = *built
+        .locations
+        .get(rng.below(built.locations.len().max(1)))?;
     let kind = rng.pick(&[0, 6, 7, 0x80, 0x85, 0xff]);
     built.set(place, 1, kind);
     Some(place)
@@ -178,9 +200,19 @@ fn kind(rng: &mut Rng, built: &mut Built) -> Option<usize> {
 
 /// An index at or beyond the pool's end, or one that is negative.
 fn const_index(rng: &mut Rng, section: &Section, built: &mut Built) -> Option<usize> {
-    let place = *built.locations.get(rng.below(built.locations.len().max(1)))?;
+    let place = *built
+        .locations
+        .get(rng.below(built.locations.len().max(1)))?;
     let pool = section.constants.len() as u64;
-    let edges = [pool, pool, pool + 1, 0x7fff_ffff, 0x8000_0000, 0x8000_0001, 0xffff_ffff];
+    let edges = [
+        pool,
+        pool,
+        pool + 1,
+        0x7fff_ffff,
+        0x8000_0000,
+        0x8000_0001,
+        0xffff_ffff,
+    ];
     let index = rng.pick(&edges);
     built.set(place, 1, 5);
     built.set(place + 8, 4, index);
@@ -197,10 +229,16 @@ fn address(rng: &mut Rng, section: &Section, built: &mut Built) -> Option<usize>
         built.set(built.records[record].start + 8, 4, offsets[record].into());
     }
     let least = u64::MAX - u64::from(offsets[record]) + 1;
-    let address = if rng.one_in(2) { least } else { least + rng.number(32).min(u64::MAX - least) };
+    let address = if rng.one_in(2) {
+        least
+    } else {
+        least + rng.number(32).min(u64::MAX - least)
+    };
     built.set(HEADER + FUNCTION * owner, 8, address);
     let beyond = |r: &usize| u64::from(offsets[*r]) > u64::MAX - address;
-    (first..=record).find(beyond).map(|r| built.records[r].start)
+    (first..=record)
+        .find(beyond)
+        .map(|r| built.records[r].start)
 }
 
 /// The function that a record belongs to, and the first record of that function.

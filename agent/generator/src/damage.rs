@@ -31,19 +31,31 @@ fn flip_bits(rng: &mut Rng, bytes: &mut [u8]) {
 
 fn set_byte(rng: &mut Rng, bytes: &mut [u8]) {
     if !bytes.is_empty() {
-        bytes[rng.below(bytes.len())] = if rng.one_in(3) { rng.byte() } else { rng.pick(&BYTES) };
+        bytes[rng.below(bytes.len())] = if rng.one_in(3) {
+            rng.byte()
+        } else {
+            rng.pick(&BYTES)
+        };
     }
 }
 
 fn cut(rng: &mut Rng, bytes: &mut Vec<u8>) {
     let end = bytes.len();
-    let length = if rng.one_in(2) { end - rng.below(end.min(24) + 1) } else { rng.below(end + 1) };
+    let length = if rng.one_in(2) {
+        end - rng.below(end.min(24) + 1)
+    } else {
+        rng.below(end + 1)
+    };
     bytes.truncate(length);
 }
 
 /// Puts bytes in, at the end or anywhere.
 fn grow(rng: &mut Rng, bytes: &mut Vec<u8>, other: &[u8]) {
-    let place = if rng.one_in(2) { bytes.len() } else { rng.below(bytes.len() + 1) };
+    let place = if rng.one_in(2) {
+        bytes.len()
+    } else {
+        rng.below(bytes.len() + 1)
+    };
     let count = rng.pick(&[1, 2, 4, 8, 12, 16, 24]);
     let piece = match rng.below(3) {
         0 => vec![0; count],
@@ -56,9 +68,11 @@ fn grow(rng: &mut Rng, bytes: &mut Vec<u8>, other: &[u8]) {
 /// Exchanges two counts of the header, of two functions, or of one record.
 fn swap_counts(rng: &mut Rng, built: &mut Built) {
     let (one, two, width) = match rng.below(3) {
-        0 if !built.functions.is_empty() => {
-            (rng.pick(&built.functions) + 16, rng.pick(&built.functions) + 16, 8)
-        }
+        0 if !built.functions.is_empty() => (
+            rng.pick(&built.functions) + 16,
+            rng.pick(&built.functions) + 16,
+            8,
+        ),
         1 if !built.records.is_empty() => {
             let spot = &built.records[rng.below(built.records.len())];
             (spot.start + 14, spot.out_count, 2)
@@ -75,7 +89,11 @@ fn swap_counts(rng: &mut Rng, built: &mut Built) {
 /// Sets a number to one beside it, or to one at an edge of its width.
 fn set_number(rng: &mut Rng, built: &mut Built) {
     let counts = [(COUNTS[0], 4), (COUNTS[1], 4), (COUNTS[2], 4)];
-    let from = if rng.one_in(4) { &counts[..] } else { &built.numbers[..] };
+    let from = if rng.one_in(4) {
+        &counts[..]
+    } else {
+        &built.numbers[..]
+    };
     let (place, width) = rng.pick(from);
     let mut old = [0; 8];
     match built.bytes.get(place..place + width) {
@@ -126,10 +144,13 @@ fn scramble(rng: &mut Rng, built: &mut Built) {
     let end = built.bytes.len();
     let (start, count) = match rng.below(4) {
         0 if !built.locations.is_empty() => (rng.pick(&built.locations), 12),
-        1 if !built.records.is_empty() => (built.records[rng.below(built.records.len())].start + 8, 8),
-        2 if !built.records.is_empty() => {
-            (built.records[rng.below(built.records.len())].out_count - 6, 16)
+        1 if !built.records.is_empty() => {
+            (built.records[rng.below(built.records.len())].start + 8, 8)
         }
+        2 if !built.records.is_empty() => (
+            built.records[rng.below(built.records.len())].out_count - 6,
+            16,
+        ),
         _ => (rng.below(end + 1), 16),
     };
     for place in start..(start + count).min(end) {

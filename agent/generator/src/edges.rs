@@ -1,15 +1,14 @@
-//! Sections at the edges of the rules, the same in every run.
+//! Small sections at the edges of the rules, the same in every run.
 
 use crate::aimed::item_at;
-use crate::layout::{Function, LiveOut, Location, Record, Section, COUNTS, HEADER, LARGEST};
-use crate::rng::Rng;
-use crate::{valid, Case};
+use crate::layout::{Function, LiveOut, Location, Record, Section, COUNTS, HEADER};
+use crate::Case;
 
 /// What the cases are handed to, one by one.
 pub type Visit<'a> = &'a mut dyn FnMut(Case);
 
-/// The small cases.
-pub fn small(visit: Visit) {
+/// Hands over all of them.
+pub fn all(visit: Visit) {
     lengths(visit);
     header_counts(visit);
     sums(visit);
@@ -31,15 +30,35 @@ fn version_and_zeros(length: usize) -> Vec<u8> {
 
 fn lengths(visit: Visit) {
     for length in 0..16 {
-        visit(Case::known("under 16 bytes", version_and_zeros(length), 1, 0));
-        visit(Case::known("under 16 bytes, all zero", vec![0; length], 1, 0));
-        visit(Case::known("under 16 bytes, all ones", vec![0xff; length], 1, 0));
+        visit(Case::known(
+            "under 16 bytes",
+            version_and_zeros(length),
+            1,
+            0,
+        ));
+        visit(Case::known(
+            "under 16 bytes, all zero",
+            vec![0; length],
+            1,
+            0,
+        ));
+        visit(Case::known(
+            "under 16 bytes, all ones",
+            vec![0xff; length],
+            1,
+            0,
+        ));
     }
     visit(Case::known("an empty section", version_and_zeros(16), 0, 0));
     for length in 16..80 {
         visit(Case::known("all zero", vec![0; length], 2, 0));
         visit(Case::known("all ones", vec![0xff; length], 2, 0));
-        visit(Case::known("after the end", version_and_zeros(length + 1), 9, 16));
+        visit(Case::known(
+            "after the end",
+            version_and_zeros(length + 1),
+            9,
+            16,
+        ));
     }
 }
 
@@ -57,9 +76,24 @@ fn header_counts(visit: Visit) {
     for length in 0..200 {
         let functions = 16 + length / 24 * 24;
         let constants = 16 + length / 8 * 8;
-        visit(Case::known("functions", header([MAX, 0, 0], length), 4, functions));
-        visit(Case::known("functions first", header([MAX, MAX, MAX], length), 4, functions));
-        visit(Case::known("constants", header([0, MAX, MAX], length), 4, constants));
+        visit(Case::known(
+            "functions",
+            header([MAX, 0, 0], length),
+            4,
+            functions,
+        ));
+        visit(Case::known(
+            "functions first",
+            header([MAX, MAX, MAX], length),
+            4,
+            functions,
+        ));
+        visit(Case::known(
+            "constants",
+            header([0, MAX, MAX], length),
+            4,
+            constants,
+        ));
         visit(Case::known("records", header([0, 0, MAX], length), 5, 12));
         for count in [0, 1, 2, 0x0aaa_aaaa, 0x1fff_ffff, 0x2000_0000, 0x8000_0000] {
             visit(Case::open("counts", header([count, 1, 0], length)));
@@ -71,10 +105,16 @@ fn header_counts(visit: Visit) {
 
 /// Functions with these record counts, and NumRecords, and one record that nobody reaches.
 fn counted(counts: &[u64], records: u32) -> Vec<u8> {
-    let function = |count: &u64| Function { address: 0, stack_size: 0, record_count: *count };
-    let mut section = Section::default();
-    section.functions = counts.iter().map(function).collect();
-    section.records = vec![record(0, 1, 1)];
+    let function = |count: &u64| Function {
+        address: 0,
+        stack_size: 0,
+        record_count: *count,
+    };
+    let section = Section {
+        functions: counts.iter().map(function).collect(),
+        constants: vec![],
+        records: vec![record(0, 1, 1)],
+    };
     let mut bytes = section.encode();
     bytes[COUNTS[2]..16].copy_from_slice(&records.to_le_bytes());
     bytes
@@ -98,37 +138,86 @@ fn sums(visit: Visit) {
         (&[MAX], u32::MAX),
     ];
     for (counts, records) in sums {
-        visit(Case::known("sums past the width", counted(counts, records), 5, 12));
+        visit(Case::known(
+            "sums past the width",
+            counted(counts, records),
+            5,
+            12,
+        ));
     }
-    visit(Case::known("a record to the last", counted(&[0, 0, 1], 1), 0, 0));
-    visit(Case::known("two records stated", counted(&[0, 2, 0], 2), 4, 88 + 40));
+    visit(Case::known(
+        "a record to the last",
+        counted(&[0, 0, 1], 1),
+        0,
+        0,
+    ));
+    visit(Case::known(
+        "two records stated",
+        counted(&[0, 2, 0], 2),
+        4,
+        88 + 40,
+    ));
 }
 
 /// A record with so many locations and live-outs.
-fn record(offset: u32, locations: usize, live_outs: usize) -> Record {
-    let location = Location { kind: 3, size: 8, register: 7, offset: 8 };
+pub fn record(offset: u32, locations: usize, live_outs: usize) -> Record {
+    let location = Location {
+        kind: 3,
+        size: 8,
+        register: 7,
+        offset: 8,
+    };
     Record {
         id: 7,
         offset,
         locations: vec![location; locations],
-        live_outs: vec![LiveOut { register: 6, size: 8 }; live_outs],
+        live_outs: vec![
+            LiveOut {
+                register: 6,
+                size: 8
+            };
+            live_outs
+        ],
     }
 }
 
 /// A section with every part: functions with no, one and several records, constants, odd and even
 /// numbers of locations and live-outs, and all five kinds.
 pub fn every_part() -> Section {
-    let function = |address, record_count| Function { address, stack_size: 24, record_count };
+    let function = |address, record_count| Function {
+        address,
+        stack_size: 24,
+        record_count,
+    };
     let mut section = Section {
-        functions: vec![function(u64::MAX, 0), function(0x1000, 3), function(u64::MAX - 9, 1)],
+        functions: vec![
+            function(u64::MAX, 0),
+            function(0x1000, 3),
+            function(u64::MAX - 9, 1),
+        ],
         constants: vec![0, u64::MAX],
-        records: vec![record(0, 0, 0), record(4, 3, 2), record(4, 2, 1), record(9, 1, 0)],
+        records: vec![
+            record(0, 0, 0),
+            record(4, 3, 2),
+            record(4, 2, 1),
+            record(9, 1, 0),
+        ],
     };
     for (i, location) in section.records[1].locations.iter_mut().enumerate() {
-        *location = Location { kind: i as u8 + 1, size: 0, register: 0xffff, offset: u32::MAX };
+        *location = Location {
+            kind: i as u8 + 1,
+            size: 0,
+            register: 0xffff,
+            offset: u32::MAX,
+        };
     }
     section.records[2].locations[0].kind = 4;
-    section.records[2].locations[1] = Location { kind: 5, size: 8, register: 0, offset: 1 };
+    section.records[2].locations[1] = Location {
+        kind: 5,
+        size: 8,
+        register: 0,
+        offset: 1,
+    };
     section
 }
 
@@ -142,29 +231,72 @@ fn cuts(visit: Visit) {
         if length < HEADER {
             visit(Case::known("cut header", cut, 1, 0));
         } else {
-            visit(Case::known("cut", cut, 4, item_at(&section, &built, length)));
+            visit(Case::known(
+                "cut",
+                cut,
+                4,
+                item_at(&section, &built, length),
+            ));
         }
     }
 }
 
 fn addresses(visit: Visit) {
     const MAX: u64 = u64::MAX;
-    let cases = [(MAX, 0, 0), (MAX, 1, 8), (MAX - 1, 1, 0), (MAX - 1, 2, 8), (MAX, u32::MAX, 8)];
-    let wide = [(MAX - 0xffff_ffff, u32::MAX, 0), (MAX - 0xffff_fffe, u32::MAX, 8), (0, u32::MAX, 0)];
+    let cases = [
+        (MAX, 0, 0),
+        (MAX, 1, 8),
+        (MAX - 1, 1, 0),
+        (MAX - 1, 2, 8),
+        (MAX, u32::MAX, 8),
+    ];
+    let wide = [
+        (MAX - 0xffff_ffff, u32::MAX, 0),
+        (MAX - 0xffff_fffe, u32::MAX, 8),
+        (0, u32::MAX, 0),
+    ];
     for (address, offset, number) in cases.into_iter().chain(wide) {
-        let functions = vec![Function { address, stack_size: MAX, record_count: 1 }];
+        let functions = vec![Function {
+            address,
+            stack_size: MAX,
+            record_count: 1,
+        }];
         let records = vec![record(offset, 2, 3)];
-        let section = Section { functions, constants: vec![], records };
-        visit(Case::known("address", section.encode(), number, if number == 0 { 0 } else { 40 }));
+        let section = Section {
+            functions,
+            constants: vec![],
+            records,
+        };
+        visit(Case::known(
+            "address",
+            section.encode(),
+            number,
+            if number == 0 { 0 } else { 40 },
+        ));
     }
 }
 
 fn pools(visit: Visit) {
     for pool in 0..4 {
-        for index in [0, 1, 2, 3, 4, 0x7fff_ffff, 0x8000_0000, 0x8000_0001, 0xffff_ffff] {
+        for index in [
+            0,
+            1,
+            2,
+            3,
+            4,
+            0x7fff_ffff,
+            0x8000_0000,
+            0x8000_0001,
+            0xffff_ffff,
+        ] {
             let mut section = every_part();
             section.constants = vec![0; pool];
-            let location = Location { kind: 5, size: 0, register: 0, offset: index };
+            let location = Location {
+                kind: 5,
+                size: 0,
+                register: 0,
+                offset: index,
+            };
             section.records[2].locations = vec![location];
             let fault = index as usize >= pool;
             let place = 16 + 3 * 24 + 8 * pool + 24 + 72 + 16;
@@ -182,14 +314,24 @@ fn full_record(visit: Visit) {
     let start = built.records[1].start;
     let last = built.records[2].start - 1;
     visit(Case::known("full record", built.bytes.clone(), 0, 0));
-    visit(Case::known("full record, cut", built.bytes[..last].to_vec(), 4, start));
+    visit(Case::known(
+        "full record, cut",
+        built.bytes[..last].to_vec(),
+        4,
+        start,
+    ));
     let mut kind = built.clone();
     let place = built.locations[65_534];
     kind.set(place, 1, 6);
     visit(Case::known("full record, last kind", kind.bytes, 6, place));
     let mut zero = built;
     zero.set(last - 1, 1, 1);
-    visit(Case::known("full record, last live-out", zero.bytes, 3, last - 1));
+    visit(Case::known(
+        "full record, last live-out",
+        zero.bytes,
+        3,
+        last - 1,
+    ));
 }
 
 /// Each byte of a section at each value.
@@ -202,41 +344,4 @@ fn single_bytes(visit: Visit) {
             visit(Case::open("one byte", changed));
         }
     }
-}
-
-/// The largest sections, and ones that are a byte too long.
-pub fn large(seed: u64, visit: Visit) {
-    for (first, number, place) in [(0, 2, 0), (3, 9, 16)] {
-        let mut bytes = vec![0; LARGEST];
-        bytes[0] = first;
-        visit(Case::known("largest, zeros", bytes.clone(), number, place));
-        bytes.push(0);
-        visit(Case::known("over the largest, zeros", bytes, 1, 0));
-    }
-    visit(Case::known("largest, ones", vec![0xff; LARGEST], 2, 0));
-    visit(Case::known("over the largest, ones", vec![0xff; LARGEST + 1], 1, 0));
-    let function = Function { address: 0, stack_size: 0, record_count: 0 };
-    let owner = Function { record_count: 699_049, ..function.clone() };
-    let mut section = Section::default();
-    section.functions = vec![function; 699_050];
-    full(section, visit);
-    let mut section = Section::default();
-    section.constants = vec![5; 2_097_150];
-    full(section, visit);
-    let mut section = Section::default();
-    section.functions = vec![owner];
-    section.records = vec![record(3, 0, 0); 699_049];
-    full(section, visit);
-    full(valid::of_length(&mut Rng::new(seed), LARGEST), visit);
-}
-
-/// A section of exactly the largest length, whole, cut and grown.
-fn full(section: Section, visit: Visit) {
-    let mut bytes = section.encode();
-    assert_eq!(bytes.len(), LARGEST);
-    visit(Case::known("largest", bytes.clone(), 0, 0));
-    bytes.push(0);
-    visit(Case::known("over the largest", bytes.clone(), 1, 0));
-    bytes.truncate(LARGEST - 1);
-    visit(Case::open("largest, cut", bytes));
 }

@@ -139,10 +139,7 @@ impl Built {
         self.zeros(2);
         self.number(2, record.locations.len() as u64);
         record.locations.iter().for_each(|l| self.location(l));
-        if record.locations.len() % 2 == 1 {
-            self.zeros(4);
-        }
-        self.zeros(2);
+        self.zeros(4 * (record.locations.len() % 2) + 2);
         let out_count = self.bytes.len();
         self.number(2, record.live_outs.len() as u64);
         for out in &record.live_outs {
@@ -150,9 +147,7 @@ impl Built {
             self.zeros(1);
             self.number(1, out.size.into());
         }
-        if record.live_outs.len() % 2 == 0 {
-            self.zeros(4);
-        }
+        self.zeros(4 * (1 - record.live_outs.len() % 2));
         if self.marked {
             self.records.push(Spot { start, out_count });
         }
@@ -177,7 +172,10 @@ impl Section {
     }
 
     fn written(&self, marked: bool) -> Built {
-        let mut built = Built { marked, ..Built::default() };
+        let mut built = Built {
+            marked,
+            ..Built::default()
+        };
         built.bytes.reserve_exact(self.length());
         built.number(1, 3);
         built.zeros(3);

@@ -7,6 +7,7 @@
 pub mod aimed;
 pub mod damage;
 pub mod edges;
+pub mod largest;
 pub mod layout;
 pub mod rng;
 pub mod valid;
@@ -27,12 +28,20 @@ pub struct Case {
 impl Case {
     /// A case with a known answer.
     pub fn known(name: &'static str, bytes: Vec<u8>, number: u64, place: usize) -> Case {
-        Case { name, bytes, answer: Some((number, place as u64)) }
+        Case {
+            name,
+            bytes,
+            answer: Some((number, place as u64)),
+        }
     }
 
     /// A case whose answer nobody has worked out.
     pub fn open(name: &'static str, bytes: Vec<u8>) -> Case {
-        Case { name, bytes, answer: None }
+        Case {
+            name,
+            bytes,
+            answer: None,
+        }
     }
 }
 
@@ -103,4 +112,42 @@ fn noise(rng: &mut Rng) -> Vec<u8> {
         bytes[0] = rng.byte();
     }
     bytes
+}
+
+#[cfg(test)]
+mod tests {
+    use super::*;
+
+    #[test]
+    fn a_seed_decides_every_case() {
+        let cases = |seed, part| {
+            let mut rng = Rng::part(seed, part);
+            (0..500).map(|_| case(&mut rng).bytes).collect::<Vec<_>>()
+        };
+        assert_eq!(cases(1, 0), cases(1, 0));
+        assert_ne!(cases(1, 0), cases(2, 0));
+        assert_ne!(cases(1, 0), cases(1, 1));
+    }
+
+    #[test]
+    fn lengths_are_as_asked_for() {
+        let mut rng = Rng::new(1);
+        for length in (16..4_000).step_by(8) {
+            let section = valid::of_length(&mut rng, length);
+            assert_eq!((section.length(), section.encode().len()), (length, length));
+        }
+    }
+
+    #[test]
+    fn aims_leave_a_section_whole_where_they_fail() {
+        let mut rng = Rng::new(1);
+        for number in 1..=9 {
+            for _ in 0..500 {
+                let section = valid::section(&mut rng);
+                let mut built = section.build();
+                let hit = aimed::aim(&mut rng, number, &section, &mut built).is_some();
+                assert_eq!(hit, built.bytes != section.encode(), "{number}");
+            }
+        }
+    }
 }

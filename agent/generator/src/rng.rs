@@ -18,7 +18,9 @@ impl Rng {
     /// The source of this seed.
     pub fn new(seed: u64) -> Rng {
         let mut s = seed;
-        Rng { state: [(); 4].map(|()| splitmix(&mut s)) }
+        Rng {
+            state: [(); 4].map(|()| splitmix(&mut s)),
+        }
     }
 
     /// One of many sources of a seed, so that threads can share the work and each part stays the

@@ -55,7 +55,11 @@ fn stack_size(rng: &mut Rng) -> u64 {
 
 /// A location of a section with so many constants.
 fn location(rng: &mut Rng, constants: usize) -> Location {
-    let kinds: &[u8] = if constants > 0 { &[1, 2, 3, 4, 5, 5] } else { &[1, 2, 3, 4] };
+    let kinds: &[u8] = if constants > 0 {
+        &[1, 2, 3, 4, 5, 5]
+    } else {
+        &[1, 2, 3, 4]
+    };
     let kind = rng.pick(kinds);
     let offset = match kind {
         5 if rng.one_in(2) => constants - 1,
@@ -73,15 +77,24 @@ fn location(rng: &mut Rng, constants: usize) -> Location {
 /// A record of a function at `address`, so that its own address is at most 2^64 - 1.
 fn record(rng: &mut Rng, shape: &Shape, address: u64) -> Record {
     let room = (u64::MAX - address).min(u64::from(u32::MAX));
-    let offset = if rng.one_in(4) { room } else { rng.number(32).min(room) };
+    let offset = if rng.one_in(4) {
+        room
+    } else {
+        rng.number(32).min(room)
+    };
     let locations = rng.below(shape.locations + 1);
     let live_outs = rng.below(shape.live_outs + 1);
     Record {
         id: rng.number(64),
         offset: offset as u32,
-        locations: (0..locations).map(|_| location(rng, shape.constants)).collect(),
+        locations: (0..locations)
+            .map(|_| location(rng, shape.constants))
+            .collect(),
         live_outs: (0..live_outs)
-            .map(|_| LiveOut { register: rng.number(16) as u16, size: rng.number(8) as u8 })
+            .map(|_| LiveOut {
+                register: rng.number(16) as u16,
+                size: rng.number(8) as u8,
+            })
             .collect(),
     }
 }
@@ -92,7 +105,11 @@ pub fn shaped(rng: &mut Rng, shape: &Shape) -> Section {
     let mut section = Section::default();
     for _ in 0..shape.functions {
         let (address, stack_size) = (address(rng), stack_size(rng));
-        section.functions.push(Function { address, stack_size, record_count: 0 });
+        section.functions.push(Function {
+            address,
+            stack_size,
+            record_count: 0,
+        });
     }
     section.constants = (0..shape.constants).map(|_| rng.number(64)).collect();
     if shape.functions == 0 {
@@ -119,8 +136,14 @@ pub fn section(rng: &mut Rng) -> Section {
 /// eight locations and four live-outs, one function to every eight records or so, and constants
 /// where a record no longer fits.
 pub fn of_length(rng: &mut Rng, length: usize) -> Section {
-    assert!(length >= HEADER && length % 8 == 0, "no section has {length} bytes");
-    let shape = Shape { functions: 1, constants: 16, records: 0, locations: 8, live_outs: 4 };
+    assert_eq!(length % 8, 0, "a section's length is a multiple of 8");
+    let shape = Shape {
+        functions: 1,
+        constants: 16,
+        records: 0,
+        locations: 8,
+        live_outs: 4,
+    };
     let mut section = Section::default();
     let mut left = length - HEADER;
     if left >= CONSTANT * shape.constants {
@@ -128,7 +151,9 @@ pub fn of_length(rng: &mut Rng, length: usize) -> Section {
         left -= CONSTANT * shape.constants;
         fill(rng, &shape, &mut section, &mut left);
     }
-    section.constants.extend((0..left / CONSTANT).map(|_| rng.word()));
+    section
+        .constants
+        .extend((0..left / CONSTANT).map(|_| rng.word()));
     section
 }
 
@@ -136,7 +161,11 @@ pub fn of_length(rng: &mut Rng, length: usize) -> Section {
 fn fill(rng: &mut Rng, shape: &Shape, section: &mut Section, left: &mut usize) {
     while *left >= FUNCTION {
         let address = address(rng);
-        section.functions.push(Function { address, stack_size: stack_size(rng), record_count: 0 });
+        section.functions.push(Function {
+            address,
+            stack_size: stack_size(rng),
+            record_count: 0,
+        });
         *left -= FUNCTION;
         for _ in 0..rng.below(17) {
             let record = record(rng, shape, address);
@@ -145,7 +174,11 @@ fn fill(rng: &mut Rng, shape: &Shape, section: &mut Section, left: &mut usize) {
             }
             *left -= record.length();
             section.records.push(record);
-            section.functions.last_mut().expect("one was pushed").record_count += 1;
+            section
+                .functions
+                .last_mut()
+                .expect("one was pushed")
+                .record_count += 1;
         }
     }
 }

@@ -1,5 +1,5 @@
 -- The bytes of a section are read back as the section, and their refusal is the section's.
-use Prim.Native.Nat.{ℕ, zero, suc, _+_, _*_, _-_, _%_, _^_, _≤_, _<_}
+use Prim.Native.Nat.{ℕ, suc, _+_, _*_, _-_, _%_, _≤_}
 use mathlib.Core.Path.{_≡_, refl, sym, _∙_, ap}
 use mathlib.Core.List.{List, [], _∷_, _++_, append-nil}
 use mathlib.Core.Bool.{Bool, true, false}
@@ -13,7 +13,7 @@ use Rattle.wire.proofs.Laws.{word-drop}
 use Rattle.stackmap.specs.declared.Verdict.{Verdict}
 use Rattle.stackmap.specs.declared.Verdict.the-variants.{Valid, Refused}
 use Rattle.stackmap.specs.Verdict.{must, chain, bind, shift}
-use Rattle.stackmap.specs.Fields.{Field, _of_, size, all, many}
+use Rattle.stackmap.specs.Fields.{Field, _of_, size, all}
 use Rattle.stackmap.specs.Section.{Function, Record, Section, functionFields, constantFields, locationFields, liveOutFields, recordFields, sectionFields, encodeSection, Encodable, readFunction, readConstant, readLocation, readLiveOut, recordLength, readRecord, readRecords, readFunctions, readSection, Owner, owners, counted, Entry, address, entriesFrom, entriesOf}
 use Rattle.stackmap.specs.Record.{recordInside, recordBytes, recordCheck}
 use Rattle.stackmap.specs.Check.{headerCheck, tablesCheck, recordsCheck, sectionCheck}
@@ -85,16 +85,21 @@ module _ (r : Record) where
         padding = rw add-zero at (k₃ .1 .0);
         live-outs-num = rw (e₂) at (k₃ .1 .1 .0);
         live-outs-in = k₂ .1;
-        last = rw add-zero at (k₁ .1 .0)
+        last = rw add-zero at (k₁ .1 .0);
       }
 
   record-back : (s : List ℕ) → Has s 0 (recordFields r) → readRecord s ≡ r
   unfolding readRecord
   record-back s h =
       let p = parts s h in
-      rw (p .id, p .offset, p .locations-num, p .live-outs-num,
+      rw (
+        p .id,
+        p .offset,
+        p .locations-num,
+        p .live-outs-num,
         many-back locationFields readLocation 12 location-size s (location-back s) (r .locations) 16 (p .locations-in),
-        many-back liveOutFields readLiveOut 4 live-out-size s (live-out-back s) (r .liveOuts) _ (p .live-outs-in))
+        many-back liveOutFields readLiveOut 4 live-out-size s (live-out-back s) (r .liveOuts) _ (p .live-outs-in),
+      )
 
   record-long : (s : List ℕ) → Has s 0 (recordFields r) → recordLength s ≡ size (recordFields r)
   unfolding recordLength
@@ -107,11 +112,18 @@ unfolding recordCheck recordInside recordBytes entryFault address must chain
 record-fault e s c h l =
     let p = parts (e .body) s h in
     let b = e .body in
-    rw (record-long b s h, le-leb _ _ l, p .offset, zeros-back 2 s 12 (p .flags), p .locations-num, p .live-outs-num,
+    rw (
+      record-long b s h,
+      le-leb _ _ l,
+      p .offset,
+      zeros-back 2 s 12 (p .flags),
+      p .locations-num,
+      p .live-outs-num,
       locations-fault s c (b .locations) 16 (p .locations-in),
       zeros-back _ s _ (p .padding),
       live-outs-valid s (b .liveOuts) _ (p .live-outs-in),
-      zeros-back _ s _ (p .last))
+      zeros-back _ s _ (p .last),
+    )
 
 -- the walk
 
@@ -240,7 +252,7 @@ module _ (t : Section) (fit : Encodable t) where
         records-num = k₃ .0 .1 .1 .1 .1 .0;
         functions-in = k₃ .1;
         constants-in = k₂ .1;
-        records-in = k₁ .1
+        records-in = k₁ .1;
       }
 
   functions-read : readFunctions (encodeSection t) ≡ t .functions
@@ -254,9 +266,14 @@ module _ (t : Section) (fit : Encodable t) where
   unfolding readSection
   read-back =
       let w = whats in
-      rw (functions-read, w .functions-num, w .constants-num, w .records-num,
+      rw (
+        functions-read,
+        w .functions-num,
+        w .constants-num,
+        w .records-num,
         many-back constantFields readConstant 8 constant-size s (constant-back s) (t .constants) _ (w .constants-in),
-        records-back s (t .records) _ (w .records-in))
+        records-back s (t .records) _ (w .records-in),
+      )
 
   walk : eqb (counted (t .functions)) (length (t .records)) ≡ true
       → recordsCheck (owners 0 (t .functions)) s nc (16 + 24 * nf + 8 * nc) ≡ entriesFault nc (entriesOf t) (size (sectionFields t))
@@ -277,6 +294,16 @@ module _ (t : Section) (fit : Encodable t) where
       let l : 16 ≤ size (sectionFields t) = omega arith in
       let l₁ : 16 + 24 * nf ≤ size (sectionFields t) = omega arith in
       let l₂ : 16 + 24 * nf + 8 * nc ≤ size (sectionFields t) = omega arith in
-      rw (encoded-length, le-leb 16 _ l, v, zeros-back 3 s 1 (w .reserved), w .functions-num, w .constants-num, w .records-num,
-        functions-read, le-leb _ _ l₁, le-leb _ _ l₂)
+      rw (
+        encoded-length,
+        le-leb 16 _ l,
+        v,
+        zeros-back 3 s 1 (w .reserved),
+        w .functions-num,
+        w .constants-num,
+        w .records-num,
+        functions-read,
+        le-leb _ _ l₁,
+        le-leb _ _ l₂,
+      )
       (finish (leb (size (sectionFields t)) 16777216) (eqb (counted (t .functions)) (length (t .records))) _ _ _ (λ e. rw (walk e) (at-end _ _ (entries-valid _ _ _))))

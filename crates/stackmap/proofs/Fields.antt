@@ -1,12 +1,11 @@
 -- Numbers that stand in a list of bytes, both ways.
-use Prim.Native.Nat.{ℕ, zero, suc, _+_, _*_, _-_, _/_, _%_, _^_, _≤_, _<_}
-use mathlib.Core.Path.{_≡_, refl, sym, _∙_, ap, subst}
-use mathlib.Core.List.{List, [], _∷_, _++_, append-assoc, append-nil}
+use Prim.Native.Nat.{ℕ, zero, suc, _+_, _*_, _-_, _≤_}
+use mathlib.Core.Path.{_≡_, refl, ap}
+use mathlib.Core.List.{List, [], _∷_, _++_, append-assoc}
 use native.Mathlib.Omega.{arith}
-use native.Mathlib.Nat.{add-zero, zero-add, add-assoc, pow-suc, mul-suc}
-use native.Mathlib.Numerals.{add-one}
-use lib.ListN.{length, getD, drop, length-append, length-drop}
-use lib.Seq.{drop-cons, drop-drop, drop-append-seam, getD-drop}
+use native.Mathlib.Nat.{add-zero, zero-add, add-assoc, mul-suc}
+use lib.ListN.{length, drop, length-append}
+use lib.Seq.{drop-drop, drop-append-seam}
 use Rattle.wire.specs.Word.{Bytes, word, bytes}
 use Rattle.wire.proofs.Laws.{word-bound, word-reads, word-back, length-bytes}
 use Rattle.stackmap.specs.Fields.{Field, _of_, bytesOf, size, Fit, all, many}
@@ -65,8 +64,8 @@ fields-back s a o (f ∷ fs) xs v r =
     let q : drop (a + o) s ≡ bytes (f .width) (f .value) ++ (bytesOf fs ++ xs) = rw append-assoc at r in
     let l = length-bytes (f .width) (f .value) in
     let t : drop (a + (o + f .width)) s ≡ bytesOf fs ++ xs =
-        rw (← add-assoc a o (f .width), ← drop-drop (f .width) (a + o) s)
-        (drop-at-seam (drop (a + o) s) (bytes (f .width) (f .value)) (bytesOf fs ++ xs) (f .width) l q) in
+    rw (← add-assoc a o (f .width), ← drop-drop (f .width) (a + o) s)
+    (drop-at-seam (drop (a + o) s) (bytes (f .width) (f .value)) (bytesOf fs ++ xs) (f .width) l q) in
     (word-back s (a + o) (f .width) (f .value) _ (v .0) q, fields-back s a (o + f .width) fs xs (v .1) t)
 
 -- the numbers of a run of two parts

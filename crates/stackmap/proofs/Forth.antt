@@ -1,16 +1,15 @@
 -- The bytes of an accepted section are those of the section that is read from them.
-use Prim.Native.Nat.{ℕ, zero, suc, _+_, _*_, _-_, _%_, _^_, _≤_, _<_}
+use Prim.Native.Nat.{ℕ, zero, suc, _+_, _*_, _-_, _%_, _≤_}
 use mathlib.Core.Path.{_≡_, refl, sym, _∙_, ap}
 use mathlib.Core.List.{List, [], _∷_, _++_, append-nil}
 use native.Mathlib.Omega.{arith}
-use native.Mathlib.Nat.{add-zero, zero-add, add-assoc, suc-add}
+use native.Mathlib.Nat.{add-zero, zero-add, add-assoc}
 use borrow.Author.Tests.{leb-true, eqb-true}
 use lib.ListN.{length, getD, drop}
 use lib.Seq.{drop-length}
 use Rattle.wire.specs.Word.{Bytes, word}
 use Rattle.wire.proofs.Laws.{word-drop}
-use Rattle.stackmap.specs.declared.Verdict.{Verdict}
-use Rattle.stackmap.specs.declared.Verdict.the-variants.{Valid, Refused}
+use Rattle.stackmap.specs.declared.Verdict.the-variants.{Valid}
 use Rattle.stackmap.specs.Fields.{Field, _of_, size, all, many}
 use Rattle.stackmap.specs.Section.{functionFields, constantFields, locationFields, liveOutFields, recordFields, sectionFields, encodeSection, Encodable, numFunctions, numConstants, numRecords, constantsAt, recordsAt, readFunction, readConstant, readLocation, readLiveOut, numLocations, locationsEnd, numLiveOuts, recordLength, readRecord, readRecords, readFunctions, readSection, Owner, owners}
 use Rattle.stackmap.specs.Record.{zeros, locationCheck, locations, liveOuts, recordBytes, recordCheck}
@@ -106,9 +105,10 @@ module _ (s : List ℕ) where
   fields-read = rw (length-many locationFields readLocation 12 location-size, length-many liveOutFields readLiveOut 4 live-out-size)
 
   sizes : (size B ≡ 12 * n) × (size D ≡ 4 * m)
-  sizes =
-      (size-all locationFields 12 location-size _ ∙ rw (length-many locationFields readLocation 12 location-size),
-        size-all liveOutFields 4 live-out-size _ ∙ rw (length-many liveOutFields readLiveOut 4 live-out-size))
+  sizes = (
+    size-all locationFields 12 location-size _ ∙ rw (length-many locationFields readLocation 12 location-size),
+    size-all liveOutFields 4 live-out-size _ ∙ rw (length-many liveOutFields readLiveOut 4 live-out-size),
+  )
 
   pub read-size : size (recordFields (readRecord s)) ≡ recordLength s
   unfolding recordLength size
@@ -201,9 +201,10 @@ module _ (s : List ℕ) (e : ℕ) (k : sectionCheck s ≡ Valid e) where
   section-fields = rw (length-many functionFields readFunction 24 function-size, length-many constantFields readConstant 8 constant-size, length-records)
 
   tables : (size F ≡ 24 * nf) × (size K ≡ 8 * nc)
-  tables =
-      (size-all functionFields 24 function-size _ ∙ rw (length-many functionFields readFunction 24 function-size),
-        size-all constantFields 8 constant-size _ ∙ rw (length-many constantFields readConstant 8 constant-size))
+  tables = (
+    size-all functionFields 24 function-size _ ∙ rw (length-many functionFields readFunction 24 function-size),
+    size-all constantFields 8 constant-size _ ∙ rw (length-many constantFields readConstant 8 constant-size),
+  )
 
   -- what the check tells
   record Held : Type 0 where
@@ -230,7 +231,7 @@ module _ (s : List ℕ) (e : ℕ) (k : sectionCheck s ≡ Valid e) where
         reserved = zeros-word _ _ _ _ (must-rest _ _ _ _ _ h₂);
         walked = rw c at (records-stand s nc (length s) (owners 0 (readFunctions s)) (recordsAt s) (rw f at (b .1)));
         length-is = cc;
-        small = leb-true _ _ (must-held _ _ _ _ _ h₀)
+        small = leb-true _ _ (must-held _ _ _ _ _ h₀);
       }
 
   section-has : Has s 0 (sectionFields (readSection s))

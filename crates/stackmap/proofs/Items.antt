@@ -1,16 +1,14 @@
 -- The items of a section: their sizes, that they are read back, and that their check is that of the data.
-use Prim.Native.Nat.{ℕ, zero, suc, _+_, _*_, _^_}
+use Prim.Native.Nat.{ℕ, zero, suc, _+_, _*_}
 use mathlib.Core.Path.{_≡_, refl, sym, _∙_, ap}
 use mathlib.Core.List.{List, [], _∷_}
 use native.Mathlib.Omega.{arith}
 use native.Mathlib.Nat.{add-zero}
 use borrow.Author.Tests.{eq-eqb}
 use lib.ListN.{length, getD}
-use lib.Dec.{leb, ltb, eqb}
 use Rattle.wire.specs.Word.{word}
-use Rattle.stackmap.specs.declared.Verdict.{Verdict}
-use Rattle.stackmap.specs.declared.Verdict.the-variants.{Valid, Refused}
-use Rattle.stackmap.specs.Verdict.{must, chain}
+use Rattle.stackmap.specs.declared.Verdict.the-variants.{Valid}
+use Rattle.stackmap.specs.Verdict.{must}
 use Rattle.stackmap.specs.Fields.{size, all}
 use Rattle.stackmap.specs.Section.{Function, Location, LiveOut, functionFields, constantFields, locationFields, liveOutFields, readFunction, readConstant, readLocation, readLiveOut}
 use Rattle.stackmap.specs.Record.{zeros, locationCheck, locations, liveOuts}

@@ -1,13 +1,13 @@
 -- The owners ahead of a walk.
-use Prim.Native.Nat.{ℕ, zero, suc, _+_, _*_, _-_, _≤_, _<_}
-use mathlib.Core.Path.{_≡_, refl, sym, _∙_, ap}
-use mathlib.Core.List.{List, [], _∷_, _++_}
+use Prim.Native.Nat.{ℕ, zero, suc, _+_, _-_, _≤_, _<_}
+use mathlib.Core.Path.{_≡_, refl, _∙_}
+use mathlib.Core.List.{List, [], _∷_}
 use mathlib.Core.Bool.{Bool, true, false}
 use native.Mathlib.Omega.{arith}
 use native.Mathlib.Numerals.{add-one}
 use borrow.Author.Tests.{ltb-true, ltb-false}
 use lib.Dec.{ltb}
-use lib.ListN.{length, drop, replicate}
+use lib.ListN.{length, drop}
 use Rattle.stackmap.specs.declared.Verdict.the-variants.{Valid}
 use Rattle.stackmap.specs.Verdict.{bind, shift}
 use Rattle.stackmap.specs.Fields.{many}
@@ -69,7 +69,7 @@ module _ {s : List ℕ} {c at : ℕ} where
         turning = record { most = omega arith; begun = λ z. absurd (omega arith) };
         counted = start-length s w;
         inside = h;
-        same = rw (ahead-start s)
+        same = rw (ahead-start s);
       }
 
   -- the turn has passed on to the next record's owner
@@ -91,7 +91,7 @@ module _ {s : List ℕ} {c at : ℕ} where
           turning = record { most = m; begun = λ _. b };
           counted = omega arith;
           inside = (rw v at (at-within s c (ownerAt s (next′ - 1) .function .address) p (w .inside))) .most;
-          same = walk-here ∙ rw v
+          same = walk-here ∙ rw v;
         }
 
   pub walk-end : {next left p : ℕ} → Walking s c at next left 0 p → recordsCheck (owners 0 (readFunctions s)) s c at ≡ Valid p

@@ -1,5 +1,5 @@
 -- Accepted bytes and well-formed sections correspond one to one.
-use Prim.Native.Nat.{ℕ, zero, suc, _+_, _*_, _/_, _%_, _^_, _≤_, _<_}
+use Prim.Native.Nat.{ℕ, zero, suc, _+_, _*_, _/_, _^_, _<_}
 use mathlib.Core.Path.{_≡_, refl, sym, _∙_, ap}
 use mathlib.Core.List.{List, [], _∷_, _++_, List·Memᴰ, List·Memᴰ·head, List·Memᴰ·tail, List·Memᴰ·not-nil, List·Memᴰ·cases-cons}
 use mathlib.Core.Logic.{_⊎_, inl, inr}
@@ -7,10 +7,9 @@ use mathlib.Core.Bool.{Bool, true, false}
 use native.Mathlib.Omega.{arith}
 use borrow.Author.Tests.{lt-ltb, le-leb, eq-eqb, eqb-true, leb-true, ltb-true}
 use lib.ListN.{length, getD}
-use lib.Dec.{leb, ltb, eqb}
+use lib.Dec.{ltb, eqb}
 use Rattle.wire.specs.Word.{Bytes, bytes}
-use Rattle.stackmap.specs.declared.Verdict.{Verdict}
-use Rattle.stackmap.specs.declared.Verdict.the-variants.{Valid, Refused}
+use Rattle.stackmap.specs.declared.Verdict.the-variants.{Valid}
 use Rattle.stackmap.specs.Verdict.{must, chain, pick, shift}
 use Rattle.stackmap.specs.Fields.{Field, bytesOf, size}
 use Rattle.stackmap.specs.Section.{Location, Section, recordFields, sectionFields, encodeSection, Encodable, readSection, Entry, entriesOf}
@@ -41,7 +40,7 @@ module _ (c : ℕ) where
         kind-high = leb-true _ _ (must-held _ _ _ _ _ h₁);
         pool = λ k.
             let h₃ : must (ltb (l .offset) (2 ^ 31)) 7 at (must (ltb (l .offset) c) 7 at (Valid (at + 12))) ≡ Valid e = rw (eq-eqb _ _ k) at h₂ in
-            (ltb-true _ _ (must-held _ _ _ _ _ h₃), ltb-true _ _ (must-held _ _ _ _ _ (must-rest _ _ _ _ _ h₃)))
+            (ltb-true _ _ (must-held _ _ _ _ _ h₃), ltb-true _ _ (must-held _ _ _ _ _ (must-rest _ _ _ _ _ h₃)));
       }
 
   good-locations : (ls : List Location) (at : ℕ) → ((l : Location) → List·Memᴰ l ls → GoodLocation c l) → locationsFault c ls at ≡ Valid (at + 12 * length ls)
@@ -68,7 +67,7 @@ module _ (c : ℕ) where
   valid-entry e n h =
       record {
         address-fits = leb-true _ _ (must-held _ _ _ _ _ h);
-        locations-good = valid-locations (e .body .locations) 16 _ (chain-first _ _ _ (must-rest _ _ _ _ _ h) .1)
+        locations-good = valid-locations (e .body .locations) 16 _ (chain-first _ _ _ (must-rest _ _ _ _ _ h) .1);
       }
 
   good-entries : (es : List Entry) (stop : ℕ) → ((e : Entry) → List·Memᴰ e es → GoodEntry c e) → entriesFault c es stop ≡ Valid stop
@@ -100,7 +99,7 @@ valid-well t n f h =
       fits = f;
       small = leb-true _ _ (must-held _ _ _ _ _ h);
       adds-up = eqb-true _ _ (must-held _ _ _ _ _ h₁);
-      entries-good = valid-entries _ _ _ n (must-rest _ _ _ _ _ h₁)
+      entries-good = valid-entries _ _ _ n (must-rest _ _ _ _ _ h₁);
     }
 
 -- a well-formed section's bytes are accepted, and read back as the section
@@ -148,7 +147,7 @@ one-to-one =
       encode-read = λ s w k. accepted-well-formed s (length s) w k .1;
       encode-bytes = section-bytes;
       encode-accepted = λ t w. well-formed-accepted t w .0;
-      read-encode = λ t w. well-formed-accepted t w .1
+      read-encode = λ t w. well-formed-accepted t w .1;
     }
 
 pub built : BuiltRefusal

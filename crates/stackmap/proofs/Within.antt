@@ -5,14 +5,14 @@ use mathlib.Core.List.{List, [], _∷_}
 use mathlib.Core.Bool.{Bool, true, false}
 use native.Mathlib.Omega.{arith}
 use borrow.Author.Tests.{leb-true, eqb-true}
-use lib.ListN.{length, getD, take, drop, length-drop}
+use lib.ListN.{length, take, drop, length-drop}
 use lib.Seq.{take-all}
-use lib.Dec.{leb, ltb, eqb}
+use lib.Dec.{leb}
 use Rattle.wire.specs.Word.{word}
 use Rattle.stackmap.specs.declared.Verdict.{Verdict}
 use Rattle.stackmap.specs.declared.Verdict.the-variants.{Valid, Refused}
 use Rattle.stackmap.specs.Verdict.{must, chain, bind, pick, shift}
-use Rattle.stackmap.specs.Section.{numLocations, locationsEnd, numLiveOuts, recordLength, recordsAt, constantsAt, Owner}
+use Rattle.stackmap.specs.Section.{numLocations, locationsEnd, numLiveOuts, recordLength, recordsAt, Owner}
 use Rattle.stackmap.specs.Record.{zeros, locationCheck, locations, liveOuts, recordInside, recordBytes, recordCheck}
 use Rattle.stackmap.specs.Check.{headerCheck, tablesCheck, recordsCheck}
 use Rattle.stackmap.specs.Walk.{Walkable}
@@ -144,5 +144,5 @@ tables-held s e h =
     record {
       begins = cc;
       inside = leb-true _ _ (must-held _ _ _ _ _ h₁);
-      walkable = record { inside = leb-true _ _ (must-held _ _ _ _ _ h); adds-up = eqb-true _ _ (must-held _ _ _ _ _ h₂) }
+      walkable = record { inside = leb-true _ _ (must-held _ _ _ _ _ h); adds-up = eqb-true _ _ (must-held _ _ _ _ _ h₂) };
     }

@@ -5,7 +5,6 @@ use mathlib.Core.List.{List, [], _∷_, _++_}
 use Rattle.wire.specs.Word.{bytes}
 
 infix 60 _of_
-
 pub record Field : Type 0 where
   pub width : ℕ
   pub value : ℕ

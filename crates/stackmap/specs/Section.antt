@@ -115,7 +115,7 @@ readLocation s at =
       kind = word 1 s at;
       size = word 2 s (at + locationSizeAt);
       register = word 2 s (at + locationRegisterAt);
-      offset = word 4 s (at + locationOffsetAt)
+      offset = word 4 s (at + locationOffsetAt);
     }
 
 unfoldable pub readLiveOut : List ℕ → ℕ → LiveOut
@@ -145,7 +145,7 @@ readRecord s =
       id = word 8 s 0;
       offset = word 4 s instructionOffsetAt;
       locations = many readLocation locationSize (numLocations s) s recordHeadSize;
-      liveOuts = many readLiveOut liveOutSize (numLiveOuts s) s (liveOutsAt s)
+      liveOuts = many readLiveOut liveOutSize (numLiveOuts s) s (liveOutsAt s);
     }
 
 -- n records from `at`
@@ -161,7 +161,7 @@ readSection s =
     record {
       functions = readFunctions s;
       constants = many readConstant constantSize (numConstants s) s (constantsAt s);
-      records = readRecords (numRecords s) s (recordsAt s)
+      records = readRecords (numRecords s) s (recordsAt s);
     }
 
 -- Records belong to functions in order, as many as each record count says.

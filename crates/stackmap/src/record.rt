@@ -8,20 +8,35 @@ ghost use Rattle.stackmap.specs.Record.{zeros, locationCheck, locations,
 use crate::Verdict;
 
 pub const RECORD_HEAD_SIZE: usize = 16;
+
 const INSTRUCTION_OFFSET_AT: usize = 8;
+
 const FLAGS_AT: usize = 12;
+
 const FLAGS_SIZE: usize = 2;
+
 const NUM_LOCATIONS_AT: usize = 14;
+
 const LIVE_OUTS_HEAD_ZEROS: usize = 2;
+
 const LIVE_OUTS_HEAD_SIZE: usize = 4;
+
 const LOCATION_SIZE: usize = 12;
+
 const LOCATION_OFFSET_AT: usize = 8;
+
 const LIVE_OUT_SIZE: usize = 4;
+
 const LIVE_OUT_ZERO_AT: usize = 2;
+
 const KIND_LEAST: u8 = 1;
+
 const KIND_MOST: u8 = 5;
+
 const KIND_CONST_INDEX: u8 = 5;
+
 const NEGATIVE_FROM: u32 = 2147483648;
+
 const ADDRESS_MOST: u64 = 18446744073709551615;
 
 // The `count` bytes from `at` are zero.

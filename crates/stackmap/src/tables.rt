@@ -11,13 +11,21 @@ use crate::Verdict;
 use crate::record;
 
 pub const HEADER_SIZE: usize = 16;
+
 pub const NUM_FUNCTIONS_AT: usize = 4;
+
 pub const NUM_CONSTANTS_AT: usize = 8;
+
 pub const NUM_RECORDS_AT: usize = 12;
+
 pub const FUNCTION_SIZE: usize = 24;
+
 pub const RECORD_COUNT_AT: usize = 16;
+
 const CONSTANT_SIZE: usize = 8;
+
 const VERSION: u8 = 3;
+
 const SECTION_MOST: usize = 16777216;
 
 pub fn header(s: &[u8]) -> Verdict
@@ -64,11 +72,17 @@ pub fn tables(s: &[u8]) -> Verdict
     let records = wire::u32_at(s, NUM_RECORDS_AT) as u64;
     let after = HEADER_SIZE + FUNCTION_SIZE * functions;
     if after > s.len() {
-        return Verdict::Refused(4, HEADER_SIZE + FUNCTION_SIZE * ((s.len() - HEADER_SIZE) / FUNCTION_SIZE));
+        return Verdict::Refused(
+            4,
+            HEADER_SIZE + FUNCTION_SIZE * ((s.len() - HEADER_SIZE) / FUNCTION_SIZE),
+        );
     }
     let end = after + CONSTANT_SIZE * constants;
     if end > s.len() {
-        return Verdict::Refused(4, after + CONSTANT_SIZE * ((s.len() - after) / CONSTANT_SIZE));
+        return Verdict::Refused(
+            4,
+            after + CONSTANT_SIZE * ((s.len() - after) / CONSTANT_SIZE),
+        );
     }
     if counts_add_up(s, functions, records) {
         Verdict::Valid(end)

@@ -25,7 +25,10 @@ pub fn owner(s: &[u8], turn: Turn) -> Turn
     let mut next = turn.next;
     let mut left = turn.left;
     while left == 0 {
-        left = wire::u64_at(s, tables::HEADER_SIZE + tables::FUNCTION_SIZE * next + tables::RECORD_COUNT_AT);
+        left = wire::u64_at(
+            s,
+            tables::HEADER_SIZE + tables::FUNCTION_SIZE * next + tables::RECORD_COUNT_AT,
+        );
         next += 1;
     }
     Turn { next, left }
@@ -61,7 +64,10 @@ pub fn all_records(s: &[u8], at: usize) -> Verdict
                 p = end;
             }
         }
-        turn = Turn { next, left: t.left - 1 };
+        turn = Turn {
+            next,
+            left: t.left - 1,
+        };
         remaining -= 1;
     }
     Verdict::Valid(p)

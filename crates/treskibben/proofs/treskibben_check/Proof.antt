@@ -1,31 +1,22 @@
 use borrow.Author.Needs.{needs}
 use Rattle.treskibben.proofs.treskibben_check.Statement.{statement}
 use Rattle.treskibben.proofs.treskibben_check.Tie as tie
-use Rattle.treskibben.proofs.treskibben_check.Reads as reads
-use Rattle.treskibben.proofs.treskibben_check.Lts as lts
-use Rattle.stackmap.proofs.check.Reads as check-reads
 
--- src/lib.rt:20:11
 check-requires : tie.Need-check-requires
 check-requires c κs = search needs
 
--- src/lib.rt:21:30
 enum-told : tie.Need-enum-told
 enum-told c = search needs
 
--- src/lib.rt:26:26
 enum-known-n : tie.Need-enum-known-n
 enum-known-n c = search needs
 
--- src/lib.rt:27:21
 cast-t6 : tie.Need-cast-t6
 cast-t6 c = search needs
 
--- src/lib.rt:16:1
 returns : tie.Need-returns
 returns c = rw (← c .before .before .check .ensures, c .enum-told .given .1)
 
--- src/lib.rt:16:1
 returns-2 : tie.Need-returns-2
 returns-2 c = rw (← c .before .before .before .check .ensures, c .before .n .given .1)
 

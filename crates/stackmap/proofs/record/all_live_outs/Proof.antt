@@ -2,15 +2,13 @@ use borrow.Author.Needs.{needs}
 use borrow.Author.Tests.{eq-eqb, ne-eqb}
 use native.Mathlib.Omega.{arith}
 use Prim.Native.Nat.{_+_, _-_, _*_, _≤_}
-use mathlib.Core.Path.{_≡_, refl}
+use mathlib.Core.Path.{_≡_}
 use lib.ListN.{length}
 use Rattle.stackmap.specs.Record.{liveOuts}
 use Rattle.stackmap.specs.Verdict.{must}
 use Rattle.stackmap.proofs.Steps.{liveOuts-step}
 use Rattle.stackmap.proofs.record.all_live_outs.Statement.{statement}
 use Rattle.stackmap.proofs.record.all_live_outs.Tie as tie
-use Rattle.stackmap.proofs.record.all_live_outs.Reads as reads
-use Rattle.stackmap.proofs.record.all_live_outs.Lts as lts
 
 abbrev Inv-loop : tie.InvT-loop
 Inv-loop s at count p₀ left₀ p left = (p + 4 * left ≤ length s) × (liveOuts count s at ≡ liveOuts left s p)

@@ -1,16 +1,13 @@
 use borrow.Author.Needs.{needs}
 use native.Mathlib.Omega.{arith}
 use Prim.Native.Nat.{_+_, _-_, _*_, _≤_}
-use mathlib.Core.Path.{_≡_, refl}
+use mathlib.Core.Path.{_≡_}
 use lib.ListN.{length}
 use Rattle.stackmap.specs.Record.{locations}
 use Rattle.stackmap.specs.Verdict.{chain}
 use Rattle.stackmap.proofs.Steps.{locations-step}
 use Rattle.stackmap.proofs.record.all_locations.Statement.{statement}
 use Rattle.stackmap.proofs.record.all_locations.Tie as tie
-use Rattle.stackmap.proofs.record.all_locations.Reads as reads
-use Rattle.stackmap.proofs.record.all_locations.Lts as lts
-use Rattle.stackmap.proofs.record.location.Reads as location-reads
 
 abbrev Inv-loop : tie.InvT-loop
 Inv-loop s at count constants p₀ left₀ p left =
@@ -32,9 +29,12 @@ returns : tie.Need-returns Inv-loop μ-loop
 unfolding chain
 returns c =
     let l = c .before .before .before .before .before .loop in
-    rw
-    (l .inv .1, locations-step (l .left) _ _ _ (c .before .before .before .before .loop-test .taken)
-    , ← c .before .before .before .location .ensures, c .before .n .given .1)
+    rw (
+      l .inv .1,
+      locations-step (l .left) _ _ _ (c .before .before .before .before .loop-test .taken),
+      ← c .before .before .before .location .ensures,
+      c .before .n .given .1,
+    )
 
 enum-told : tie.Need-enum-told Inv-loop μ-loop
 enum-told c = search needs
@@ -51,11 +51,15 @@ loop-less c = search needs
 loop-again : tie.Need-loop-again Inv-loop μ-loop
 unfolding chain
 loop-again c =
-    let l = c .before .before .before .before .loop in
-    (omega arith
-    , rw
-    (l .inv .1, locations-step (l .left) _ _ _ (c .before .before .before .loop-test .taken)
-    , ← c .before .before .location .ensures, c .enum-told .given .1))
+    let l = c .before .before .before .before .loop in (
+      omega arith,
+      rw (
+        l .inv .1,
+        locations-step (l .left) _ _ _ (c .before .before .before .loop-test .taken),
+        ← c .before .before .location .ensures,
+        c .enum-told .given .1,
+      ),
+    )
 
 returns-2 : tie.Need-returns-2 Inv-loop μ-loop
 unfolding locations chain

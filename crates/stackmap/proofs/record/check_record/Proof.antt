@@ -8,11 +8,6 @@ use Rattle.stackmap.proofs.Within.{is-inside, header-inside}
 use borrow.Author.Needs.{needs}
 use Rattle.stackmap.proofs.record.check_record.Statement.{statement}
 use Rattle.stackmap.proofs.record.check_record.Tie as tie
-use Rattle.stackmap.proofs.record.check_record.Reads as reads
-use Rattle.stackmap.proofs.record.check_record.Lts as lts
-use Rattle.stackmap.proofs.record.record_bytes.Reads as record-bytes-reads
-use Rattle.stackmap.proofs.record.record_inside.Reads as record-inside-reads
-use Rattle.wire.proofs.u32_at.Reads as u32-at-reads
 
 record-inside-requires : tie.Need-record-inside-requires
 record-inside-requires c κs = search needs

@@ -4,9 +4,6 @@ use Rattle.stackmap.specs.Record.{locationCheck}
 use Rattle.stackmap.specs.Verdict.{must, pick}
 use Rattle.stackmap.proofs.record.location.Statement.{statement}
 use Rattle.stackmap.proofs.record.location.Tie as tie
-use Rattle.stackmap.proofs.record.location.Reads as reads
-use Rattle.stackmap.proofs.record.location.Lts as lts
-use Rattle.wire.proofs.u32_at.Reads as u32-at-reads
 
 shared-slice-read-kind : tie.Need-shared-slice-read-kind
 shared-slice-read-kind c = search needs

@@ -5,12 +5,6 @@ use Rattle.stackmap.specs.Verdict.{chain}
 use borrow.Author.Needs.{needs}
 use Rattle.stackmap.proofs.record.record_bytes.Statement.{statement}
 use Rattle.stackmap.proofs.record.record_bytes.Tie as tie
-use Rattle.stackmap.proofs.record.record_bytes.Reads as reads
-use Rattle.stackmap.proofs.record.record_bytes.Lts as lts
-use Rattle.stackmap.proofs.record.all_live_outs.Reads as all-live-outs-reads
-use Rattle.stackmap.proofs.record.all_locations.Reads as all-locations-reads
-use Rattle.stackmap.proofs.record.zero_bytes.Reads as zero-bytes-reads
-use Rattle.wire.proofs.u16_at.Reads as u16-at-reads
 
 u16-at-requires : tie.Need-u16-at-requires
 unfolding recordLength
@@ -60,10 +54,12 @@ enum-known-n c = search needs
 returns : tie.Need-returns
 unfolding recordBytes recordLength chain
 returns c =
-    rw
-    (← c .before .before .before .before .before .u16-at .ensures, ← c .before .before .before .before .u16-at2 .ensures
-    , ← c .before .before .before .zero-bytes .ensures
-    , c .before .n .given .1)
+    rw (
+      ← c .before .before .before .before .before .u16-at .ensures,
+      ← c .before .before .before .before .u16-at2 .ensures,
+      ← c .before .before .before .zero-bytes .ensures,
+      c .before .n .given .1,
+    )
 
 enum-told : tie.Need-enum-told
 enum-told c = search needs
@@ -78,12 +74,14 @@ enum-known-n-2 c = search needs
 returns-2 : tie.Need-returns-2
 unfolding recordBytes recordLength chain
 returns-2 c =
-    rw
-    (← c .before .before .before .before .before .before .before .before .u16-at .ensures, ← c .before .before .before .before .before .before .before .u16-at2 .ensures
-    , ← c .before .before .before .before .before .before .zero-bytes .ensures
-    , c .before .before .before .before .enum-told .given .1
-    , ← c .before .before .before .all-locations .ensures
-    , c .before .n2 .given .1)
+    rw (
+      ← c .before .before .before .before .before .before .before .before .u16-at .ensures,
+      ← c .before .before .before .before .before .before .before .u16-at2 .ensures,
+      ← c .before .before .before .before .before .before .zero-bytes .ensures,
+      c .before .before .before .before .enum-told .given .1,
+      ← c .before .before .before .all-locations .ensures,
+      c .before .n2 .given .1,
+    )
 
 enum-told-2 : tie.Need-enum-told-2
 enum-told-2 c = search needs
@@ -104,14 +102,16 @@ enum-known-n-3 c = search needs
 returns-3 : tie.Need-returns-3
 unfolding recordBytes recordLength chain
 returns-3 c =
-    rw
-    (← c .before .before .before .before .before .before .before .before .before .before .before .u16-at .ensures, ← c .before .before .before .before .before .before .before .before .before .before .u16-at2 .ensures
-    , ← c .before .before .before .before .before .before .before .before .before .zero-bytes .ensures
-    , c .before .before .before .before .before .before .before .enum-told .given .1
-    , ← c .before .before .before .before .before .before .all-locations .ensures
-    , c .before .before .before .before .enum-told2 .given .1
-    , ← c .before .before .before .zero-bytes2 .ensures
-    , c .before .n3 .given .1)
+    rw (
+      ← c .before .before .before .before .before .before .before .before .before .before .before .u16-at .ensures,
+      ← c .before .before .before .before .before .before .before .before .before .before .u16-at2 .ensures,
+      ← c .before .before .before .before .before .before .before .before .before .zero-bytes .ensures,
+      c .before .before .before .before .before .before .before .enum-told .given .1,
+      ← c .before .before .before .before .before .before .all-locations .ensures,
+      c .before .before .before .before .enum-told2 .given .1,
+      ← c .before .before .before .zero-bytes2 .ensures,
+      c .before .n3 .given .1,
+    )
 
 enum-told-3 : tie.Need-enum-told-3
 enum-told-3 c = search needs
@@ -129,16 +129,18 @@ enum-known-n-4 c = search needs
 returns-4 : tie.Need-returns-4
 unfolding recordBytes recordLength chain
 returns-4 c =
-    rw
-    (← c .before .before .before .before .before .before .before .before .before .before .before .before .before .before .u16-at .ensures, ← c .before .before .before .before .before .before .before .before .before .before .before .before .before .u16-at2 .ensures
-    , ← c .before .before .before .before .before .before .before .before .before .before .before .before .zero-bytes .ensures
-    , c .before .before .before .before .before .before .before .before .before .before .enum-told .given .1
-    , ← c .before .before .before .before .before .before .before .before .before .all-locations .ensures
-    , c .before .before .before .before .before .before .before .enum-told2 .given .1
-    , ← c .before .before .before .before .before .before .zero-bytes2 .ensures
-    , c .before .before .before .before .enum-told3 .given .1
-    , ← c .before .before .before .all-live-outs .ensures
-    , c .before .n4 .given .1)
+    rw (
+      ← c .before .before .before .before .before .before .before .before .before .before .before .before .before .before .u16-at .ensures,
+      ← c .before .before .before .before .before .before .before .before .before .before .before .before .before .u16-at2 .ensures,
+      ← c .before .before .before .before .before .before .before .before .before .before .before .before .zero-bytes .ensures,
+      c .before .before .before .before .before .before .before .before .before .before .enum-told .given .1,
+      ← c .before .before .before .before .before .before .before .before .before .all-locations .ensures,
+      c .before .before .before .before .before .before .before .enum-told2 .given .1,
+      ← c .before .before .before .before .before .before .zero-bytes2 .ensures,
+      c .before .before .before .before .enum-told3 .given .1,
+      ← c .before .before .before .all-live-outs .ensures,
+      c .before .n4 .given .1,
+    )
 
 enum-told-4 : tie.Need-enum-told-4
 enum-told-4 c = search needs
@@ -159,18 +161,20 @@ enum-known-n-5 c = search needs
 returns-5 : tie.Need-returns-5
 unfolding recordBytes recordLength chain
 returns-5 c =
-    rw
-    (← c .before .before .before .before .before .before .before .before .before .before .before .before .before .before .before .before .before .u16-at .ensures, ← c .before .before .before .before .before .before .before .before .before .before .before .before .before .before .before .before .u16-at2 .ensures
-    , ← c .before .before .before .before .before .before .before .before .before .before .before .before .before .before .before .zero-bytes .ensures
-    , c .before .before .before .before .before .before .before .before .before .before .before .before .before .enum-told .given .1
-    , ← c .before .before .before .before .before .before .before .before .before .before .before .before .all-locations .ensures
-    , c .before .before .before .before .before .before .before .before .before .before .enum-told2 .given .1
-    , ← c .before .before .before .before .before .before .before .before .before .zero-bytes2 .ensures
-    , c .before .before .before .before .before .before .before .enum-told3 .given .1
-    , ← c .before .before .before .before .before .before .all-live-outs .ensures
-    , c .before .before .before .before .enum-told4 .given .1
-    , ← c .before .before .before .zero-bytes3 .ensures
-    , c .before .n5 .given .1)
+    rw (
+      ← c .before .before .before .before .before .before .before .before .before .before .before .before .before .before .before .before .before .u16-at .ensures,
+      ← c .before .before .before .before .before .before .before .before .before .before .before .before .before .before .before .before .u16-at2 .ensures,
+      ← c .before .before .before .before .before .before .before .before .before .before .before .before .before .before .before .zero-bytes .ensures,
+      c .before .before .before .before .before .before .before .before .before .before .before .before .before .enum-told .given .1,
+      ← c .before .before .before .before .before .before .before .before .before .before .before .before .all-locations .ensures,
+      c .before .before .before .before .before .before .before .before .before .before .enum-told2 .given .1,
+      ← c .before .before .before .before .before .before .before .before .before .zero-bytes2 .ensures,
+      c .before .before .before .before .before .before .before .enum-told3 .given .1,
+      ← c .before .before .before .before .before .before .all-live-outs .ensures,
+      c .before .before .before .before .enum-told4 .given .1,
+      ← c .before .before .before .zero-bytes3 .ensures,
+      c .before .n5 .given .1,
+    )
 
 enum-told-5 : tie.Need-enum-told-5
 enum-told-5 c = search needs
@@ -187,18 +191,20 @@ add-t27 c = search needs
 returns-6 : tie.Need-returns-6
 unfolding recordBytes recordLength chain
 returns-6 c =
-    rw
-    (← c .before .before .before .before .before .before .before .before .before .before .before .before .before .before .before .before .u16-at .ensures, ← c .before .before .before .before .before .before .before .before .before .before .before .before .before .before .before .u16-at2 .ensures
-    , ← c .before .before .before .before .before .before .before .before .before .before .before .before .before .before .zero-bytes .ensures
-    , c .before .before .before .before .before .before .before .before .before .before .before .before .enum-told .given .1
-    , ← c .before .before .before .before .before .before .before .before .before .before .before .all-locations .ensures
-    , c .before .before .before .before .before .before .before .before .before .enum-told2 .given .1
-    , ← c .before .before .before .before .before .before .before .before .zero-bytes2 .ensures
-    , c .before .before .before .before .before .before .enum-told3 .given .1
-    , ← c .before .before .before .before .before .all-live-outs .ensures
-    , c .before .before .before .enum-told4 .given .1
-    , ← c .before .before .zero-bytes3 .ensures
-    , c .enum-told5 .given .1)
+    rw (
+      ← c .before .before .before .before .before .before .before .before .before .before .before .before .before .before .before .before .u16-at .ensures,
+      ← c .before .before .before .before .before .before .before .before .before .before .before .before .before .before .before .u16-at2 .ensures,
+      ← c .before .before .before .before .before .before .before .before .before .before .before .before .before .before .zero-bytes .ensures,
+      c .before .before .before .before .before .before .before .before .before .before .before .before .enum-told .given .1,
+      ← c .before .before .before .before .before .before .before .before .before .before .before .all-locations .ensures,
+      c .before .before .before .before .before .before .before .before .before .enum-told2 .given .1,
+      ← c .before .before .before .before .before .before .before .before .zero-bytes2 .ensures,
+      c .before .before .before .before .before .before .enum-told3 .given .1,
+      ← c .before .before .before .before .before .all-live-outs .ensures,
+      c .before .before .before .enum-told4 .given .1,
+      ← c .before .before .zero-bytes3 .ensures,
+      c .enum-told5 .given .1,
+    )
 
 pub record-bytes-spec : {M : Type 1} → statement M
 record-bytes-spec =

@@ -8,9 +8,6 @@ use Rattle.stackmap.specs.Verdict.{must}
 use borrow.Author.Needs.{needs}
 use Rattle.stackmap.proofs.record.record_inside.Statement.{statement}
 use Rattle.stackmap.proofs.record.record_inside.Tie as tie
-use Rattle.stackmap.proofs.record.record_inside.Reads as reads
-use Rattle.stackmap.proofs.record.record_inside.Lts as lts
-use Rattle.wire.proofs.u16_at.Reads as u16-at-reads
 
 returns : tie.Need-returns
 unfolding recordInside recordLength must

@@ -2,15 +2,13 @@ use borrow.Author.Needs.{needs}
 use borrow.Author.Tests.{eq-eqb, ne-eqb}
 use native.Mathlib.Omega.{arith}
 use Prim.Native.Nat.{_+_, _-_, _≤_}
-use mathlib.Core.Path.{_≡_, refl}
+use mathlib.Core.Path.{_≡_}
 use lib.ListN.{length}
 use Rattle.stackmap.specs.Record.{zeros}
 use Rattle.stackmap.specs.Verdict.{must}
 use Rattle.stackmap.proofs.Steps.{zeros-step}
 use Rattle.stackmap.proofs.record.zero_bytes.Statement.{statement}
 use Rattle.stackmap.proofs.record.zero_bytes.Tie as tie
-use Rattle.stackmap.proofs.record.zero_bytes.Reads as reads
-use Rattle.stackmap.proofs.record.zero_bytes.Lts as lts
 
 abbrev Inv-loop : tie.InvT-loop
 Inv-loop s at count p₀ left₀ p left = (p + left ≤ length s) × (zeros count s at ≡ zeros left s p)

@@ -3,16 +3,13 @@ use borrow.Author.Needs.{needs}
 use borrow.Author.Tests.{ne-eqb}
 use native.Mathlib.Omega.{arith}
 use Prim.Native.Nat.{_+_, _-_, _*_, _≤_}
-use mathlib.Core.Path.{_≡_, refl}
+use mathlib.Core.Path.{_≡_}
 use lib.ListN.{length}
 use Rattle.stackmap.specs.Fields.{many}
 use Rattle.stackmap.specs.Section.{readFunction, counted}
 use Rattle.stackmap.proofs.Steps.{counted-step}
 use Rattle.stackmap.proofs.tables.counts_add_up.Statement.{statement}
 use Rattle.stackmap.proofs.tables.counts_add_up.Tie as tie
-use Rattle.stackmap.proofs.tables.counts_add_up.Reads as reads
-use Rattle.stackmap.proofs.tables.counts_add_up.Lts as lts
-use Rattle.wire.proofs.u64_at.Reads as u64-at-reads
 
 abbrev Inv-loop : tie.InvT-loop
 Inv-loop s functions total f₀ left₀ rest₀ f left rest = (f + 24 * left ≤ length s) × (counted (many readFunction 24 functions s 16) + rest ≡ total + counted (many readFunction 24 left s f))

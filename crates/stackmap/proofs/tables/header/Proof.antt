@@ -4,9 +4,6 @@ use Rattle.stackmap.proofs.Tests.{tests}
 use borrow.Author.Needs.{needs}
 use Rattle.stackmap.proofs.tables.header.Statement.{statement}
 use Rattle.stackmap.proofs.tables.header.Tie as tie
-use Rattle.stackmap.proofs.tables.header.Reads as reads
-use Rattle.stackmap.proofs.tables.header.Lts as lts
-use Rattle.stackmap.proofs.record.zero_bytes.Reads as zero-bytes-reads
 
 returns : tie.Need-returns
 unfolding headerCheck must

@@ -5,10 +5,6 @@ use Rattle.stackmap.proofs.Tests.{tests}
 use borrow.Author.Needs.{needs}
 use Rattle.stackmap.proofs.tables.tables.Statement.{statement}
 use Rattle.stackmap.proofs.tables.tables.Tie as tie
-use Rattle.stackmap.proofs.tables.tables.Reads as reads
-use Rattle.stackmap.proofs.tables.tables.Lts as lts
-use Rattle.stackmap.proofs.tables.counts_add_up.Reads as counts-add-up-reads
-use Rattle.wire.proofs.u32_at.Reads as u32-at-reads
 
 u32-at-requires : tie.Need-u32-at-requires
 u32-at-requires c κs = search needs

@@ -1,20 +1,13 @@
 -- The walk goes from one turn to the next, and what is ahead gives what the whole gives.
-use Prim.Native.Nat.{_+_, _*_, _-_, _≤_, _<_}
-use mathlib.Core.Path.{_≡_, refl, sym, _∙_}
+use Prim.Native.Nat.{_-_}
+use mathlib.Core.Path.{_≡_, sym, _∙_}
 use native.Mathlib.Omega.{arith}
 use borrow.Author.Needs.{needs}
-use lib.ListN.{length}
 use Rattle.stackmap.specs.Verdict.{bind}
-use Rattle.stackmap.specs.Section.{numConstants, numRecords}
 use Rattle.stackmap.specs.Walk.{ahead}
 use Rattle.stackmap.proofs.Turns.{Walking, walk-start, walk-here, walk-on, walk-end}
 use Rattle.stackmap.proofs.walk.all_records.Statement.{statement}
 use Rattle.stackmap.proofs.walk.all_records.Tie as tie
-use Rattle.stackmap.proofs.walk.all_records.Reads as reads
-use Rattle.stackmap.proofs.walk.all_records.Lts as lts
-use Rattle.stackmap.proofs.walk.owner.Reads as owner-reads
-use Rattle.stackmap.proofs.walk.record_at.Reads as record-at-reads
-use Rattle.wire.proofs.u32_at.Reads as u32-at-reads
 
 abbrev Inv-loop : tie.InvT-loop
 Inv-loop s at constants remaining₀ turn₀ p₀ remaining turn p = Walking s constants at (turn .next) (turn .left) remaining p
@@ -22,67 +15,53 @@ Inv-loop s at constants remaining₀ turn₀ p₀ remaining turn p = Walking s c
 abbrev μ-loop : tie.MeasureT-loop
 μ-loop s at constants remaining₀ turn₀ p₀ remaining turn p = remaining
 
--- src/walk.rt:51:9
 u32-at-requires : tie.Need-u32-at-requires Inv-loop μ-loop
 u32-at-requires c κs = let w = c .before .pre .0 .inside in omega arith
 
--- src/walk.rt:52:9
 u32-at-requires-2 : tie.Need-u32-at-requires-2 Inv-loop μ-loop
 u32-at-requires-2 c κs = let w = c .before .before .pre .0 .inside in omega arith
 
--- src/walk.rt:55:5
 loop-holds : tie.Need-loop-holds Inv-loop μ-loop
 loop-holds c = rw (c .u32-at2 .ensures) (walk-start (c .before .before .before .pre .0) (c .before .before .before .pre .1))
 
--- src/walk.rt:56:13
 owner-requires : tie.Need-owner-requires Inv-loop μ-loop
 owner-requires c κs =
     let w = c .before .loop .inv in
     let n = w .counted in
     (c .before .before .before .before .before .pre .0 .inside, w .turning, omega arith)
 
--- src/walk.rt:58:39
 sub-record-at : tie.Need-sub-record-at Inv-loop μ-loop
 sub-record-at c = search needs
 
--- src/walk.rt:58:15
 record-at-requires : tie.Need-record-at-requires Inv-loop μ-loop
 record-at-requires c κs =
     let w = c .before .before .loop .inv in
     (c .before .before .before .before .before .before .pre .0 .inside, omega arith, w .inside)
 
--- src/walk.rt:59:30
 enum-known-n : tie.Need-enum-known-n Inv-loop μ-loop
 enum-known-n c = search needs
 
--- src/walk.rt:59:39
 returns : tie.Need-returns Inv-loop μ-loop
 unfolding bind
 returns c = rw (← c .before .before .before .before .before .before .before .before .u32-at .ensures, walk-here (c .before .before .before .before .owner .result .next) (c .before .before .before .before .owner .result .left) (c .before .before .before .before .before .before .loop .inv) (c .before .before .before .before .owner .ensures .0) (c .before .before .before .before .owner .ensures .1), ← c .before .before .before .record-at .ensures, c .before .n .given .1)
 
--- src/walk.rt:60:28
 enum-known-end : tie.Need-enum-known-end Inv-loop μ-loop
 enum-known-end c = search needs
 
--- src/walk.rt:64:35
 sub-t15 : tie.Need-sub-t15 Inv-loop μ-loop
 sub-t15 c = search needs
 
--- src/walk.rt:65:9
 sub-remaining : tie.Need-sub-remaining Inv-loop μ-loop
 sub-remaining c = search needs
 
--- src/walk.rt:55:5
 loop-less : tie.Need-loop-less Inv-loop μ-loop
 loop-less c = search needs
 
--- src/walk.rt:55:5
 loop-again : tie.Need-loop-again Inv-loop μ-loop
 loop-again c =
     walk-on (c .before .before .before .before .before .owner .result .next) (c .before .before .before .before .before .owner .result .left) (c .before .before .before .before .before .before .before .loop .inv) (c .before .before .before .before .before .owner .ensures .0) (c .before .before .before .before .before .owner .ensures .1)
     (c .before .before .before .before .before .owner .ensures .2) (c .before .before .before .before .before .owner .ensures .3) (sym (c .before .before .before .before .record-at .ensures) ∙ c .before .before .end .given .1)
 
--- src/walk.rt:47:1
 returns-2 : tie.Need-returns-2 Inv-loop μ-loop
 returns-2 c =
     let none : c .before .loop .remaining ≡ 0 = omega arith in

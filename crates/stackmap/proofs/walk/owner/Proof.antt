@@ -1,17 +1,13 @@
 -- The turn passes on while nothing is left; what is ahead stays.
-use Prim.Native.Nat.{_+_, _*_, _-_, _≤_, _<_}
-use mathlib.Core.Path.{_≡_, refl, sym, _∙_}
+use Prim.Native.Nat.{_+_, _-_, _<_}
+use mathlib.Core.Path.{_≡_, refl, _∙_}
 use native.Mathlib.Omega.{arith}
-use borrow.Author.Needs.{needs}
 use lib.ListN.{length}
 use Rattle.stackmap.specs.Section.{numFunctions, readFunction}
 use Rattle.stackmap.specs.Walk.{ahead, Turning}
 use Rattle.stackmap.proofs.Turns.{ahead-next, ahead-some}
 use Rattle.stackmap.proofs.walk.owner.Statement.{statement}
 use Rattle.stackmap.proofs.walk.owner.Tie as tie
-use Rattle.stackmap.proofs.walk.owner.Reads as reads
-use Rattle.stackmap.proofs.walk.owner.Lts as lts
-use Rattle.wire.proofs.u64_at.Reads as u64-at-reads
 
 abbrev Inv-loop : tie.InvT-loop
 Inv-loop s next₀ left₀ next left = Turning s next left × (0 < length (ahead s next left)) × (ahead s next left ≡ ahead s next₀ left₀)
@@ -19,53 +15,45 @@ Inv-loop s next₀ left₀ next left = Turning s next left × (0 < length (ahead
 abbrev μ-loop : tie.MeasureT-loop
 μ-loop s next₀ left₀ next left = numFunctions s - next
 
--- src/walk.rt:27:5
 loop-holds : tie.Need-loop-holds Inv-loop μ-loop
 loop-holds c = (c .before .pre .1, c .before .pre .2, refl)
 
--- src/walk.rt:28:54
 mul-u64-at : tie.Need-mul-u64-at Inv-loop μ-loop
 mul-u64-at c =
     let l = c .before .loop in
     let h = ahead-some (c .before .before .before .args .s .now) (l .next) (rw (c .loop-test .taken) at (l .inv .1)) in
     omega arith
 
--- src/walk.rt:28:32
 add-u64-at : tie.Need-add-u64-at Inv-loop μ-loop
 add-u64-at c =
     let l = c .before .loop in
     let h = ahead-some (c .before .before .before .args .s .now) (l .next) (rw (c .loop-test .taken) at (l .inv .1)) in
     omega arith
 
--- src/walk.rt:28:32
 add-u64-at-2 : tie.Need-add-u64-at-2 Inv-loop μ-loop
 add-u64-at-2 c =
     let l = c .before .loop in
     let h = ahead-some (c .before .before .before .args .s .now) (l .next) (rw (c .loop-test .taken) at (l .inv .1)) in
     omega arith
 
--- src/walk.rt:28:9
 u64-at-requires : tie.Need-u64-at-requires Inv-loop μ-loop
 u64-at-requires c κs =
     let l = c .before .loop in
     let h = ahead-some (c .before .before .before .args .s .now) (l .next) (rw (c .loop-test .taken) at (l .inv .1)) in
     omega arith
 
--- src/walk.rt:29:9
 add-next : tie.Need-add-next Inv-loop μ-loop
 add-next c =
     let l = c .before .before .loop in
     let h = ahead-some (c .before .before .before .before .args .s .now) (l .next) (rw (c .before .loop-test .taken) at (l .inv .1)) in
     omega arith
 
--- src/walk.rt:27:5
 loop-less : tie.Need-loop-less Inv-loop μ-loop
 loop-less c =
     let l = c .before .before .loop in
     let h = ahead-some (c .before .before .before .before .args .s .now) (l .next) (rw (c .before .loop-test .taken) at (l .inv .1)) in
     omega arith
 
--- src/walk.rt:27:5
 loop-again : tie.Need-loop-again Inv-loop μ-loop
 unfolding readFunction
 loop-again c =
@@ -74,12 +62,12 @@ loop-again c =
     let some = rw (c .before .loop-test .taken) at (l .inv .1) in
     let h = ahead-some s (l .next) some in
     let e = ahead-next s (l .next) h in
-    let r : ahead s (l .next + 1) (c .u64-at .result) ≡ ahead s (l .next) 0 = rw (e, c .u64-at .ensures) in
-    (record { most = omega arith; begun = λ _. omega arith }
-    , rw r some
-    , r ∙ rw (c .before .loop-test .taken) at (l .inv .2))
+    let r : ahead s (l .next + 1) (c .u64-at .result) ≡ ahead s (l .next) 0 = rw (e, c .u64-at .ensures) in (
+      record { most = omega arith; begun = λ _. omega arith },
+      rw r some,
+      r ∙ rw (c .before .loop-test .taken) at (l .inv .2),
+    )
 
--- src/walk.rt:21:1
 returns : tie.Need-returns Inv-loop μ-loop
 returns c =
     let l = c .before .loop in

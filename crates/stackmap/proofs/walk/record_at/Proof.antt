@@ -1,5 +1,5 @@
 -- The answer about the part from `at` on is said of the whole section.
-use Prim.Native.Nat.{_+_, _*_, _-_}
+use Prim.Native.Nat.{_-_}
 use mathlib.Core.Path.{_≡_}
 use native.Mathlib.Omega.{arith}
 use borrow.Author.Needs.{needs}
@@ -11,10 +11,6 @@ use Rattle.stackmap.specs.Walk.{ownerAt}
 use Rattle.stackmap.proofs.Within.{part-from, record-within, Within}
 use Rattle.stackmap.proofs.walk.record_at.Statement.{statement}
 use Rattle.stackmap.proofs.walk.record_at.Tie as tie
-use Rattle.stackmap.proofs.walk.record_at.Reads as reads
-use Rattle.stackmap.proofs.walk.record_at.Lts as lts
-use Rattle.stackmap.proofs.record.check_record.Reads as check-record-reads
-use Rattle.wire.proofs.u64_at.Reads as u64-at-reads
 
 mul-u64-at : tie.Need-mul-u64-at
 mul-u64-at c = search needs

@@ -1,0 +1,49 @@
+//! A second implementation of the stack map library, written from the papers
+//! alone and compared with the proved one.
+//!
+//! It reads sections in the version 3 stack map layout, answers questions on
+//! them, turns them into listings and back, relocates the pointers of one
+//! stopped frame, and holds what the small program writes.
+//!
+//! Every function answers every input: with a result, or with a [`Refusal`]
+//! that has a fixed number and place. A refused call changes no byte of what
+//! it was lent.
+
+#![forbid(unsafe_code)]
+#![deny(missing_docs)]
+
+mod bytes;
+pub mod listing;
+pub mod program;
+pub mod questions;
+pub mod relocate;
+pub mod section;
+
+#[cfg(test)]
+mod fixtures;
+
+pub use listing::{to_listing, to_section};
+pub use program::run;
+pub use questions::{by_address, live_out, location, record, Found, LocationAnswer};
+pub use relocate::{extent, relocate, Frame};
+pub use section::{check, encode, read, Function, LiveOut, Location, Record, RecordData, Section};
+
+/// Why a call was refused: the number of the line in the refusal table, and
+/// the place that line names.
+#[derive(Clone, Copy, Debug, PartialEq, Eq)]
+pub struct Refusal {
+    /// The refusal's number, 1 to 24.
+    pub number: u64,
+    /// The refusal's place: a byte, a pair, or 0 where its line has none.
+    pub place: u64,
+}
+
+impl Refusal {
+    /// The refusal `number` at a place counted in bytes or pairs.
+    pub(crate) fn at(number: u64, place: usize) -> Refusal {
+        Refusal {
+            number,
+            place: place as u64,
+        }
+    }
+}

@@ -1,0 +1,80 @@
+-- Document 01's worked table: what is asked, and what is answered.
+use Prim.Native.Nat.{ℕ}
+use mathlib.Core.Path.{_≡_}
+use mathlib.Core.List.{List, [], _∷_, _++_, map}
+use lib.ListN.{replicate}
+use Rattle.wire.specs.Word.{bytes}
+use Rattle.stackmap.specs.declared.Verdict.{Verdict}
+use Rattle.stackmap.specs.declared.Verdict.the-variants.{Valid, Refused}
+use Rattle.stackmap.specs.Section.{Location, Section, encodeSection}
+use Rattle.stackmap.specs.Check.{sectionCheck}
+
+-- what is asked: the check of a section
+pub data Asked : Type 0 where
+  check : List ℕ → Asked
+
+-- a refusal's number and place, or a section's length
+pub data Got : Type 0 where
+  refused : ℕ → ℕ → Got
+  accepted : ℕ → Got
+
+abbrev pub checked : Verdict → Got
+checked (Valid e) = accepted e
+checked (Refused n p) = refused n p
+
+unfoldable pub got : Asked → Got
+got (check s) = checked (sectionCheck s)
+
+-- a header of version v with three counts
+unfoldable pub header : ℕ → ℕ → ℕ → ℕ → List ℕ
+header v functions constants records = v ∷ 0 ∷ 0 ∷ 0 ∷ [] ++ bytes 4 functions ++ bytes 4 constants ++ bytes 4 records
+
+abbrev pub zeroConstant : Location
+zeroConstant = record { kind = 4; size = 8; register = 0; offset = 0 }
+
+abbrev pub atRSP : ℕ → Location
+atRSP o = record { kind = 3; size = 8; register = 7; offset = o }
+
+-- function at 0x1000, stack size 24, one record, ID 7, offset 0x20, three zero constants of size 8 and register 0, and pairs
+abbrev pub withPairs : List Location → Section
+withPairs ls =
+    record {
+      functions = record { address = 0x1000; stackSize = 24; count = 1 } ∷ [];
+      constants = [];
+      records = record { id = 7; offset = 0x20; locations = zeroConstant ∷ zeroConstant ∷ zeroConstant ∷ ls; liveOuts = [] } ∷ [];
+    }
+
+-- pairs (RSP+8, RSP+8) and (RSP+8, RSP+16)
+abbrev pub H : Section
+H = withPairs (atRSP 8 ∷ atRSP 8 ∷ atRSP 8 ∷ atRSP 16 ∷ [])
+
+infix 30 _⇒_
+pub record Row : Type 0 where
+  pub asked : Asked
+  pub answered : Got
+
+abbrev pub _⇒_ : Asked → Got → Row
+a ⇒ g = record { asked = a; answered = g }
+
+unfoldable pub table : List Row
+table =
+    {- A -}
+    (check [] ⇒ refused 1 0) ∷
+    {- B -}
+    (check (replicate 15 0) ⇒ refused 1 0) ∷
+    {- C -}
+    (check (header 3 0 0 0) ⇒ accepted 16) ∷
+    {- D -}
+    (check (header 1 0 0 0) ⇒ refused 2 0) ∷
+    {- E -}
+    (check (header 3 0 0 0 ++ (0 ∷ [])) ⇒ refused 9 16) ∷
+    {- F -}
+    (check (header 3 0 0 1) ⇒ refused 5 12) ∷
+    {- G -}
+    (check (header 3 1 0 0) ⇒ refused 4 16) ∷
+    {- H -}
+    (check (encodeSection H) ⇒ accepted 152) ∷
+    []
+
+abbrev pub WorkedTable : Type 0
+WorkedTable = map (λ (r : Row). got (r .asked)) table ≡ map (λ (r : Row). r .answered) table
