@@ -8,3 +8,5 @@ pub mod Forth
 pub mod WellFormed
 pub mod Within
 pub mod Turns
+pub mod Entries
+pub mod OneWalk

@@ -1,0 +1,102 @@
+-- The entries of a section, as a walk over its bytes finds them.
+use Prim.Native.Nat.{ℕ, zero, suc, _+_, _*_, _≤_, _<_}
+use mathlib.Core.Path.{_≡_, refl, sym, _∙_, ap}
+use mathlib.Core.List.{List, [], _∷_, List·Memᴰ, List·Memᴰ·not-nil, List·Memᴰ·cases-cons}
+use mathlib.Core.Logic.{⊎-elim}
+use mathlib.Core.Option.{Option, none, some}
+use native.Mathlib.Omega.{arith}
+use native.Mathlib.Nat.{add-zero}
+use lib.ListN.{length, drop, getElem?}
+use Rattle.wire.specs.Word.{Bytes}
+use Rattle.stackmap.specs.declared.Verdict.the-variants.{Valid}
+use Rattle.stackmap.specs.Fields.{size, all}
+use Rattle.stackmap.specs.Section.{Record, functionFields, constantFields, recordFields, sectionFields, numRecords, recordsAt, readFunction, readConstant, recordLength, readRecord, readRecords, readFunctions, readSection, Owner, owners, counted, Entry, entriesFrom, entriesOf, entries}
+use Rattle.stackmap.specs.Check.{sectionCheck}
+use Rattle.stackmap.specs.Fault.{WellFormed}
+use Rattle.stackmap.proofs.Fields.{size-append, length-many}
+use Rattle.stackmap.proofs.Items.{function-size, constant-size}
+use Rattle.stackmap.proofs.Back.{section-size, length-owners}
+use Rattle.stackmap.proofs.Forth.{read-size, section-long, length-records, accepted-encodable}
+use Rattle.stackmap.proofs.WellFormed.{accepted-well-formed}
+
+-- one step of the walk, by the bytes at `at`
+pub entries-step : (k at n : ℕ) (o : Owner) (os : List Owner) (s : List ℕ)
+    → entriesFrom k at (o ∷ os) (readRecords (suc n) s at)
+      ≡ record { number = k; first = at; owner = o; body = readRecord (drop at s) }
+        ∷ entriesFrom (suc k) (at + recordLength (drop at s)) os (readRecords n s (at + recordLength (drop at s)))
+unfolding entriesFrom readRecords
+entries-step k at n o os s = rw (read-size (drop at s))
+
+-- an entry's content is what is read from its own stretch
+from-stretch : (n k at : ℕ) (os : List Owner) (s : List ℕ) (e : Entry) → List·Memᴰ e (entriesFrom k at os (readRecords n s at)) → e .body ≡ readRecord (drop (e .first) s)
+unfolding entriesFrom readRecords
+from-stretch zero k at [] s e m = absurd (List·Memᴰ·not-nil m)
+from-stretch zero k at (o ∷ os) s e m = absurd (List·Memᴰ·not-nil m)
+from-stretch (suc n) k at [] s e m = absurd (List·Memᴰ·not-nil m)
+from-stretch (suc n) k at (o ∷ os) s e m =
+    ⊎-elim (λ q. rw q) (λ h. from-stretch n (suc k) (at + recordLength (drop at s)) os s e (rw (read-size (drop at s)) at h)) (List·Memᴰ·cases-cons m)
+
+-- and its stretch is inside
+stretch-inside : (rs : List Record) (k at : ℕ) (os : List Owner) (e : Entry) → List·Memᴰ e (entriesFrom k at os rs)
+    → (at ≤ e .first) × (e .first + size (recordFields (e .body)) ≤ at + size (all recordFields rs))
+unfolding entriesFrom all size
+stretch-inside [] k at [] e m = absurd (List·Memᴰ·not-nil m)
+stretch-inside [] k at (o ∷ os) e m = absurd (List·Memᴰ·not-nil m)
+stretch-inside (r ∷ rs) k at [] e m = absurd (List·Memᴰ·not-nil m)
+stretch-inside (r ∷ rs) k at (o ∷ os) e m =
+    let z = size-append (recordFields r) (all recordFields rs) in
+    ⊎-elim (λ q. rw q (omega arith, omega arith))
+    (λ h. let i = stretch-inside rs (suc k) (at + size (recordFields r)) os e h in (omega arith, omega arith))
+    (List·Memᴰ·cases-cons m)
+
+-- a record's number is its place in the list
+numbered : (j k at : ℕ) (os : List Owner) (rs : List Record) (e : Entry) → getElem? (entriesFrom k at os rs) j ≡ some e → e .number ≡ k + j
+unfolding entriesFrom
+numbered j k at [] rs e h = absurd (let z : _≡_ {A = ℕ} 0 1 = cc in omega arith)
+numbered j k at (o ∷ os) [] e h = absurd (let z : _≡_ {A = ℕ} 0 1 = cc in omega arith)
+numbered zero k at (o ∷ os) (r ∷ rs) e h = let q : e .number ≡ k = ap (λ (x : Option Entry). nameOf x) (sym h) in q ∙ sym (add-zero k)
+  where
+    nameOf : Option Entry → ℕ
+    nameOf none = 0
+    nameOf (some x) = x .number
+numbered (suc j) k at (o ∷ os) (r ∷ rs) e h = numbered j (suc k) (at + size (recordFields r)) os rs e h ∙ omega arith
+
+length-entries : (k at : ℕ) (os : List Owner) (rs : List Record) → length os ≡ length rs → length (entriesFrom k at os rs) ≡ length rs
+unfolding entriesFrom
+length-entries k at [] [] h = refl
+length-entries k at [] (r ∷ rs) h = absurd (omega arith)
+length-entries k at (o ∷ os) [] h = absurd (omega arith)
+length-entries k at (o ∷ os) (r ∷ rs) h = ap suc (length-entries (suc k) (at + size (recordFields r)) os rs (omega arith))
+
+module _ (s : List ℕ) where
+  pub begins : 16 + 24 * length (readSection s .functions) + 8 * length (readSection s .constants) ≡ recordsAt s
+  unfolding readSection readFunctions
+  begins = rw (length-many functionFields readFunction 24 function-size, length-many constantFields readConstant 8 constant-size)
+
+  pub entry-body : (e : Entry) → List·Memᴰ e (entries s) → e .body ≡ readRecord (drop (e .first) s)
+  unfolding entries entriesOf readSection
+  entry-body e m = from-stretch (numRecords s) 0 (recordsAt s) (owners 0 (readSection s .functions)) s e (rw begins at m)
+
+  pub entry-number : (j : ℕ) (e : Entry) → getElem? (entries s) j ≡ some e → e .number ≡ j
+  unfolding entries entriesOf
+  entry-number j e h = numbered j 0 _ _ _ e h ∙ omega arith
+
+  module _ (n : ℕ) (k : sectionCheck s ≡ Valid n) (w : Bytes s) where
+    pub entry-inside : (e : Entry) → List·Memᴰ e (entries s) → (16 ≤ e .first) × (e .first + recordLength (drop (e .first) s) ≤ length s)
+    unfolding entries entriesOf
+    entry-inside e m =
+        let i = stretch-inside _ 0 _ _ e m in
+        let z = section-size (readSection s) (accepted-encodable s n k w) in
+        let l = section-long s n k in
+        let b : size (recordFields (e .body)) ≡ recordLength (drop (e .first) s) = ap (λ (r : Record). size (recordFields r)) (entry-body e m) ∙ read-size (drop (e .first) s) in
+        (omega arith, omega arith)
+
+    records-counted : length (readSection s .records) ≡ numRecords s
+    unfolding readSection
+    records-counted = length-records s n k (numRecords s) (recordsAt s)
+
+    pub entries-counted : length (entries s) ≡ numRecords s
+    unfolding entries entriesOf
+    entries-counted =
+        let v = accepted-well-formed s n w k .0 in
+        length-entries 0 _ _ _ (length-owners 0 (readSection s .functions) ∙ v .adds-up) ∙ records-counted

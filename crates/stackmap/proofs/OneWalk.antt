@@ -1,0 +1,58 @@
+-- One walk over the bytes checks the section and folds its entries with any function.
+use Prim.Native.Nat.{ℕ, zero, suc, _+_, _-_, _≤_, _<_}
+use mathlib.Core.Path.{_≡_, refl, sym, _∙_, ap}
+use mathlib.Core.List.{List, [], _∷_}
+use native.Mathlib.Omega.{arith}
+use native.Mathlib.Numerals.{add-one}
+use lib.ListN.{length, drop}
+use Rattle.stackmap.specs.declared.Verdict.the-variants.{Valid}
+use Rattle.stackmap.specs.Verdict.{shift}
+use Rattle.stackmap.specs.Section.{numFunctions, numRecords, recordsAt, recordLength, readRecord, readRecords, readFunctions, readSection, Owner, owners, Entry, entriesFrom, entriesOf, entries}
+use Rattle.stackmap.specs.Record.{recordCheck}
+use Rattle.stackmap.specs.Walk.{ownerAt, ahead, Walkable}
+use Rattle.stackmap.proofs.Verdicts.{shift-valid}
+use Rattle.stackmap.proofs.Forth.{ends}
+use Rattle.stackmap.proofs.Entries.{entries-step, begins}
+use Rattle.stackmap.proofs.Turns.{Walking, walk-start, walk-on, ahead-start, ahead-one}
+
+module _ {H : Type 0} (add : Entry → H → H) where
+  -- what is kept, over a list of entries
+  abbrev pub fold : List Entry → H → H
+  fold [] h = h
+  fold (e ∷ es) h = fold es (add e h)
+
+  -- a walk that has kept h so far stands at the record `number` at the place p
+  pub record Folding (s : List ℕ) (c : ℕ) (h₀ : H) (next left remaining number p : ℕ) (h : H) : Type 0 where
+    pub walking : Walking s c (recordsAt s) next left remaining p
+    pub kept : fold (entries s) h₀ ≡ fold (entriesFrom number p (ahead s next left) (readRecords remaining s p)) h
+
+  -- the entry of the record at p, of function number i
+  abbrev pub entryAt : List ℕ → ℕ → ℕ → ℕ → Entry
+  entryAt s number i p = record { number = number; first = p; owner = ownerAt s i; body = readRecord (drop p s) }
+
+  pub fold-start : {s : List ℕ} {c : ℕ} (h : H) → Walkable s → recordsAt s ≤ length s → Folding s c h 0 0 (numRecords s) 0 (recordsAt s) h
+  fold-start {s} {c} h w i = record { walking = walk-start w i; kept = rw (ahead-start s) (ap (λ (es : List Entry). fold es h) same) }
+    where
+      same : entries s ≡ entriesFrom 0 (recordsAt s) (owners 0 (readFunctions s)) (readRecords (numRecords s) s (recordsAt s))
+      same = unfold entries entriesOf in rw (begins s) (unfold readSection in refl)
+
+  pub fold-on : {s : List ℕ} {c next left remaining number p q : ℕ} {h₀ h : H} (next′ left′ : ℕ) → Folding s c h₀ next left remaining number p h
+      → ahead s next′ left′ ≡ ahead s next left → 0 < left′ → 0 < next′ → next′ ≤ numFunctions s → 0 < remaining
+      → shift p (recordCheck (drop p s) c (ownerAt s (next′ - 1) .function .address)) ≡ Valid q
+      → Folding s c h₀ next′ (left′ - 1) (remaining - 1) (number + 1) q (add (entryAt s number (next′ - 1) p) h)
+  fold-on {s} {c} {next} {left} {remaining} {number} {p} {q} {h₀} {h} next′ left′ f e l b m r v =
+      let x = shift-valid _ _ _ v in
+      let d : q ≡ p + recordLength (drop p s) = x .2 ∙ ap (λ (n : ℕ). p + n) (ends (drop p s) c (ownerAt s (next′ - 1) .function .address) _ (x .1)) in
+      let k : remaining ≡ suc (remaining - 1) = omega arith in
+      let t : entriesFrom number p (ahead s next left) (readRecords remaining s p)
+          ≡ entryAt s number (next′ - 1) p ∷ entriesFrom (number + 1) q (ahead s next′ (left′ - 1)) (readRecords (remaining - 1) s q) =
+          ap (λ (n : ℕ). entriesFrom number p (ahead s next left) (readRecords n s p)) k
+          ∙ rw (← e, ahead-one s next′ left′ l, entries-step number p (remaining - 1) (ownerAt s (next′ - 1)) (ahead s next′ (left′ - 1)) s, d, add-one) in
+      record { walking = walk-on next′ left′ (f .walking) e l b m v; kept = f .kept ∙ ap (λ (es : List Entry). fold es h) t }
+
+  pub fold-end : {s : List ℕ} {c next left number p : ℕ} {h₀ h : H} → Folding s c h₀ next left 0 number p h → fold (entries s) h₀ ≡ h
+  fold-end {s} {c} {next} {left} {number} {p} {h₀} {h} f = f .kept ∙ none (ahead s next left)
+    where
+      none : (os : List Owner) → fold (entriesFrom number p os (readRecords 0 s p)) h ≡ h
+      none [] = unfold entriesFrom in refl
+      none (o ∷ os) = unfold entriesFrom readRecords in refl
