@@ -10,3 +10,4 @@ pub mod Within
 pub mod Turns
 pub mod Entries
 pub mod OneWalk
+pub mod Numbers

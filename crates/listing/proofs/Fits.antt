@@ -1,0 +1,216 @@
+-- Numbers that fit the section's fields fit the listing's, and the other way where no list is too long.
+use Prim.Native.Nat.{ℕ, zero, suc, _+_, _*_, _-_, _%_, _^_, _≤_, _<_}
+use mathlib.Core.Path.{_≡_, refl, sym, _∙_, ap}
+use mathlib.Core.List.{List, [], _∷_, _++_, List·Memᴰ, List·Memᴰ·head, List·Memᴰ·tail}
+use mathlib.Core.Bool.{Bool, true, false, _&&_}
+use native.Mathlib.Omega.{arith}
+use native.Mathlib.Nat.{one-le-pow}
+use borrow.Author.Tests.{le-leb, leb-true}
+use lib.ListN.{length}
+use lib.Dec.{leb}
+use Rattle.stackmap.specs.declared.Verdict.{Verdict}
+use Rattle.stackmap.specs.declared.Verdict.the-variants.{Valid, Refused}
+use Rattle.stackmap.specs.Fields.{size, Field, Fit, _of_, all}
+use Rattle.stackmap.specs.Section.{Encodable, Function, LiveOut, Location, Record, Section, constantFields, functionFields, liveOutFields, locationFields, recordFields, sectionFields}
+use Rattle.stackmap.specs.Verdict.{must}
+use Rattle.stackmap.proofs.Fields.{size-all, size-append}
+use Rattle.stackmap.proofs.Verdicts.{must-held, must-rest}
+use Rattle.listing.specs.Listing.{functionItem, constantItem, recordItem, locationItem, liveOutItem, endItem, recordItems, listingFields, notTooMany}
+
+pub fit-join : (fs gs : List Field) → Fit fs → Fit gs → Fit (fs ++ gs)
+fit-join [] gs h k = k
+fit-join (f ∷ fs) gs h k = (h .0, fit-join fs gs (h .1) k)
+
+pub fit-first : (fs gs : List Field) → Fit (fs ++ gs) → Fit fs
+fit-first [] gs h = tt
+fit-first (f ∷ fs) gs h = (h .0, fit-first fs gs (h .1))
+
+pub fit-second : (fs gs : List Field) → Fit (fs ++ gs) → Fit gs
+fit-second [] gs h = h
+fit-second (f ∷ fs) gs h = fit-second fs gs (h .1)
+
+fit-map : {A : Type 0} (f g : A → List Field) → ((x : A) → Fit (f x) → Fit (g x)) → (xs : List A) → Fit (all f xs) → Fit (all g xs)
+unfolding all
+fit-map f g h [] k = tt
+fit-map f g h (x ∷ xs) k = fit-join (g x) (all g xs) (h x (fit-first (f x) (all f xs) k)) (fit-map f g h xs (fit-second (f x) (all f xs) k))
+
+-- each item's numbers fit
+pub fit-each : {A : Type 0} (f : A → List Field) (xs : List A) → ((x : A) → List·Memᴰ x xs → Fit (f x)) → Fit (all f xs)
+unfolding all
+fit-each f [] h = tt
+fit-each f (x ∷ xs) h = fit-join (f x) (all f xs) (h x (List·Memᴰ·head refl)) (fit-each f xs (λ y m. h y (List·Memᴰ·tail m)))
+
+pub each-fit : {A : Type 0} (f : A → List Field) {x : A} {xs : List A} → Fit (all f xs) → List·Memᴰ x xs → Fit (f x)
+unfolding all
+each-fit f {x} h (List·Memᴰ·head {x = y} {xs = ys} e) = rw e (fit-first (f y) (all f ys) h)
+each-fit f {x} h (List·Memᴰ·tail {x = y} {xs = ys} m) = each-fit f (fit-second (f y) (all f ys) h) m
+
+function-to : (f : Function) → Fit (functionFields f) → Fit (functionItem f)
+unfolding functionFields functionItem
+function-to f h = omega arith
+
+function-from : (f : Function) → Fit (functionItem f) → Fit (functionFields f)
+unfolding functionFields functionItem
+function-from f h = omega arith
+
+constant-to : (v : ℕ) → Fit (constantFields v) → Fit (constantItem v)
+unfolding constantFields constantItem
+constant-to v h = omega arith
+
+constant-from : (v : ℕ) → Fit (constantItem v) → Fit (constantFields v)
+unfolding constantFields constantItem
+constant-from v h = omega arith
+
+location-to : (l : Location) → Fit (locationFields l) → Fit (locationItem l)
+unfolding locationFields locationItem
+location-to l h = omega arith
+
+location-from : (l : Location) → Fit (locationItem l) → Fit (locationFields l)
+unfolding locationFields locationItem
+location-from l h = omega arith
+
+live-out-to : (o : LiveOut) → Fit (liveOutFields o) → Fit (liveOutItem o)
+unfolding liveOutFields liveOutItem
+live-out-to o h = omega arith
+
+live-out-from : (o : LiveOut) → Fit (liveOutItem o) → Fit (liveOutFields o)
+unfolding liveOutFields liveOutItem
+live-out-from o h = omega arith
+
+-- neither list is too long
+pub record Small (r : Record) : Type 0 where
+  pub locations : length (r .locations) ≤ 65535
+  pub liveOuts : length (r .liveOuts) ≤ 65535
+
+abbrev pub AllSmall : List Record → Type 0
+AllSmall [] = Unit {0}
+AllSmall (r ∷ rs) = Small r × AllSmall rs
+
+module _ (r : Record) where
+  abbrev n : ℕ
+  n = length (r .locations)
+
+  abbrev m : ℕ
+  m = length (r .liveOuts)
+
+  abbrev A : List Field
+  A = (8 of r .id) ∷ (4 of r .offset) ∷ (2 of 0) ∷ (2 of n) ∷ []
+
+  abbrev B : List Field
+  B = all locationFields (r .locations)
+
+  abbrev C : List Field
+  C = ((n % 2 * 4 + 2) of 0) ∷ (2 of m) ∷ []
+
+  abbrev D : List Field
+  D = all liveOutFields (r .liveOuts)
+
+  abbrev E : List Field
+  E = (((m + 1) % 2 * 4) of 0) ∷ []
+
+  record-to : Fit (recordFields r) → Fit (recordItems r) × Small r
+  unfolding recordFields recordItems recordItem
+  record-to h =
+      let L = all locationItem (r .locations) in
+      let O = all liveOutItem (r .liveOuts) in
+      let h₄ = fit-first (A ++ B ++ C ++ D) E h in
+      let h₃ = fit-first (A ++ B ++ C) D h₄ in
+      let c = fit-second (A ++ B) C h₃ in
+      let h₂ = fit-first (A ++ B) C h₃ in
+      let a = fit-first A B h₂ in
+      let b = fit-map locationFields locationItem location-to (r .locations) (fit-second A B h₂) in
+      let d = fit-map liveOutFields liveOutItem live-out-to (r .liveOuts) (fit-second (A ++ B ++ C) D h₄) in
+      let i : Fit (recordItem r) = omega arith in
+      (fit-join (recordItem r) (L ++ O) i (fit-join L O b d), record { locations = omega arith; liveOuts = omega arith })
+
+  record-from : Fit (recordItems r) → Small r → Fit (recordFields r)
+  unfolding recordFields recordItems recordItem
+  record-from h s =
+      let L = all locationItem (r .locations) in
+      let O = all liveOutItem (r .liveOuts) in
+      let h₁ = fit-first (recordItem r) (L ++ O) h in
+      let h₂ = fit-second (recordItem r) (L ++ O) h in
+      let b = fit-map locationItem locationFields location-from (r .locations) (fit-first L O h₂) in
+      let d = fit-map liveOutItem liveOutFields live-out-from (r .liveOuts) (fit-second L O h₂) in
+      let p = one-le-pow (n % 2 * 4 + 2) 256 (omega arith) in
+      let q = one-le-pow ((m + 1) % 2 * 4) 256 (omega arith) in
+      let a : Fit A = omega arith in
+      let c : Fit C = omega arith in
+      let e : Fit E = omega arith in
+      fit-join (A ++ B ++ C ++ D) E (fit-join (A ++ B ++ C) D (fit-join (A ++ B) C (fit-join A B a b) c) d) e
+
+records-to : (rs : List Record) → Fit (all recordFields rs) → Fit (all recordItems rs) × AllSmall rs
+unfolding all
+records-to [] h = (tt, tt)
+records-to (r ∷ rs) h =
+    let a = record-to r (fit-first (recordFields r) (all recordFields rs) h) in
+    let b = records-to rs (fit-second (recordFields r) (all recordFields rs) h) in
+    (fit-join (recordItems r) (all recordItems rs) (a .0) (b .0), (a .1, b .1))
+
+records-from : (rs : List Record) → Fit (all recordItems rs) → AllSmall rs → Fit (all recordFields rs)
+unfolding all
+records-from [] h s = tt
+records-from (r ∷ rs) h s =
+    fit-join (recordFields r) (all recordFields rs) (record-from r (fit-first (recordItems r) (all recordItems rs) h) (s .0))
+    (records-from rs (fit-second (recordItems r) (all recordItems rs) h) (s .1))
+
+pub and-true : (a b : Bool) → (a && b) ≡ true → (a ≡ true) × (b ≡ true)
+and-true true b h = (refl, h)
+and-true false b h = absurd (let z : _≡_ {A = ℕ} 0 1 = cc in omega arith)
+
+pub small-whole : (rs : List Record) (at : ℕ) → AllSmall rs → notTooMany rs at ≡ Valid (at + size (all recordItems rs))
+unfolding notTooMany must all size
+small-whole [] at s = ap Valid (omega arith)
+small-whole (r ∷ rs) at s =
+    rw (le-leb _ _ (s .0 .locations), le-leb _ _ (s .0 .liveOuts), small-whole rs (at + size (recordItems r)) (s .1), size-append)
+    (ap Valid (omega arith))
+
+pub whole-small : (rs : List Record) (at e : ℕ) → notTooMany rs at ≡ Valid e → AllSmall rs
+unfolding notTooMany
+whole-small [] at e h = tt
+whole-small (r ∷ rs) at e h =
+    let a = and-true _ _ (must-held _ _ _ _ _ h) in
+    (record { locations = leb-true _ _ (a .0); liveOuts = leb-true _ _ (a .1) }, whole-small rs (at + size (recordItems r)) e (must-rest _ _ _ _ _ h))
+
+module _ (t : Section) where
+  abbrev H : List Field
+  H = (1 of 3) ∷ (3 of 0) ∷ (4 of length (t .functions)) ∷ (4 of length (t .constants)) ∷ (4 of length (t .records)) ∷ []
+
+  abbrev F : List Field
+  F = all functionFields (t .functions)
+
+  abbrev K : List Field
+  K = all constantFields (t .constants)
+
+  abbrev R : List Field
+  R = all recordFields (t .records)
+
+  abbrev G : List Field
+  G = all functionItem (t .functions)
+
+  abbrev L : List Field
+  L = all constantItem (t .constants)
+
+  abbrev S : List Field
+  S = all recordItems (t .records)
+
+  pub section-to-listing : Encodable t → Fit (listingFields t) × AllSmall (t .records)
+  unfolding sectionFields listingFields
+  section-to-listing h =
+      let h₂ = fit-first (H ++ F ++ K) R h in
+      let h₁ = fit-first (H ++ F) K h₂ in
+      let f = fit-map functionFields functionItem function-to (t .functions) (fit-second H F h₁) in
+      let k = fit-map constantFields constantItem constant-to (t .constants) (fit-second (H ++ F) K h₂) in
+      let r = records-to (t .records) (fit-second (H ++ F ++ K) R h) in
+      (fit-join G (L ++ (S ++ endItem)) f (fit-join L (S ++ endItem) k (fit-join S endItem (r .0) (omega arith))), r .1)
+
+  pub listing-to-section : Fit (listingFields t) → AllSmall (t .records)
+      → length (t .functions) < 2 ^ 32 → length (t .constants) < 2 ^ 32 → length (t .records) < 2 ^ 32 → Encodable t
+  unfolding sectionFields listingFields
+  listing-to-section h s l₁ l₂ l₃ =
+      let h₂ = fit-second G (L ++ (S ++ endItem)) h in
+      let f = fit-map functionItem functionFields function-from (t .functions) (fit-first G (L ++ (S ++ endItem)) h) in
+      let k = fit-map constantItem constantFields constant-from (t .constants) (fit-first L (S ++ endItem) h₂) in
+      let r = records-from (t .records) (fit-first S endItem (fit-second L (S ++ endItem) h₂)) s in
+      let a : Fit H = omega arith in
+      fit-join (H ++ F ++ K) R (fit-join (H ++ F) K (fit-join H F a f) k) r

@@ -1,0 +1,5 @@
+pub mod Fits
+pub mod Listing
+pub mod Numbers
+pub mod Writes
+pub mod RoundTrip

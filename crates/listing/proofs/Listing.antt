@@ -1,0 +1,465 @@
+-- The listing's two laws.
+use Prim.Native.Nat.{ℕ, zero, suc, _+_, _*_, _-_, _%_, _^_, _≤_, _<_}
+use mathlib.Core.Path.{_≡_, refl, sym, _∙_, ap, subst}
+use mathlib.Core.List.{List, [], _∷_, _++_, append-nil, append-assoc}
+use mathlib.Core.Bool.{Bool, true, false, _&&_, and-false}
+use native.Mathlib.Omega.{arith}
+use native.Mathlib.Nat.{add-zero, zero-add, add-assoc, mul-suc}
+use borrow.Author.Tests.{le-leb, lt-leb, leb-true, eq-eqb, ne-eqb, eqb-true}
+use lib.ListN.{length, getD, drop}
+use lib.Seq.{drop-length}
+use lib.Dec.{leb, eqb}
+use Rattle.wire.specs.Word.{Bytes, word}
+use Rattle.stackmap.specs.Fields.{size, Field, Fit, _of_, all, bytesOf, many}
+use Rattle.stackmap.specs.Section.{Encodable, Function, LiveOut, Location, Record, Section}
+use Rattle.stackmap.specs.Verdict.{chain, must}
+use Rattle.stackmap.proofs.Fields.{Has, HasFrom, fields-back, has-bytes, has-fit, join, length-bytesOf, length-many, many-back, size-all, size-append, split}
+use Rattle.stackmap.proofs.Verdicts.{chain-first, chain-rest, must-held, must-rest}
+use Rattle.stackmap.specs.declared.Verdict.{Verdict}
+use Rattle.stackmap.specs.declared.Verdict.the-variants.{Valid, Refused}
+use Rattle.listing.specs.Listing.{functionItem, constantItem, recordItem, locationItem, liveOutItem, endItem, recordItems, listingFields, encodeListing, stands, run, listedFunction, listedConstant, listedLocation, listedLiveOut, listedLocations, listedLiveOuts, listedRecord, recordStop, listedRecords, recordsStop, functionsListed, constantsListed, recordsBegin, readListing, itemsStop, notTooMany, listingCheck}
+use Rattle.listing.proofs.Fits.{and-true, AllSmall, small-whole, whole-small, section-to-listing, listing-to-section}
+
+function-size : (f : Function) → size (functionItem f) ≡ 25
+unfolding size functionItem
+function-size f = refl
+
+constant-size : (v : ℕ) → size (constantItem v) ≡ 9
+unfolding size constantItem
+constant-size v = refl
+
+location-size : (l : Location) → size (locationItem l) ≡ 10
+unfolding size locationItem
+location-size l = refl
+
+live-out-size : (o : LiveOut) → size (liveOutItem o) ≡ 4
+unfolding size liveOutItem
+live-out-size o = refl
+
+byte-word : (s : List ℕ) (a : ℕ) → word 1 s a ≡ getD s a 0
+unfolding word
+byte-word s a = omega arith
+
+function-back : (l : List ℕ) (f : Function) (a : ℕ) → Has l a (functionItem f) → listedFunction l a ≡ f
+unfolding functionItem listedFunction
+function-back l f a h = rw (h .1 .0, h .1 .1 .0, h .1 .1 .1 .0)
+
+constant-back : (l : List ℕ) (v a : ℕ) → Has l a (constantItem v) → listedConstant l a ≡ v
+unfolding constantItem listedConstant
+constant-back l v a h = h .1 .0
+
+location-back : (l : List ℕ) (x : Location) (a : ℕ) → Has l a (locationItem x) → listedLocation l a ≡ x
+unfolding locationItem listedLocation
+location-back l x a h = rw (h .1 .0, h .1 .1 .0, h .1 .1 .1 .0, h .1 .1 .1 .1 .0)
+
+live-out-back : (l : List ℕ) (o : LiveOut) (a : ℕ) → Has l a (liveOutItem o) → listedLiveOut l a ≡ o
+unfolding liveOutItem listedLiveOut
+live-out-back l o a h = rw (h .1 .0, h .1 .1 .0)
+
+-- the fields begin with a kind that is not k
+abbrev Leads : ℕ → List Field → Type 0
+Leads k [] = ⊥
+Leads k (f ∷ fs) = (f .width ≡ 1) × (f .value ≡ k → ⊥)
+
+no-item : (k n : ℕ) (l : List ℕ) (at : ℕ) (fs : List Field) → Leads k fs → Has l at fs → stands k n l at ≡ false
+unfolding stands
+no-item k n l at [] d h = absurd d
+no-item k n l at (f ∷ fs) d h =
+    let e : word 1 l at ≡ f .value = rw (add-zero, d .0) at (h .0) in
+    let g : getD l at 0 ≡ f .value = sym (byte-word l at) ∙ e in
+    let z : getD l at 0 ≡ k → ⊥ = λ q. d .1 (sym g ∙ q) in
+    rw (ne-eqb _ _ z) (and-false (leb (at + n) (length l)))
+
+pub run-yes : (k n m : ℕ) (l : List ℕ) (at : ℕ) → stands k n l at ≡ true → run k n (suc m) l at ≡ suc (run k n m l (at + n))
+unfolding run
+run-yes k n m l at e = rw (e, run)
+
+pub run-no : (k n m : ℕ) (l : List ℕ) (at : ℕ) → stands k n l at ≡ false → run k n m l at ≡ 0
+unfolding run
+run-no k n zero l at e = refl
+run-no k n (suc m) l at e = rw (e, run)
+
+pub yes-item : (k n : ℕ) (l : List ℕ) (at : ℕ) → at + n ≤ length l → getD l at 0 ≡ k → stands k n l at ≡ true
+unfolding stands
+yes-item k n l at i e = rw (le-leb _ _ i, eq-eqb _ _ e)
+
+pub no-room : (k n : ℕ) (l : List ℕ) (at : ℕ) → length l < at + n → stands k n l at ≡ false
+unfolding stands
+no-room k n l at i = rw (lt-leb _ _ i)
+
+pub other-kind : (k n : ℕ) (l : List ℕ) (at : ℕ) → (getD l at 0 ≡ k → ⊥) → stands k n l at ≡ false
+unfolding stands
+other-kind k n l at h = rw (ne-eqb _ _ h) (and-false (leb (at + n) (length l)))
+
+pub is-item : (k n : ℕ) (l : List ℕ) (at : ℕ) → stands k n l at ≡ true → (at + n ≤ length l) × (getD l at 0 ≡ k)
+unfolding stands
+is-item k n l at e = let a = and-true _ _ e in (leb-true _ _ (a .0), eqb-true _ _ (a .1))
+
+-- a run is inside
+pub run-inside : (k n m : ℕ) (l : List ℕ) (at : ℕ) → at ≤ length l → at + n * run k n m l at ≤ length l
+run-inside k n zero l at i = unfold run in omega arith
+run-inside k n (suc m) l at i = go (run-inside k n m l (at + n)) (stands k n l at) refl
+  where
+    go : (at + n ≤ length l → at + n + n * run k n m l (at + n) ≤ length l) → (b : Bool) → stands k n l at ≡ b → at + n * run k n (suc m) l at ≤ length l
+    go ih true e =
+        let z = mul-suc n (run k n m l (at + n)) in
+        let h = ih (is-item k n l at e .0) in
+        rw (run-yes k n m l at e) (omega arith)
+    go ih false e = rw (run-no k n (suc m) l at e) (omega arith)
+
+module _ {A : Type 0} (item : A → List Field) (k n : ℕ) (even : (x : A) → size (item x) ≡ n) (l : List ℕ) where
+  -- the items of one kind are all found
+  run-back : ((x : A) (at : ℕ) → Has l at (item x) → getD l at 0 ≡ k)
+      → (xs : List A) (at m : ℕ) → length xs ≤ m → Has l at (all item xs) → at + n * length xs ≤ length l
+      → stands k n l (at + n * length xs) ≡ false → run k n m l at ≡ length xs
+  unfolding all
+  run-back kind [] at m f h i e = let e₂ : at + n * 0 ≡ at = omega arith in run-no k n m l at (rw e₂ at e)
+  run-back kind (x ∷ xs) at zero f h i e = absurd (omega arith)
+  run-back kind (x ∷ xs) at (suc m) f h i e =
+      let z = mul-suc n (length xs) in
+      let j = split l at (at + n) (item x) (all item xs) (rw (even x)) h in
+      let p : at + n * suc (length xs) ≡ at + n + n * length xs = omega arith in
+      run-yes k n m l at (yes-item k n l at (omega arith) (kind x at (j .0)))
+      ∙ ap suc (run-back kind xs (at + n) m (omega arith) (j .1) (omega arith) (rw p at e))
+
+  -- what is found are items, all inside
+  run-has : (read : List ℕ → ℕ → A) → ((at : ℕ) → getD l at 0 ≡ k → Has l at (item (read l at)))
+      → (m at : ℕ) → at ≤ length l → Has l at (all item (many read n (run k n m l at) l at)) × (at + n * run k n m l at ≤ length l)
+  unfolding all many
+  run-has read has zero at i = unfold run in (tt, omega arith)
+  run-has read has (suc m) at i = go (run-has read has m (at + n)) (stands k n l at) refl
+    where
+      go : (at + n ≤ length l → Has l (at + n) (all item (many read n (run k n m l (at + n)) l (at + n))) × (at + n + n * run k n m l (at + n) ≤ length l))
+          → (b : Bool) → stands k n l at ≡ b
+          → Has l at (all item (many read n (run k n (suc m) l at) l at)) × (at + n * run k n (suc m) l at ≤ length l)
+      go ih true e =
+          let a = is-item k n l at e in
+          let z = mul-suc n (run k n m l (at + n)) in
+          let r = ih (a .0) in
+          rw (run-yes k n m l at e)
+          (join l at (at + n) (item (read l at)) (all item (many read n (run k n m l (at + n)) l (at + n))) (rw (even (read l at))) (has at (a .1)) (r .0),
+            omega arith)
+      go ih false e = rw (run-no k n (suc m) l at e) (tt, omega arith)
+
+-- what stands after the items of a kind is another kind
+
+leads-records : (k : ℕ) (rs : List Record) → (k ≡ 3 → ⊥) → (k ≡ 6 → ⊥) → Leads k (all recordItems rs ++ endItem)
+unfolding all recordItems recordItem
+leads-records k [] a b = (refl, λ e. b (sym e))
+leads-records k (r ∷ rs) a b = (refl, λ e. a (sym e))
+
+leads-outs : (os : List LiveOut) (rs : List Record) → Leads 4 (all liveOutItem os ++ (all recordItems rs ++ endItem))
+unfolding all liveOutItem
+leads-outs [] rs = leads-records 4 rs (omega arith) (omega arith)
+leads-outs (o ∷ os) rs = (refl, omega arith)
+
+leads-constants : (cs : List ℕ) (rs : List Record) → Leads 1 (all constantItem cs ++ (all recordItems rs ++ endItem))
+unfolding all constantItem
+leads-constants [] rs = leads-records 1 rs (omega arith) (omega arith)
+leads-constants (c ∷ cs) rs = (refl, omega arith)
+
+regroup : (r : Record) (rs : List Record)
+    → recordItems r ++ all recordItems rs ++ endItem ≡ recordItem r ++ (all locationItem (r .locations) ++ (all liveOutItem (r .liveOuts) ++ (all recordItems rs ++ endItem)))
+unfolding recordItems
+regroup r rs = simp append-assoc
+
+kind-byte : (l : List ℕ) (at k : ℕ) → word 1 l (at + 0) ≡ k → getD l at 0 ≡ k
+kind-byte l at k h = sym (byte-word l at) ∙ (rw add-zero at h)
+
+module _ (l : List ℕ) where
+  function-kind : (x : Function) (at : ℕ) → Has l at (functionItem x) → getD l at 0 ≡ 1
+  unfolding functionItem
+  function-kind x at h = kind-byte l at 1 (h .0)
+
+  constant-kind : (x : ℕ) (at : ℕ) → Has l at (constantItem x) → getD l at 0 ≡ 2
+  unfolding constantItem
+  constant-kind x at h = kind-byte l at 2 (h .0)
+
+  location-kind : (x : Location) (at : ℕ) → Has l at (locationItem x) → getD l at 0 ≡ 4
+  unfolding locationItem
+  location-kind x at h = kind-byte l at 4 (h .0)
+
+  live-out-kind : (x : LiveOut) (at : ℕ) → Has l at (liveOutItem x) → getD l at 0 ≡ 5
+  unfolding liveOutItem
+  live-out-kind x at h = kind-byte l at 5 (h .0)
+
+  records-yes : (m at : ℕ) → stands 3 13 l at ≡ true
+      → (listedRecords l (suc m) at ≡ listedRecord l at ∷ listedRecords l m (recordStop l at)) × (recordsStop l (suc m) at ≡ recordsStop l m (recordStop l at))
+  unfolding listedRecords recordsStop
+  records-yes m at e = (rw (e, listedRecords), rw (e, recordsStop))
+
+  records-no : (m at : ℕ) → stands 3 13 l at ≡ false → (listedRecords l m at ≡ []) × (recordsStop l m at ≡ at)
+  unfolding listedRecords recordsStop
+  records-no zero at e = (refl, refl)
+  records-no (suc m) at e = (rw (e, listedRecords), rw (e, recordsStop))
+
+  module _ (r : Record) (rs : List Record) (at : ℕ) where
+    abbrev n : ℕ
+    n = length (r .locations)
+
+    abbrev m : ℕ
+    m = length (r .liveOuts)
+
+    abbrev L : List Field
+    L = all locationItem (r .locations)
+
+    abbrev O : List Field
+    O = all liveOutItem (r .liveOuts)
+
+    abbrev rest : List Field
+    rest = all recordItems rs ++ endItem
+
+    sizes : (size L ≡ 10 * n) × (size O ≡ 4 * m)
+    sizes = (size-all locationItem 10 location-size (r .locations), size-all liveOutItem 4 live-out-size (r .liveOuts))
+
+    pub items-size : size (recordItems r) ≡ 13 + 10 * n + 4 * m
+    unfolding recordItems recordItem size
+    items-size = simp size-append (omega (arith, sizes))
+
+    record-back : Has l at (recordItem r ++ (L ++ (O ++ rest))) → at + size (recordItems r) ≤ length l
+        → (stands 3 13 l at ≡ true) × (listedRecord l at ≡ r) × (recordStop l at ≡ at + size (recordItems r)) × Has l (at + size (recordItems r)) rest
+    unfolding recordItem listedRecord recordStop size
+    record-back h i =
+        let z = items-size in
+        let k₁ = split l at (at + 13) (recordItem r) (L ++ (O ++ rest)) refl h in
+        let k₂ = split l (at + 13) (at + 13 + 10 * n) L (O ++ rest) (omega (arith, sizes)) (k₁ .1) in
+        let k₃ = split l (at + 13 + 10 * n) (at + size (recordItems r)) O rest (omega (arith, sizes)) (k₂ .1) in
+        let p : at + 13 + 10 * n + 4 * m ≡ at + size (recordItems r) = omega arith in
+        let e₁ : listedLocations l at ≡ n =
+            run-back locationItem 4 10 location-size l location-kind (r .locations) (at + 13) (length l) (omega arith) (k₂ .0) (omega arith)
+              (no-item 4 10 l _ (O ++ rest) (leads-outs (r .liveOuts) rs) (k₂ .1)) in
+        let e₂ : run 5 4 (length l) l (at + 13 + 10 * n) ≡ m =
+            run-back liveOutItem 5 4 live-out-size l live-out-kind (r .liveOuts) (at + 13 + 10 * n) (length l) (omega arith) (k₃ .0) (omega arith)
+              (rw p (no-item 5 4 l _ rest (leads-records 5 rs (omega arith) (omega arith)) (k₃ .1))) in
+        (yes-item 3 13 l at (omega arith) (kind-byte l at 3 (k₁ .0 .0)),
+          rw (e₁, e₂, k₁ .0 .1 .0, k₁ .0 .1 .1 .0,
+            many-back locationItem listedLocation 10 location-size l (location-back l) (r .locations) _ (k₂ .0),
+            many-back liveOutItem listedLiveOut 4 live-out-size l (live-out-back l) (r .liveOuts) _ (k₃ .0)),
+          rw (e₁, e₂) p,
+          k₃ .1)
+
+  records-back : (rs : List Record) (at m : ℕ) → length rs ≤ m → Has l at (all recordItems rs ++ endItem) → at + size (all recordItems rs) ≤ length l
+      → (listedRecords l m at ≡ rs) × (recordsStop l m at ≡ at + size (all recordItems rs))
+  unfolding all size
+  records-back [] at m f h i =
+      let e = records-no m at (no-item 3 13 l at endItem (refl, omega arith) h) in
+      (e .0, e .1 ∙ sym (add-zero at))
+  records-back (r ∷ rs) at zero f h i = absurd (omega arith)
+  records-back (r ∷ rs) at (suc m) f h i =
+      let z = size-append (recordItems r) (all recordItems rs) in
+      let b = record-back r rs at (subst (λ (fs : List Field). Has l at fs) (regroup r rs) h) (omega arith) in
+      let y = records-yes m at (b .0) in
+      let ih = records-back rs (at + size (recordItems r)) m (omega arith) (b .3) (omega arith) in
+      (y .0 ∙ rw (b .1, b .2, ih .0), y .1 ∙ rw (b .2, ih .1, z, add-assoc))
+
+module _ (t : Section) (fit : Fit (listingFields t)) where
+  abbrev l : List ℕ
+  l = encodeListing t
+
+  abbrev nf : ℕ
+  nf = length (t .functions)
+
+  abbrev nc : ℕ
+  nc = length (t .constants)
+
+  abbrev F : List Field
+  F = all functionItem (t .functions)
+
+  abbrev K : List Field
+  K = all constantItem (t .constants)
+
+  abbrev R : List Field
+  R = all recordItems (t .records)
+
+  tables : (size F ≡ 25 * nf) × (size K ≡ 9 * nc)
+  tables = (size-all functionItem 25 function-size (t .functions), size-all constantItem 9 constant-size (t .constants))
+
+  pub listing-length : length (encodeListing t) ≡ 25 * nf + 9 * nc + size R + 1
+  unfolding encodeListing listingFields size
+  listing-length = length-bytesOf (listingFields t) ∙ simp size-append (omega (arith, tables))
+
+  has : Has l 0 (F ++ (K ++ (R ++ endItem)))
+  unfolding encodeListing listingFields
+  has = fields-back l 0 0 (listingFields t) [] fit (rw append-nil)
+
+  record Listed : Type 0 where
+    functions-num : functionsListed l ≡ nf
+    constants-num : run 2 9 (length l) l (25 * nf) ≡ nc
+    functions-in : Has l 0 F
+    constants-in : Has l (25 * nf) K
+    records-are : listedRecords l (length l) (25 * nf + 9 * nc) ≡ t .records
+    stop-is : recordsStop l (length l) (25 * nf + 9 * nc) ≡ 25 * nf + 9 * nc + size R
+    end-in : Has l (25 * nf + 9 * nc + size R) endItem
+  
+  count-le : (rs : List Record) → length rs ≤ size (all recordItems rs)
+  unfolding all size recordItems recordItem
+  count-le [] = omega arith
+  count-le (r ∷ rs) = rw (size-append (recordItems r)) (omega (arith, count-le rs))
+
+  listed : Listed
+  listed =
+      let n = listing-length in
+      let c = count-le (t .records) in
+      let k₁ = split l 0 (25 * nf) F (K ++ (R ++ endItem)) (omega (arith, tables)) has in
+      let k₂ = split l (25 * nf) (25 * nf + 9 * nc) K (R ++ endItem) (omega (arith, tables)) (k₁ .1) in
+      let k₃ = split l (25 * nf + 9 * nc) (25 * nf + 9 * nc + size R) R endItem refl (k₂ .1) in
+      let r = records-back l (t .records) (25 * nf + 9 * nc) (length l) (omega arith) (k₂ .1) (omega arith) in
+      record {
+        functions-num = run-back functionItem 1 25 function-size l (function-kind l) (t .functions) 0 (length l) (omega arith) (k₁ .0) (omega arith)
+            (rw zero-add (no-item 1 25 l _ (K ++ (R ++ endItem)) (leads-constants (t .constants) (t .records)) (k₁ .1)));
+        constants-num = run-back constantItem 2 9 constant-size l (constant-kind l) (t .constants) (25 * nf) (length l) (omega arith) (k₂ .0) (omega arith)
+            (no-item 2 9 l _ (R ++ endItem) (leads-records 2 (t .records) (omega arith) (omega arith)) (k₂ .1));
+        functions-in = k₁ .0;
+        constants-in = k₂ .0;
+        records-are = r .0;
+        stop-is = r .1;
+        end-in = k₃ .1
+      }
+
+  -- the listing of a section is read as the section
+  pub listing-back : readListing (encodeListing t) ≡ t
+  unfolding readListing
+  listing-back =
+      let w = listed in
+      rw (w .functions-num, w .constants-num, w .records-are,
+        many-back functionItem listedFunction 25 function-size l (function-back l) (t .functions) 0 (w .functions-in),
+        many-back constantItem listedConstant 9 constant-size l (constant-back l) (t .constants) _ (w .constants-in))
+
+  -- and accepted
+  pub listing-check : AllSmall (t .records) → length (encodeListing t) ≤ 33554432 → listingCheck (encodeListing t) ≡ Valid (length (encodeListing t))
+  unfolding listingCheck itemsStop must chain
+  listing-check s b =
+      let w = listed in
+      let n = listing-length in
+      let y = yes-item 6 1 l (25 * nf + 9 * nc + size R) (omega arith) (kind-byte l _ 6 (w .end-in .0)) in
+      rw (le-leb _ _ b, w .functions-num, w .constants-num, w .stop-is, y, eq-eqb _ _ (sym n), listing-back, small-whole (t .records) (25 * nf + 9 * nc) s)
+
+-- an accepted listing
+
+function-has : (l : List ℕ) (at : ℕ) → getD l at 0 ≡ 1 → Has l at (functionItem (listedFunction l at))
+unfolding functionItem listedFunction
+function-has l at e = (rw add-zero (byte-word l at ∙ e), (refl, (refl, (refl, tt))))
+
+constant-has : (l : List ℕ) (at : ℕ) → getD l at 0 ≡ 2 → Has l at (constantItem (listedConstant l at))
+unfolding constantItem listedConstant
+constant-has l at e = (rw add-zero (byte-word l at ∙ e), (refl, tt))
+
+location-has : (l : List ℕ) (at : ℕ) → getD l at 0 ≡ 4 → Has l at (locationItem (listedLocation l at))
+unfolding locationItem listedLocation
+location-has l at e = (rw add-zero (byte-word l at ∙ e), (refl, (refl, (refl, (refl, tt)))))
+
+live-out-has : (l : List ℕ) (at : ℕ) → getD l at 0 ≡ 5 → Has l at (liveOutItem (listedLiveOut l at))
+unfolding liveOutItem listedLiveOut
+live-out-has l at e = (rw add-zero (byte-word l at ∙ e), (refl, (refl, tt)))
+
+module _ (l : List ℕ) where
+  -- n items of one size
+  size-many : {A : Type 0} (item : A → List Field) (k : ℕ) → ((x : A) → size (item x) ≡ k) → (read : List ℕ → ℕ → A) (n at : ℕ)
+      → size (all item (many read k n l at)) ≡ k * n
+  size-many item k even read n at = size-all item k even (many read k n l at) ∙ rw (length-many item read k even)
+
+  record-has : (at : ℕ) → stands 3 13 l at ≡ true
+      → Has l at (recordItems (listedRecord l at)) × (recordStop l at ≡ at + size (recordItems (listedRecord l at))) × (recordStop l at ≤ length l)
+  unfolding recordItems listedRecord recordStop recordItem size
+  record-has at e =
+      let a = is-item 3 13 l at e in
+      let nl = listedLocations l at in
+      let no = listedLiveOuts l at in
+      let L = all locationItem (many listedLocation 10 nl l (at + 13)) in
+      let O = all liveOutItem (many listedLiveOut 4 no l (at + 13 + 10 * nl)) in
+      let I : List Field = (1 of 3) ∷ (8 of word 8 l (at + 1)) ∷ (4 of word 4 l (at + 9)) ∷ [] in
+      let h₁ = run-has locationItem 4 10 location-size l listedLocation (location-has l) (length l) (at + 13) (a .0) in
+      let h₂ = run-has liveOutItem 5 4 live-out-size l listedLiveOut (live-out-has l) (length l) (at + 13 + 10 * nl) (h₁ .1) in
+      let z₁ : size L ≡ 10 * nl = size-many locationItem 10 location-size listedLocation nl (at + 13) in
+      let z₂ : size O ≡ 4 * no = size-many liveOutItem 4 live-out-size listedLiveOut no (at + 13 + 10 * nl) in
+      let i : Has l at I = (rw add-zero (byte-word l at ∙ a .1), (refl, (refl, tt))) in
+      (join l at (at + 13) I (L ++ O) refl i (join l (at + 13) (at + 13 + 10 * nl) L O (rw z₁) (h₁ .0) (h₂ .0)),
+        (let z : size (L ++ O) ≡ 10 * nl + 4 * no = rw (size-append, z₁, z₂) in omega arith),
+        h₂ .1)
+
+  records-has : (m at : ℕ) → at ≤ length l
+      → Has l at (all recordItems (listedRecords l m at)) × (recordsStop l m at ≡ at + size (all recordItems (listedRecords l m at))) × (recordsStop l m at ≤ length l)
+  unfolding all size
+  records-has zero at i = unfold listedRecords recordsStop in (tt, omega arith, i)
+  records-has (suc m) at i = go (records-has m (recordStop l at)) (stands 3 13 l at) refl
+    where
+      Good : ℕ → ℕ → Type 0
+      Good m at =
+          Has l at (all recordItems (listedRecords l m at)) × (recordsStop l m at ≡ at + size (all recordItems (listedRecords l m at))) × (recordsStop l m at ≤ length l)
+
+      go : (recordStop l at ≤ length l → Good m (recordStop l at)) → (b : Bool) → stands 3 13 l at ≡ b → Good (suc m) at
+      go ih true e =
+          let y = records-yes l m at e in
+          let r = record-has at e in
+          let q = ih (r .2) in
+          let z = size-append (recordItems (listedRecord l at)) (all recordItems (listedRecords l m (recordStop l at))) in
+          rw (y .0, y .1)
+          (join l at (recordStop l at) (recordItems (listedRecord l at)) (all recordItems (listedRecords l m (recordStop l at))) (r .1) (r .0) (q .0),
+            omega arith, q .2)
+      go ih false e = let y = records-no l (suc m) at e in rw (y .0, y .1) (tt, omega arith, i)
+
+  abbrev F′ : List Field
+  F′ = all functionItem (many listedFunction 25 (functionsListed l) l 0)
+
+  abbrev K′ : List Field
+  K′ = all constantItem (many listedConstant 9 (constantsListed l) l (25 * functionsListed l))
+
+  abbrev R′ : List Field
+  R′ = all recordItems (listedRecords l (length l) (recordsBegin l))
+
+  module _ (e : ℕ) (k : listingCheck l ≡ Valid e) where
+    record Kept : Type 0 where
+      has-it : Has l 0 (listingFields (readListing l))
+      long : size (listingFields (readListing l)) ≡ length l
+      small : AllSmall (readListing l .records)
+      under : length l ≤ 33554432
+      ends-at : e ≡ length l
+
+    kept : Kept
+    unfolding listingCheck itemsStop listingFields readListing size
+    kept =
+        let nf = functionsListed l in
+        let nc = constantsListed l in
+        let h₁ = run-has functionItem 1 25 function-size l listedFunction (function-has l) (length l) 0 (omega arith) in
+        let l₁ : 25 * nf ≤ length l = omega (arith, h₁ .1) in
+        let h₂ = run-has constantItem 2 9 constant-size l listedConstant (constant-has l) (length l) (25 * nf) l₁ in
+        let h₃ = records-has (length l) (recordsBegin l) (h₂ .1) in
+        let z₁ : size F′ ≡ 25 * nf = size-many functionItem 25 function-size listedFunction nf 0 in
+        let z₂ : size K′ ≡ 9 * nc = size-many constantItem 9 constant-size listedConstant nc (25 * nf) in
+        let k₁ = must-rest _ _ _ _ _ k in
+        let k₂ = must-rest _ _ _ _ _ k₁ in
+        let k₃ = must-rest _ _ _ _ _ k₂ in
+        let s = is-item 6 1 l _ (must-held _ _ _ _ _ k₁) in
+        let n : recordsStop l (length l) (recordsBegin l) + 1 ≡ length l = eqb-true _ _ (must-held _ _ _ _ _ k₂) in
+        let b : Has l (recordsStop l (length l) (recordsBegin l)) endItem = (rw add-zero (byte-word l _ ∙ s .1), tt) in
+        record {
+          has-it = join l 0 (25 * nf) F′ (K′ ++ (R′ ++ endItem)) (omega arith) (h₁ .0)
+              (join l (25 * nf) (recordsBegin l) K′ (R′ ++ endItem) (omega arith) (h₂ .0) (join l (recordsBegin l) _ R′ endItem (h₃ .1) (h₃ .0) b));
+          long = simp size-append (let q = h₃ .1 in omega arith);
+          small = whole-small _ _ _ (chain-first _ _ _ k₃ .1);
+          under = leb-true _ _ (must-held _ _ _ _ _ k);
+          ends-at = let q = chain-rest _ _ _ k₃ in cc
+        }
+
+    pub listing-accepted : (e ≡ length l) × (length l ≤ 33554432)
+    listing-accepted = (kept .ends-at, kept .under)
+
+    module _ (w : Bytes l) where
+      -- an accepted listing is the listing of what is read from it
+      pub accepted-listing : encodeListing (readListing l) ≡ l
+      unfolding encodeListing
+      accepted-listing =
+          let b = has-bytes l 0 0 (listingFields (readListing l)) w (kept .has-it) (omega (arith, kept .long)) in
+          rw (kept .long, zero-add, drop-length, append-nil) at b
+
+      -- whose numbers fit
+      pub listing-encodable : Encodable (readListing l)
+      listing-encodable =
+          let t = readListing l in
+          let f = has-fit l 0 0 (listingFields (readListing l)) w (kept .has-it) in
+          let n = listing-length t f in
+          let c = count-le t f (t .records) in
+          let e = accepted-listing in
+          let u = kept .under in
+          let g : length (encodeListing t) ≡ length l = ap length e in
+          listing-to-section t f (kept .small) (omega arith) (omega arith) (omega arith)

@@ -1,0 +1,116 @@
+-- The round trips.
+use Prim.Native.Nat.{ℕ, zero, suc, _+_, _*_, _-_, _%_, _^_, _≤_, _<_}
+use mathlib.Core.Path.{_≡_, refl, sym, _∙_, ap}
+use mathlib.Core.List.{List, [], _∷_, _++_}
+use mathlib.Core.Bool.{Bool, true, false}
+use native.Mathlib.Omega.{arith}
+use borrow.Author.Tests.{le-leb, leb-true}
+use lib.ListN.{length, take, drop}
+use lib.Seq.{take-append-seam}
+use lib.Dec.{leb}
+use Rattle.stackmap.specs.declared.Verdict.{Verdict}
+use Rattle.stackmap.specs.declared.Verdict.the-variants.{Valid, Refused}
+use Rattle.wire.specs.Word.{Bytes}
+use Rattle.stackmap.specs.Check.{sectionCheck}
+use Rattle.stackmap.specs.Fault.{sectionFault}
+use Rattle.stackmap.specs.Fields.{size, Field, all}
+use Rattle.stackmap.specs.Section.{Record, Section, encodeSection, readSection, recordFields, sectionFields}
+use Rattle.stackmap.specs.Verdict.{chain}
+use Rattle.stackmap.proofs.Back.{check-back, encoded-length, read-back, record-size, section-size}
+use Rattle.stackmap.proofs.Fields.{size-append}
+use Rattle.stackmap.proofs.Forth.{accepted-bytes, accepted-encodable, accepted-length}
+use Rattle.stackmap.proofs.Verdicts.{chain-first, chain-rest}
+use Rattle.stackmap.proofs.WellFormed.{bytes-of}
+use Rattle.listing.specs.Listing.{recordItems, listingFields, encodeListing, listingCheck, readListing, Converted, give, toListing, toSection}
+use Rattle.listing.specs.RoundTrip.{result, gives, RoundTrips, OutputKept, ListingOneToOne}
+use Rattle.listing.proofs.Fits.{section-to-listing}
+use Rattle.listing.proofs.Listing.{items-size, listing-length, listing-back, listing-check, accepted-listing, listing-encodable}
+use Rattle.stackmap.proofs.Numbers.{Above, a-chain, section-above}
+use Rattle.listing.proofs.Numbers.{listing-above}
+
+-- where nothing is refused, all is whole, and the result is written
+record Gave (c : Verdict) (r out : List ℕ) : Type 0 where
+  end : ℕ
+  whole : c ≡ Valid end
+  wrote : result (give c r out) ≡ r
+
+gave : (c : Verdict) (r out : List ℕ) → Above c → give c r out .number ≡ 0 → Gave c r out
+unfolding result
+gave (Refused n p) r out a h = absurd (let z = a .above in omega arith)
+gave (Valid e) r out a h = go (leb (length r) (length out)) refl h
+  where
+    go : (b : Bool) → leb (length r) (length out) ≡ b → give (Valid e) r out .number ≡ 0 → Gave (Valid e) r out
+    go true q h = record { end = e; whole = refl; wrote = rw (q, give) (take-append-seam r (drop (length r) out)) }
+    go false q h = absurd (let z : _≡_ {A = ℕ} 24 0 = rw (q, give) at h in omega arith)
+
+-- a listing is at most twice as long as its section
+records-twice : (rs : List Record) → size (all recordItems rs) ≤ 2 * size (all recordFields rs)
+unfolding all size
+records-twice [] = omega arith
+records-twice (r ∷ rs) =
+    rw (size-append (recordItems r), size-append (recordFields r), record-size r, items-size [] r [] 0) (omega (arith, records-twice rs))
+
+section-first : (s out out′ : List ℕ) → Bytes s → toListing s out .number ≡ 0 → toSection (result (toListing s out)) out′ ≡ gives s out′
+unfolding toListing toSection chain
+section-first s out out′ w h =
+    let t = readSection s in
+    let g = gave (sectionCheck s) (encodeListing t) out (section-above s) h in
+    let k = g .whole in
+    let fit = accepted-encodable s _ k w in
+    let b = accepted-bytes s _ k w in
+    let f = section-to-listing t fit in
+    let l : length (encodeListing t) ≤ 33554432 =
+        let z₁ = listing-length t (f .0) in
+        let z₂ = section-size t fit in
+        let z₃ = encoded-length t fit in
+        let z₄ = accepted-length s _ k in
+        let z₅ : length (encodeSection t) ≡ length s = ap length b in
+        omega (arith, records-twice (t .records)) in
+    rw (g .wrote, listing-check t (f .0) (f .1) l, listing-back t (f .0), b, k)
+
+listing-first : (l out out′ : List ℕ) → Bytes l → toSection l out .number ≡ 0 → toListing (result (toSection l out)) out′ ≡ gives l out′
+unfolding toListing toSection
+listing-first l out out′ w h =
+    let t = readListing l in
+    let g = gave (chain (listingCheck l) (sectionCheck (encodeSection t))) (encodeSection t) out (a-chain _ _ (listing-above l) (section-above (encodeSection t))) h in
+    let k = chain-first _ _ _ (g .whole) .1 in
+    let j = chain-rest _ _ _ (g .whole) in
+    rw (g .wrote, j, read-back t (listing-encodable l _ k w), accepted-listing l _ k w)
+
+pub round-trips : RoundTrips
+round-trips = (section-first, listing-first)
+
+kept : (c : Verdict) (r out : List ℕ) → (give c r out .number ≡ 0 → ⊥) → give c r out .output ≡ out
+kept (Refused n p) r out h = refl
+kept (Valid e) r out h = go (leb (length r) (length out)) refl
+  where
+    go : (b : Bool) → leb (length r) (length out) ≡ b → give (Valid e) r out .output ≡ out
+    go true q = absurd (h (rw (q, give)))
+    go false q = rw (q, give)
+
+pub output-kept : OutputKept
+unfolding toListing toSection
+output-kept = (λ s out. kept (sectionCheck s) (encodeListing (readSection s)) out,
+    λ l out. kept (chain (listingCheck l) (sectionCheck (encodeSection (readListing l)))) (encodeSection (readListing l)) out)
+
+-- the built section's refusal needs no bytes
+pub built-refusal : (l : List ℕ) → Bytes l → chain (listingCheck l) (sectionCheck (encodeSection (readListing l))) ≡ chain (listingCheck l) (sectionFault (readListing l))
+built-refusal l w = go (listingCheck l) refl
+  where
+    go : (c : Verdict) → listingCheck l ≡ c → chain c (sectionCheck (encodeSection (readListing l))) ≡ chain c (sectionFault (readListing l))
+    go (Valid e) h = rw (check-back (readListing l) (listing-encodable l e h w))
+    go (Refused n p) h = unfold chain in refl
+
+listing-bytes : (t : Section) → Bytes (encodeListing t)
+unfolding encodeListing
+listing-bytes t = bytes-of (listingFields t)
+
+pub listing-one-to-one : ListingOneToOne
+listing-one-to-one =
+    record {
+      read-fits = λ l w k. listing-encodable l (length l) k w;
+      encode-read = λ l w k. accepted-listing l (length l) k w;
+      encode-bytes = listing-bytes;
+      encode-accepted = λ t f n. let g = section-to-listing t f in listing-check t (g .0) (g .1) n;
+      read-encode = λ t f. listing-back t (section-to-listing t f .0)
+    }

@@ -1,0 +1,1 @@
+// The listing of a section, and the section of a listing: definitions and laws.
