@@ -1,3 +1,4 @@
 pub mod Layout
 pub mod Listing
 pub mod RoundTrip
+pub mod Answers
