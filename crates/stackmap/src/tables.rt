@@ -6,6 +6,7 @@ ghost use lib.Dec.{eqb};
 ghost use Rattle.stackmap.specs.Layout.{headerSize, functionSize};
 ghost use Rattle.stackmap.specs.Fields.{many};
 ghost use Rattle.stackmap.specs.Section.{readFunction, counted};
+ghost use Rattle.stackmap.specs.Verdict.{chain};
 ghost use Rattle.stackmap.specs.Check.{headerCheck, tablesCheck};
 use crate::Verdict;
 use crate::record;
@@ -28,7 +29,7 @@ const VERSION: u8 = 3;
 
 const SECTION_MOST: usize = 16777216;
 
-pub fn header(s: &[u8]) -> Verdict
+fn header(s: &[u8]) -> Verdict
     ensures { λ r. ⌜ r ≡ headerCheck (now (s .entry)) ⌝ }
 {
     if s.len() < HEADER_SIZE {
@@ -63,7 +64,7 @@ fn counts_add_up(s: &[u8], functions: usize, total: u64) -> bool
     rest == 0
 }
 
-pub fn tables(s: &[u8]) -> Verdict
+fn tables(s: &[u8]) -> Verdict
     requires { ⌜ headerSize ≤ length (now s) ⌝ }
     ensures { λ r. ⌜ r ≡ tablesCheck (now (s .entry)) ⌝ }
 {
@@ -89,4 +90,14 @@ pub fn tables(s: &[u8]) -> Verdict
     } else {
         Verdict::Refused(5, NUM_RECORDS_AT)
     }
+}
+
+// All that comes before the records: valid up to the first record's byte.
+pub fn begin(s: &[u8]) -> Verdict
+    ensures { λ r. ⌜ r ≡ chain (headerCheck (now (s .entry))) (tablesCheck (now (s .entry))) ⌝ }
+{
+    if let Verdict::Refused(n, p) = header(s) {
+        return Verdict::Refused(n, p);
+    }
+    tables(s)
 }
