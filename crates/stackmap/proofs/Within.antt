@@ -16,7 +16,7 @@ use Rattle.stackmap.specs.Section.{numLocations, locationsEnd, numLiveOu
 use Rattle.stackmap.specs.Record.{zeros, locationCheck, locations, liveOuts, recordInside, recordBytes, recordCheck}
 use Rattle.stackmap.specs.Check.{headerCheck, tablesCheck, recordsCheck, walkCheck, sectionCheck}
 use Rattle.stackmap.specs.Walk.{Walkable}
-use Rattle.stackmap.proofs.Verdicts.{must-held, must-rest, chain-rest, chain-chain}
+use Rattle.stackmap.proofs.Verdicts.{must-held, must-rest, chain-first, chain-rest, chain-chain, shift-valid}
 
 -- a record that is inside
 pub is-inside : (s : List ℕ) (e : ℕ) → recordInside s ≡ Valid e → recordLength s ≤ length s
@@ -155,3 +155,12 @@ begin-held s e h = tables-held s e (chain-rest _ _ _ h)
 pub section-parts : (s : List ℕ) → sectionCheck s ≡ chain (chain (headerCheck s) (tablesCheck s)) (walkCheck s)
 unfolding sectionCheck
 section-parts s = chain-chain (headerCheck s) (tablesCheck s) (walkCheck s)
+
+-- a valid record that stands at p: its head is inside, and it ends where the verdict says
+pub here-inside : (s : List ℕ) (c a p q : ℕ) → p ≤ length s → shift p (recordCheck (drop p s) c a) ≡ Valid q → p + 16 ≤ length s
+unfolding recordCheck
+here-inside s c a p q i v =
+    let x = shift-valid _ _ _ v in
+    let l = length-drop p s in
+    let h = header-inside (drop p s) (is-inside (drop p s) _ (chain-first _ _ _ (x .1) .1)) in
+    omega arith

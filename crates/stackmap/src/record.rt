@@ -6,10 +6,10 @@ ghost use Rattle.stackmap.specs.Layout.{locationSize, liveOutSize};
 ghost use Rattle.stackmap.specs.Section.{recordLength};
 ghost use Rattle.stackmap.specs.Record.{zeros, locationCheck, locations, liveOuts, recordInside, recordBytes, recordCheck};
 use crate::Verdict;
+use crate::walk;
 
-pub const RECORD_HEAD_SIZE: usize = 16;
+const RECORD_HEAD_SIZE: usize = 16;
 
-const INSTRUCTION_OFFSET_AT: usize = 8;
 
 const FLAGS_AT: usize = 12;
 
@@ -179,7 +179,7 @@ pub fn check_record(s: &[u8], constants: u32, address: u64) -> Verdict
     if let Verdict::Refused(n, p) = record_inside(s) {
         return Verdict::Refused(n, p);
     }
-    let offset = wire::u32_at(s, INSTRUCTION_OFFSET_AT) as u64;
+    let offset = wire::u32_at(s, walk::INSTRUCTION_OFFSET_AT) as u64;
     if offset > ADDRESS_MOST - address {
         return Verdict::Refused(8, 0);
     }

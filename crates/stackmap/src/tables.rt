@@ -23,7 +23,7 @@ pub const FUNCTION_SIZE: usize = 24;
 
 pub const RECORD_COUNT_AT: usize = 16;
 
-const CONSTANT_SIZE: usize = 8;
+pub const CONSTANT_SIZE: usize = 8;
 
 const VERSION: u8 = 3;
 

@@ -11,6 +11,8 @@ use crate::Verdict;
 use crate::record;
 use crate::tables;
 
+pub const INSTRUCTION_OFFSET_AT: usize = 8;
+
 // Which function owns the next record: the one before `next`, while `left` of its records are ahead.
 pub struct Turn {
     pub next: usize,
