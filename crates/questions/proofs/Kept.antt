@@ -1,19 +1,16 @@
 -- What a walk has kept at its end answers the question.
-use Prim.Native.Nat.{ℕ, zero, suc, _+_, _*_, _-_, _≤_, _<_}
+use Prim.Native.Nat.{ℕ, zero, suc, _+_, _-_, _<_}
 use mathlib.Core.Path.{_≡_, refl, sym, _∙_, ap}
 use mathlib.Core.Bool.{Bool, true, false, cond}
 use mathlib.Core.Option.{Option, none, some}
 use mathlib.Core.List.{List, [], _∷_}
 use native.Mathlib.Omega.{arith}
-use lib.ListN.{length, drop, getElem?}
+use lib.ListN.{length, getElem?}
 use lib.Dec.{eqb}
 use borrow.Author.Tests.{eq-eqb, ne-eqb}
 use Rattle.wire.specs.Word.{word}
 use Rattle.wire.proofs.Laws.{word-drop}
-use Rattle.stackmap.specs.declared.Verdict.the-variants.{Valid, Refused}
-use Rattle.stackmap.specs.Verdict.{bind, must}
 use Rattle.stackmap.specs.Section.{readFunction, readRecord, Record, recordFields, Owner, Entry, address, entriesFrom, entriesOf, entries}
-use Rattle.stackmap.specs.Check.{recordsCheck, walkCheck}
 use Rattle.stackmap.specs.Walk.{functionAt, ownerAt, entryAt}
 use Rattle.stackmap.specs.Fields.{size}
 use Rattle.stackmap.proofs.Back.{record-size}
@@ -49,7 +46,7 @@ module _ (a : ℕ) where
   -- after the first hit only the count grows
   more : (es : List Entry) (i f n p : ℕ) → 0 < n
       → fold (noted a) es (record { index = i; function = f; sharing = n; first = p })
-        ≡ record { index = i; function = f; sharing = n + length (withAddress a es); first = p }
+      ≡ record { index = i; function = f; sharing = n + length (withAddress a es); first = p }
   unfolding withAddress
   more [] i f n p l = let z : n + 0 ≡ n = omega arith in rw z
   more (e ∷ es) i f n p l = go (λ m k. more es i f m p k) (eqb (address e) a) refl
@@ -58,12 +55,12 @@ module _ (a : ℕ) where
           ≡ record { index = i; function = f; sharing = m + length (withAddress a es); first = p })
           → (b : Bool) → eqb (address e) a ≡ b
           → fold (noted a) es (noted a e (record { index = i; function = f; sharing = n; first = p }))
-            ≡ record {
-              index = i;
-              function = f;
-              sharing = n + length (cond (eqb (address e) a) (e ∷ withAddress a es) (withAddress a es));
-              first = p
-            }
+          ≡ record {
+            index = i;
+            function = f;
+            sharing = n + length (cond (eqb (address e) a) (e ∷ withAddress a es) (withAddress a es));
+            first = p;
+          }
       go rest true q =
           let z : n + suc (length (withAddress a es)) ≡ suc n + length (withAddress a es) = omega arith in
           rw (again e (record { index = i; function = f; sharing = n; first = p }) q (ne-eqb n 0 (λ k. omega arith)), q, z) (rest (suc n) (omega arith))
@@ -82,7 +79,7 @@ module _ (a : ℕ) where
       go : hitsAnswer (eqb (fold (noted a) es noHits .sharing) 0) (fold (noted a) es noHits) ≡ firstOf (withAddress a es)
           → (b : Bool) → eqb (address e) a ≡ b
           → hitsAnswer (eqb (fold (noted a) es (noted a e noHits) .sharing) 0) (fold (noted a) es (noted a e noHits))
-            ≡ firstOf (cond (eqb (address e) a) (e ∷ withAddress a es) (withAddress a es))
+          ≡ firstOf (cond (eqb (address e) a) (e ∷ withAddress a es) (withAddress a es))
       go rest true q =
           let z : 1 + length (withAddress a es) ≡ suc (length (withAddress a es)) = omega arith in
           rw (fresh e noHits q refl, more es (e .number) (e .owner .number) 1 (e .first) (omega arith), z, q, ne-eqb (suc (length (withAddress a es))) 0 (λ k. omega arith))

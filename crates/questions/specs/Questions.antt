@@ -45,7 +45,7 @@ firstOf (e ∷ es) =
       index = e .number;
       function = e .owner .number;
       sharing = length (e ∷ es);
-      first = e .first
+      first = e .first;
     }
 
 unfoldable pub byAddress : List ℕ → ℕ → Found
@@ -86,15 +86,15 @@ thisLocation pool l =
       size = l .size;
       register = l .register;
       offset = l .offset;
-      constant = constantOf pool l
+      constant = constantOf pool l;
     }
 
 unfoldable pub locationAnswer : List ℕ → ℕ → ℕ → LocationAnswer
 locationAnswer s k j =
     ask noLocation
     (among (noLocation 10 0)
-      (λ e. among (noLocation 11 0) (thisLocation (readSection s .constants)) (getElem? (e .body .locations) j))
-      (getElem? (entries s) k))
+    (λ e. among (noLocation 11 0) (thisLocation (readSection s .constants)) (getElem? (e .body .locations) j))
+    (getElem? (entries s) k))
     (sectionCheck s)
 
 -- Live-outs likewise.

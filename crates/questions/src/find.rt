@@ -7,8 +7,10 @@ ghost use Rattle.stackmap.specs.Check.{walkCheck};
 ghost use Rattle.stackmap.specs.Walk.{entryAt, Walkable};
 ghost use Rattle.questions.specs.Kept.{noted};
 ghost use Rattle.questions.specs.Questions.{ask, withAddress, notFound, firstOf, byAddress};
-use crate::{Found, Hits};
+use crate::Found;
+use crate::Hits;
 use stackmap::Verdict;
+use stackmap::layout;
 use stackmap::tables;
 use stackmap::walk;
 use stackmap::walk::Turn;
@@ -32,8 +34,8 @@ fn note(s: &[u8], address: u64, index: usize, function: usize, at: usize, hits: 
     requires { ⌜ (constantsAt (now s) ≤ length (now s)) × (function < numFunctions (now s)) × (at + 16 ≤ length (now s)) × (hits .sharing ≤ index) × (index < 2 ^ 32) ⌝ }
     ensures { λ r. ⌜ (r ≡ noted address (entryAt (now (s .entry)) index function at) hits) × (r .sharing ≤ index + 1) ⌝ }
 {
-    let start = wire::u64_at(s, tables::HEADER_SIZE + tables::FUNCTION_SIZE * function);
-    let offset = wire::u32_at(s, at + walk::INSTRUCTION_OFFSET_AT) as u64;
+    let start = wire::u64_at(s, layout::HEADER_SIZE + layout::FUNCTION_SIZE * function);
+    let offset = wire::u32_at(s, at + layout::INSTRUCTION_OFFSET_AT) as u64;
     if address < start {
         return hits;
     }
@@ -41,7 +43,7 @@ fn note(s: &[u8], address: u64, index: usize, function: usize, at: usize, hits: 
     if gap != offset {
         return hits;
     }
-    if hits.sharing == 0 {
+    if hits.sharing < 1 {
         return Hits {
             index,
             function,
@@ -62,8 +64,8 @@ fn search(s: &[u8], at: usize, address: u64) -> Found
     requires { ⌜ Walkable (now s) × (at ≡ recordsAt (now s)) × (at ≤ length (now s)) ⌝ }
     ensures { λ r. ⌜ r ≡ ask notFound (firstOf (withAddress address (entries (now (s .entry))))) (walkCheck (now (s .entry))) ⌝ }
 {
-    let constants = wire::u32_at(s, tables::NUM_CONSTANTS_AT);
-    let mut remaining = wire::u32_at(s, tables::NUM_RECORDS_AT);
+    let constants = wire::u32_at(s, layout::NUM_CONSTANTS_AT);
+    let mut remaining = wire::u32_at(s, layout::NUM_RECORDS_AT);
     let mut index: usize = 0;
     let mut turn = Turn { next: 0, left: 0 };
     let mut p = at;

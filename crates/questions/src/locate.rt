@@ -7,8 +7,10 @@ ghost use Rattle.stackmap.specs.Check.{walkCheck};
 ghost use Rattle.stackmap.specs.Walk.{entryAt, Walkable};
 ghost use Rattle.questions.specs.Kept.{picked};
 ghost use Rattle.questions.specs.Questions.{ask, among, notLocated, located, recordPlace, recordPart};
-use crate::{Located, Stretch};
+use crate::Located;
+use crate::Stretch;
 use stackmap::Verdict;
+use stackmap::layout;
 use stackmap::tables;
 use stackmap::walk;
 use stackmap::walk::Turn;
@@ -44,8 +46,8 @@ fn search(s: &[u8], at: usize, wanted: u64) -> Located
     requires { ⌜ Walkable (now s) × (at ≡ recordsAt (now s)) × (at ≤ length (now s)) ⌝ }
     ensures { λ r. ⌜ (r ≡ ask notLocated (among (notLocated 10 0) located (getElem? (entries (now (s .entry))) wanted)) (walkCheck (now (s .entry)))) × (r .first + r .length ≤ length (now (s .entry))) ⌝ }
 {
-    let constants = wire::u32_at(s, tables::NUM_CONSTANTS_AT);
-    let mut remaining = wire::u32_at(s, tables::NUM_RECORDS_AT);
+    let constants = wire::u32_at(s, layout::NUM_CONSTANTS_AT);
+    let mut remaining = wire::u32_at(s, layout::NUM_RECORDS_AT);
     let mut index: u64 = 0;
     let mut turn = Turn { next: 0, left: 0 };
     let mut p = at;

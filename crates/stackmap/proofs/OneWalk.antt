@@ -1,13 +1,13 @@
 -- One walk over the bytes checks the section and folds its entries with any function.
-use Prim.Native.Nat.{ℕ, zero, suc, _+_, _-_, _≤_, _<_}
-use mathlib.Core.Path.{_≡_, refl, sym, _∙_, ap}
+use Prim.Native.Nat.{ℕ, suc, _+_, _-_, _≤_, _<_}
+use mathlib.Core.Path.{_≡_, refl, _∙_, ap}
 use mathlib.Core.List.{List, [], _∷_}
 use native.Mathlib.Omega.{arith}
 use native.Mathlib.Numerals.{add-one}
 use lib.ListN.{length, drop}
 use Rattle.stackmap.specs.declared.Verdict.the-variants.{Valid}
 use Rattle.stackmap.specs.Verdict.{shift}
-use Rattle.stackmap.specs.Section.{numFunctions, numRecords, recordsAt, recordLength, readRecord, readRecords, readFunctions, readSection, Owner, owners, Entry, entriesFrom, entriesOf, entries}
+use Rattle.stackmap.specs.Section.{numFunctions, numRecords, recordsAt, recordLength, readRecords, readFunctions, readSection, Owner, owners, Entry, entriesFrom, entriesOf, entries}
 use Rattle.stackmap.specs.Record.{recordCheck}
 use Rattle.stackmap.specs.Walk.{ownerAt, entryAt, ahead, Walkable}
 use Rattle.stackmap.proofs.Verdicts.{shift-valid}
@@ -46,9 +46,9 @@ module _ {H : Type 0} (add : Entry → H → H) where
       let d = here-ends s c (ownerAt s (next′ - 1) .function .address) p q v in
       let k : remaining ≡ suc (remaining - 1) = omega arith in
       let t : entriesFrom number p (ahead s next left) (readRecords remaining s p)
-          ≡ entryAt s number (next′ - 1) p ∷ entriesFrom (number + 1) q (ahead s next′ (left′ - 1)) (readRecords (remaining - 1) s q) =
-          ap (λ (n : ℕ). entriesFrom number p (ahead s next left) (readRecords n s p)) k
-          ∙ rw (← e, ahead-one s next′ left′ l, entries-step number p (remaining - 1) (ownerAt s (next′ - 1)) (ahead s next′ (left′ - 1)) s, d, add-one) in
+      ≡ entryAt s number (next′ - 1) p ∷ entriesFrom (number + 1) q (ahead s next′ (left′ - 1)) (readRecords (remaining - 1) s q) =
+      ap (λ (n : ℕ). entriesFrom number p (ahead s next left) (readRecords n s p)) k
+      ∙ rw (← e, ahead-one s next′ left′ l, entries-step number p (remaining - 1) (ownerAt s (next′ - 1)) (ahead s next′ (left′ - 1)) s, d, add-one) in
       record { walking = walk-on next′ left′ (f .walking) e l b m v; kept = f .kept ∙ ap (λ (es : List Entry). fold es h) t }
 
   pub fold-end : {s : List ℕ} {c next left number p : ℕ} {h₀ h : H} → Folding s c h₀ next left 0 number p h → fold (entries s) h₀ ≡ h

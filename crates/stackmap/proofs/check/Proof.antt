@@ -1,6 +1,6 @@
 -- What comes before the records, the records and the end, in this order.
 use native.Mathlib.Omega.{arith}
-use mathlib.Core.Path.{_≡_, sym, _∙_}
+use mathlib.Core.Path.{sym, _∙_}
 use borrow.Author.Tests.{eq-eqb, ne-eqb}
 use Rattle.stackmap.specs.Verdict.{must, chain, bind}
 use Rattle.stackmap.specs.Check.{walkCheck}
@@ -8,57 +8,43 @@ use Rattle.stackmap.proofs.Within.{begin-held, section-parts}
 use borrow.Author.Needs.{needs}
 use Rattle.stackmap.proofs.check.Statement.{statement}
 use Rattle.stackmap.proofs.check.Tie as tie
-use Rattle.stackmap.proofs.check.Reads as reads
-use Rattle.stackmap.proofs.check.Lts as lts
-use Rattle.stackmap.proofs.tables.begin.Reads as begin-reads
-use Rattle.stackmap.proofs.walk.all_records.Reads as all-records-reads
 
--- src/lib.rt:22:11
 begin-requires : tie.Need-begin-requires
 begin-requires c κs = search needs
 
--- src/lib.rt:23:26
 enum-known-n : tie.Need-enum-known-n
 enum-known-n c = search needs
 
--- src/lib.rt:24:24
 enum-known-at : tie.Need-enum-known-at
 enum-known-at c = search needs
 
--- src/lib.rt:24:37
 all-records-requires : tie.Need-all-records-requires
 all-records-requires c κs =
     let t = begin-held _ _ (sym (c .before .before .before .begin .ensures) ∙ c .before .at .given .1) in
     (t .walkable, let b = t .begins in let i = t .inside in omega arith)
 
--- src/lib.rt:25:30
 enum-known-n-2 : tie.Need-enum-known-n-2
 enum-known-n-2 c = search needs
 
--- src/lib.rt:26:28
 enum-known-end : tie.Need-enum-known-end
 enum-known-end c = search needs
 
--- src/lib.rt:19:1
 returns : tie.Need-returns
 unfolding chain
 returns c = rw (section-parts, ← c .before .before .before .begin .ensures, c .before .n .given .1)
 
--- src/lib.rt:19:1
 returns-2 : tie.Need-returns-2
 unfolding chain bind walkCheck
 returns-2 c =
     let t = begin-held _ _ (sym (c .before .before .before .before .before .before .before .begin .ensures) ∙ c .before .before .before .before .before .at .given .1) in
     rw (section-parts, ← c .before .before .before .before .before .before .before .begin .ensures, c .before .before .before .before .before .at .given .1, ← t .begins, ← c .before .before .before .all-records .ensures, c .before .n2 .given .1)
 
--- src/lib.rt:19:1
 returns-3 : tie.Need-returns-3
 unfolding chain bind must walkCheck
 returns-3 c =
     let t = begin-held _ _ (sym (c .before .before .before .before .before .before .before .before .begin .ensures) ∙ c .before .before .before .before .before .before .at .given .1) in
     rw (section-parts, ← c .before .before .before .before .before .before .before .before .begin .ensures, c .before .before .before .before .before .before .at .given .1, ← t .begins, ← c .before .before .before .before .all-records .ensures, c .before .before .end .given .1, eq-eqb _ _ (c .if1 .taken))
 
--- src/lib.rt:19:1
 returns-4 : tie.Need-returns-4
 unfolding chain bind must walkCheck
 returns-4 c =

@@ -1,47 +1,34 @@
 -- The record has the address exactly if its function's start is not above it and the gap is its offset.
-use Prim.Native.Nat.{_+_, _-_, _≤_, _<_}
-use mathlib.Core.Path.{_≡_, refl, sym, _∙_}
-use mathlib.Core.Bool.{true, false}
+use Prim.Native.Nat.{_-_}
+use mathlib.Core.Path.{_≡_, sym}
 use native.Mathlib.Omega.{arith}
 use native.Mathlib.Numerals.{add-one}
 use borrow.Author.Tests.{eq-eqb, ne-eqb}
-use lib.Dec.{eqb}
 use Rattle.stackmap.specs.Section.{address}
 use Rattle.stackmap.specs.Walk.{ownerAt, entryAt}
 use Rattle.questions.proofs.Kept.{here-address, passed, again, fresh}
 use borrow.Author.Needs.{needs}
 use Rattle.questions.proofs.find.note.Statement.{statement}
 use Rattle.questions.proofs.find.note.Tie as tie
-use Rattle.questions.proofs.find.note.Reads as reads
-use Rattle.questions.proofs.find.note.Lts as lts
-use Rattle.wire.proofs.u32_at.Reads as u32-at-reads
-use Rattle.wire.proofs.u64_at.Reads as u64-at-reads
 
--- src/find.rt:34:55
 mul-u64-at : tie.Need-mul-u64-at
 mul-u64-at c = search needs
 
--- src/find.rt:34:33
 add-u64-at : tie.Need-add-u64-at
 add-u64-at c = search needs
 
--- src/find.rt:34:9
 u64-at-requires : tie.Need-u64-at-requires
 u64-at-requires c κs = search needs
 
--- src/find.rt:35:34
 add-u32-at : tie.Need-add-u32-at
 add-u32-at c = search needs
 
--- src/find.rt:35:18
 u32-at-requires : tie.Need-u32-at-requires
 u32-at-requires c κs = search needs
 
--- src/find.rt:35:18
 cast-offset : tie.Need-cast-offset
 cast-offset c = search needs
 
--- src/find.rt:37:9
 returns : tie.Need-returns
 returns c =
     let a = c .before .before .before .before .args in
@@ -50,7 +37,6 @@ returns c =
     let no : address x ≡ a .address → ⊥ = λ (e : address x ≡ a .address). omega arith in
     (sym (passed (a .address) x (a .hits) (ne-eqb _ _ no)), omega arith)
 
--- src/find.rt:40:9
 returns-2 : tie.Need-returns-2
 returns-2 c =
     let a = c .before .before .before .before .before .args in
@@ -59,17 +45,16 @@ returns-2 c =
     let no : address x ≡ a .address → ⊥ = λ (e : address x ≡ a .address). c .if2 .taken (omega arith) in
     (sym (passed (a .address) x (a .hits) (ne-eqb _ _ no)), omega arith)
 
--- src/find.rt:43:9
 returns-3 : tie.Need-returns-3
 unfolding ownerAt
 returns-3 c =
     let a = c .before .before .before .before .before .before .before .args in
     let x = entryAt (a .s .now) (a .index) (a .function) (a .at) in
     let h = here-address (a .s .now) (a .index) (a .function) (a .at) in
+    let none : a .hits .sharing ≡ 0 = omega arith in
     let yes : address x ≡ a .address = omega arith in
-    (sym (fresh (a .address) x (a .hits) (eq-eqb _ _ yes) (eq-eqb _ _ (c .if3 .taken))), omega arith)
+    (sym (fresh (a .address) x (a .hits) (eq-eqb _ _ yes) (eq-eqb _ _ none)), omega arith)
 
--- src/find.rt:30:1
 add-t11 : tie.Need-add-t11
 add-t11 c = omega arith
 
@@ -79,8 +64,9 @@ returns-4 c =
     let a = c .before .before .before .before .before .before .before .before .args in
     let x = entryAt (a .s .now) (a .index) (a .function) (a .at) in
     let h = here-address (a .s .now) (a .index) (a .function) (a .at) in
+    let some : a .hits .sharing ≡ 0 → ⊥ = λ (z : a .hits .sharing ≡ 0). omega arith in
     let yes : address x ≡ a .address = omega arith in
-    (rw add-one (sym (again (a .address) x (a .hits) (eq-eqb _ _ yes) (ne-eqb _ _ (c .before .if3 .left)))), omega arith)
+    (rw add-one (sym (again (a .address) x (a .hits) (eq-eqb _ _ yes) (ne-eqb _ _ some))), omega arith)
 
 pub note-spec : {M : Type 1} → statement M
 note-spec =

@@ -1,6 +1,6 @@
 -- The record is the wanted one, or what was kept stays.
-use Prim.Native.Nat.{ℕ, _+_, _-_, _≤_}
-use mathlib.Core.Path.{_≡_, sym, _∙_, ap}
+use Prim.Native.Nat.{_-_}
+use mathlib.Core.Path.{_≡_, sym}
 use native.Mathlib.Omega.{arith}
 use lib.ListN.{drop}
 use Rattle.stackmap.specs.Section.{recordLength}
@@ -10,21 +10,16 @@ use Rattle.questions.proofs.Kept.{picked-this, picked-other}
 use borrow.Author.Needs.{needs}
 use Rattle.questions.proofs.locate.keep.Statement.{statement}
 use Rattle.questions.proofs.locate.keep.Tie as tie
-use Rattle.questions.proofs.locate.keep.Reads as reads
-use Rattle.questions.proofs.locate.keep.Lts as lts
 
--- src/locate.rt:36:21
 sub-t8 : tie.Need-sub-t8
 sub-t8 c = search needs
 
--- src/locate.rt:34:9
 returns : tie.Need-returns
 returns c =
     let a = c .before .args in
     let e : a .end - a .at ≡ recordLength (drop (a .at) (a .s .now)) = omega arith in
     (λ i. rw (picked-this (a .wanted) (entryAt (a .s .now) (a .index) i (a .at)) (a .kept) (c .if1 .taken), read-size, e), omega arith)
 
--- src/locate.rt:29:1
 returns-2 : tie.Need-returns-2
 returns-2 c =
     let a = c .before .args in

@@ -6,31 +6,22 @@ use Rattle.questions.specs.Questions.{recordPart}
 use borrow.Author.Needs.{needs}
 use Rattle.questions.proofs.locate.record.Statement.{statement}
 use Rattle.questions.proofs.locate.record.Tie as tie
-use Rattle.questions.proofs.locate.record.Reads as reads
-use Rattle.questions.proofs.locate.record.Lts as lts
-use Rattle.questions.proofs.locate.locate.Reads as locate-reads
 
--- src/locate.rt:101:9
 locate-requires : tie.Need-locate-requires
 locate-requires c κs = search needs
 
--- src/locate.rt:103:15
 add-end : tie.Need-add-end
 add-end c = search needs
 
--- src/locate.rt:104:5
 sub-result : tie.Need-sub-result
 sub-result c = search needs
 
--- src/locate.rt:104:5
 part-result-start : tie.Need-part-result-start
 part-result-start c = search needs
 
--- src/locate.rt:104:5
 part-result-end : tie.Need-part-result-end
 part-result-end c = search needs
 
--- src/locate.rt:98:1
 returns : tie.Need-returns
 unfolding recordPart
 returns c =

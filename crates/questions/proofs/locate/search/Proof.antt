@@ -1,6 +1,6 @@
 -- One walk checks the records and keeps where the wanted one stands.
-use Prim.Native.Nat.{_+_, _*_, _-_, _^_, _≤_, _<_}
-use mathlib.Core.Path.{_≡_, refl, sym, _∙_}
+use Prim.Native.Nat.{_+_, _-_, _^_, _≤_, _<_}
+use mathlib.Core.Path.{_≡_, sym, _∙_}
 use native.Mathlib.Omega.{arith}
 use borrow.Author.Needs.{needs}
 use lib.ListN.{length}
@@ -12,13 +12,6 @@ use Rattle.questions.proofs.Kept.{located-none, located-some}
 use Rattle.questions.proofs.Asked.{ask-stop, ask-after, ask-whole}
 use Rattle.questions.proofs.locate.search.Statement.{statement}
 use Rattle.questions.proofs.locate.search.Tie as tie
-use Rattle.questions.proofs.locate.search.Reads as reads
-use Rattle.questions.proofs.locate.search.Lts as lts
-use Rattle.questions.proofs.locate.keep.Reads as keep-reads
-use Rattle.questions.proofs.locate.refused.Reads as refused-reads
-use Rattle.stackmap.proofs.walk.owner.Reads as owner-reads
-use Rattle.stackmap.proofs.walk.record_at.Reads as record-at-reads
-use Rattle.wire.proofs.u32_at.Reads as u32-at-reads
 
 abbrev Inv-loop : tie.InvT-loop
 Inv-loop s at wanted constants remaining₀ index₀ turn₀ p₀ kept₀ remaining index turn p kept = Folding (picked wanted) s constants noStretch (turn .next) (turn .left) remaining index p kept × (kept .first + kept .length ≤ p) × (index + remaining < 2 ^ 32)
@@ -26,124 +19,107 @@ Inv-loop s at wanted constants remaining₀ index₀ turn₀ p₀ kept₀ remain
 abbrev μ-loop : tie.MeasureT-loop
 μ-loop s at wanted constants remaining₀ index₀ turn₀ p₀ kept₀ remaining index turn p kept = remaining
 
--- src/locate.rt:47:9
 u32-at-requires : tie.Need-u32-at-requires Inv-loop μ-loop
 u32-at-requires c κs = let w = c .before .pre .0 .inside in omega arith
 
--- src/locate.rt:48:9
 u32-at-requires-2 : tie.Need-u32-at-requires-2 Inv-loop μ-loop
 u32-at-requires-2 c κs = let w = c .before .before .pre .0 .inside in omega arith
 
--- src/locate.rt:56:5
 loop-holds : tie.Need-loop-holds Inv-loop μ-loop
 loop-holds c =
     let i : recordsAt (c .before .before .before .args .s .now) ≤ length (c .before .before .before .args .s .now) = rw (← c .before .before .before .pre .1) (c .before .before .before .pre .2) in
     (rw (c .u32-at2 .ensures, c .before .before .before .pre .1) (fold-start (picked (c .before .before .before .args .wanted)) noStretch (c .before .before .before .pre .0) i), omega arith, omega arith)
 
--- src/locate.rt:57:13
 owner-requires : tie.Need-owner-requires Inv-loop μ-loop
 owner-requires c κs =
     let w = c .before .loop .inv .0 .walking in
     let n = w .counted in
     (c .before .before .before .before .before .pre .0 .inside, w .turning, omega arith)
 
--- src/locate.rt:59:45
 sub-record-at : tie.Need-sub-record-at Inv-loop μ-loop
 sub-record-at c = search needs
 
--- src/locate.rt:59:15
 record-at-requires : tie.Need-record-at-requires Inv-loop μ-loop
 record-at-requires c κs =
     let w = c .before .before .loop .inv .0 .walking in
     (c .before .before .before .before .before .before .pre .0 .inside, omega arith, w .inside)
 
--- src/locate.rt:60:30
 enum-known-n : tie.Need-enum-known-n Inv-loop μ-loop
 enum-known-n c = search needs
 
--- src/locate.rt:60:39
 refused-requires : tie.Need-refused-requires Inv-loop μ-loop
 refused-requires c κs = search needs
 
--- src/locate.rt:60:39
 returns : tie.Need-returns Inv-loop μ-loop
-returns c =
-    (c .refused .ensures
-    ∙ sym (ask-stop _ _ (c .before .before .before .before .before .before .before .before .before .before .before .args .s .now) _ (c .before .before .before .before .before .before .before .before .before .u32-at .ensures) _ _
-    (walk-stop (c .before .before .before .before .before .owner .result .next) (c .before .before .before .before .before .owner .result .left) (c .before .before .before .before .before .before .before .loop .inv .0 .walking) (c .before .before .before .before .before .owner .ensures .0) (c .before .before .before .before .before .owner .ensures .1)
-    (sym (c .before .before .before .before .record-at .ensures) ∙ c .before .before .n .given .1)))
-    , rw (c .refused .ensures) (omega arith))
+returns c = (
+  c .refused .ensures
+      ∙ sym (ask-stop _ _ (c .before .before .before .before .before .before .before .before .before .before .before .args .s .now) _ (c .before .before .before .before .before .before .before .before .before .u32-at .ensures) _ _
+      (walk-stop (c .before .before .before .before .before .owner .result .next) (c .before .before .before .before .before .owner .result .left) (c .before .before .before .before .before .before .before .loop .inv .0 .walking) (c .before .before .before .before .before .owner .ensures .0) (c .before .before .before .before .before .owner .ensures .1)
+      (sym (c .before .before .before .before .record-at .ensures) ∙ c .before .before .n .given .1))),
+  rw (c .refused .ensures) (omega arith),
+)
 
--- src/locate.rt:61:28
 enum-known-end : tie.Need-enum-known-end Inv-loop μ-loop
 enum-known-end c = search needs
 
--- src/locate.rt:62:17
 keep-requires : tie.Need-keep-requires Inv-loop μ-loop
 keep-requires c κs = (here-ends _ _ _ _ _ (sym (c .before .before .before .record-at .ensures) ∙ c .before .end .given .1), c .before .before .before .before .before .before .loop .inv .1)
 
--- src/locate.rt:68:19
 sub-t18 : tie.Need-sub-t18 Inv-loop μ-loop
 sub-t18 c = search needs
 
--- src/locate.rt:70:9
 add-index : tie.Need-add-index Inv-loop μ-loop
 add-index c = search needs
 
--- src/locate.rt:71:9
 sub-remaining : tie.Need-sub-remaining Inv-loop μ-loop
 sub-remaining c = search needs
 
--- src/locate.rt:56:5
 loop-less : tie.Need-loop-less Inv-loop μ-loop
 loop-less c = search needs
 
--- src/locate.rt:56:5
 loop-again : tie.Need-loop-again Inv-loop μ-loop
 loop-again c =
     let l = c .before .before .before .before .before .before .before .before .loop in
     let o = c .before .before .before .before .before .before .owner in
     let f = fold-on (picked (c .before .before .before .before .before .before .before .before .before .before .before .before .args .wanted)) (o .result .next) (o .result .left) (l .inv .0) (o .ensures .0) (o .ensures .1) (o .ensures .2) (o .ensures .3)
-        (c .before .before .before .before .before .before .before .loop-test .taken) (sym (c .before .before .before .before .before .record-at .ensures) ∙ c .before .before .before .end .given .1) in
+    (c .before .before .before .before .before .before .before .loop-test .taken) (sym (c .before .before .before .before .before .record-at .ensures) ∙ c .before .before .before .end .given .1) in
     (rw (c .before .keep .ensures .0 (o .result .next - 1)) f, c .before .keep .ensures .1, omega arith)
 
--- src/locate.rt:74:9
 refused-requires-2 : tie.Need-refused-requires-2 Inv-loop μ-loop
 refused-requires-2 c κs = search needs
 
--- src/locate.rt:74:9
 returns-2 : tie.Need-returns-2 Inv-loop μ-loop
 returns-2 c =
-    let none : c .before .before .before .loop .remaining ≡ 0 = omega arith in
-    (c .refused2 .ensures
-    ∙ sym (ask-after _ _ (c .before .before .before .before .before .before .before .args .s .now) _ (c .before .before .before .before .before .u32-at .ensures) _ (walk-end (rw none at (c .before .before .before .loop .inv .0 .walking))) (c .before .if1 .taken))
-    , rw (c .refused2 .ensures) (omega arith))
+    let none : c .before .before .before .loop .remaining ≡ 0 = omega arith in (
+      c .refused2 .ensures
+          ∙ sym (ask-after _ _ (c .before .before .before .before .before .before .before .args .s .now) _ (c .before .before .before .before .before .u32-at .ensures) _ (walk-end (rw none at (c .before .before .before .loop .inv .0 .walking))) (c .before .if1 .taken)),
+      rw (c .refused2 .ensures) (omega arith),
+    )
 
--- src/locate.rt:77:9
 refused-requires-3 : tie.Need-refused-requires-3 Inv-loop μ-loop
 refused-requires-3 c κs = search needs
 
--- src/locate.rt:77:9
 returns-3 : tie.Need-returns-3 Inv-loop μ-loop
 returns-3 c =
     let none : c .before .before .before .before .before .loop .remaining ≡ 0 = omega arith in
     let f = rw none at (c .before .before .before .before .before .loop .inv .0) in
-    let a = c .before .before .before .before .before .before .before .before .before .args in
-    (c .refused3 .ensures
-    ∙ sym (located-none (a .wanted) (a .s .now) (c .before .before .before .before .before .loop .kept) (fold-end (picked (a .wanted)) f) (c .before .if2 .taken))
-    ∙ sym (ask-whole _ _ (a .s .now) _ (c .before .before .before .before .before .before .before .u32-at .ensures) _ (walk-end (f .walking)) (c .before .before .before .if1 .left))
-    , rw (c .refused3 .ensures) (omega arith))
+    let a = c .before .before .before .before .before .before .before .before .before .args in (
+      c .refused3 .ensures
+          ∙ sym (located-none (a .wanted) (a .s .now) (c .before .before .before .before .before .loop .kept) (fold-end (picked (a .wanted)) f) (c .before .if2 .taken))
+          ∙ sym (ask-whole _ _ (a .s .now) _ (c .before .before .before .before .before .before .before .u32-at .ensures) _ (walk-end (f .walking)) (c .before .before .before .if1 .left)),
+      rw (c .refused3 .ensures) (omega arith),
+    )
 
--- src/locate.rt:43:1
 returns-4 : tie.Need-returns-4 Inv-loop μ-loop
 returns-4 c =
     let none : c .before .before .before .before .loop .remaining ≡ 0 = omega arith in
     let f = rw none at (c .before .before .before .before .loop .inv .0) in
     let w = f .walking .inside in
-    let a = c .before .before .before .before .before .before .before .before .args in
-    (sym (located-some (a .wanted) (a .s .now) (c .before .before .before .before .loop .kept) (fold-end (picked (a .wanted)) f) (c .if2 .left))
-    ∙ sym (ask-whole _ _ (a .s .now) _ (c .before .before .before .before .before .before .u32-at .ensures) _ (walk-end (f .walking)) (c .before .before .if1 .left))
-    , omega arith)
+    let a = c .before .before .before .before .before .before .before .before .args in (
+      sym (located-some (a .wanted) (a .s .now) (c .before .before .before .before .loop .kept) (fold-end (picked (a .wanted)) f) (c .if2 .left))
+          ∙ sym (ask-whole _ _ (a .s .now) _ (c .before .before .before .before .before .before .u32-at .ensures) _ (walk-end (f .walking)) (c .before .before .if1 .left)),
+      omega arith,
+    )
 
 pub search-spec : {M : Type 1} → statement M
 search-spec =

@@ -1,63 +1,45 @@
 -- By the kind: the offset, sign-extended; the pool entry; or 0.
-use Prim.Native.Nat.{ℕ, _+_, _*_, _-_, _^_, _≤_, _<_}
-use mathlib.Core.Path.{_≡_, refl, sym, _∙_}
-use native.Mathlib.Omega.{arith}
-use Rattle.stackmap.specs.Section.{numConstants, readSection}
-use Rattle.questions.specs.Questions.{constantOf}
+use Prim.Native.Nat.{_-_, _≤_, _<_}
+use mathlib.Core.Path.{sym, _∙_}
+use Rattle.stackmap.specs.Section.{numConstants}
 use Rattle.questions.proofs.Content.{constant-plain, constant-negative, constant-pool, constant-none, pool-entry, pool-none}
 use borrow.Author.Needs.{needs}
 use Rattle.questions.proofs.read.constant.Statement.{statement}
 use Rattle.questions.proofs.read.constant.Tie as tie
-use Rattle.questions.proofs.read.constant.Reads as reads
-use Rattle.questions.proofs.read.constant.Lts as lts
-use Rattle.wire.proofs.u32_at.Reads as u32-at-reads
-use Rattle.wire.proofs.u64_at.Reads as u64-at-reads
 
--- src/read.rt:25:13
 returns : tie.Need-returns
 returns c = λ n g. let a = c .before .before .before .args in sym (constant-plain _ (record { kind = a .kind; size = n; register = g; offset = a .offset }) (c .before .if1 .taken) (c .if2 .taken))
 
--- src/read.rt:27:16
 add-result : tie.Need-add-result
 add-result c = search needs
 
--- src/read.rt:27:9
 returns-2 : tie.Need-returns-2
 returns-2 c = λ n g. let a = c .before .before .before .args in sym (constant-negative _ (record { kind = a .kind; size = n; register = g; offset = a .offset }) (c .before .if1 .taken) (c .if2 .left))
 
--- src/read.rt:30:25
 u32-at-requires : tie.Need-u32-at-requires
 u32-at-requires c κs = search needs
 
--- src/read.rt:30:25
 cast-functions : tie.Need-cast-functions
 cast-functions c = search needs
 
--- src/read.rt:31:21
 u32-at-requires-2 : tie.Need-u32-at-requires-2
 u32-at-requires-2 c κs = search needs
 
--- src/read.rt:32:58
 mul-u64-at : tie.Need-mul-u64-at
 mul-u64-at c = search needs
 
--- src/read.rt:32:36
 add-u64-at : tie.Need-add-u64-at
 add-u64-at c = search needs
 
--- src/read.rt:32:94
 mul-u64-at-2 : tie.Need-mul-u64-at-2
 mul-u64-at-2 c = search needs
 
--- src/read.rt:32:36
 add-u64-at-2 : tie.Need-add-u64-at-2
 add-u64-at-2 c = search needs
 
--- src/read.rt:32:13
 u64-at-requires : tie.Need-u64-at-requires
 u64-at-requires c κs = search needs
 
--- src/read.rt:32:13
 returns-3 : tie.Need-returns-3
 returns-3 c =
     λ n g.
@@ -67,7 +49,6 @@ returns-3 c =
     ∙ rw (c .before .before .before .u32-at .ensures) (sym (pool-entry (a .s .now) (a .offset) h))
     ∙ sym (constant-pool _ (record { kind = a .kind; size = n; register = g; offset = a .offset }) (c .before .before .before .before .if3 .taken))
 
--- src/read.rt:19:1
 returns-4 : tie.Need-returns-4
 returns-4 c =
     λ n g.
@@ -76,7 +57,6 @@ returns-4 c =
     sym (pool-none (a .s .now) (a .offset) h)
     ∙ sym (constant-pool _ (record { kind = a .kind; size = n; register = g; offset = a .offset }) (c .before .before .before .if3 .taken))
 
--- src/read.rt:19:1
 returns-5 : tie.Need-returns-5
 returns-5 c = λ n g. let a = c .before .before .before .args in sym (constant-none _ (record { kind = a .kind; size = n; register = g; offset = a .offset }) (c .before .if1 .left) (c .if3 .left))
 

@@ -1,24 +1,17 @@
 -- The header, then the tables.
-use mathlib.Core.Path.{_≡_, sym, _∙_}
+use mathlib.Core.Path.{sym, _∙_}
 use Rattle.stackmap.specs.Verdict.{chain}
 use Rattle.stackmap.proofs.Within.{header-held}
 use borrow.Author.Needs.{needs}
 use Rattle.stackmap.proofs.tables.begin.Statement.{statement}
 use Rattle.stackmap.proofs.tables.begin.Tie as tie
-use Rattle.stackmap.proofs.tables.begin.Reads as reads
-use Rattle.stackmap.proofs.tables.begin.Lts as lts
-use Rattle.stackmap.proofs.tables.header.Reads as header-reads
-use Rattle.stackmap.proofs.tables.tables.Reads as tables-reads
 
--- src/tables.rt:99:37
 header-requires : tie.Need-header-requires
 header-requires c κs = search needs
 
--- src/tables.rt:99:29
 enum-known-n : tie.Need-enum-known-n
 enum-known-n c = search needs
 
--- src/tables.rt:100:9
 returns : tie.Need-returns
 unfolding chain
 returns c = rw (← c .before .before .before .header .ensures, c .before .n .given .1)
@@ -26,11 +19,9 @@ returns c = rw (← c .before .before .before .header .ensures, c .before .n .gi
 enum-told : tie.Need-enum-told
 enum-told c = search needs
 
--- src/tables.rt:102:5
 tables-requires : tie.Need-tables-requires
 tables-requires c κs = header-held _ _ (sym (c .before .before .header .ensures) ∙ c .enum-told .given .1)
 
--- src/tables.rt:96:1
 returns-2 : tie.Need-returns-2
 unfolding chain
 returns-2 c = rw (← c .before .before .before .header .ensures, c .before .enum-told .given .1, ← c .tables .ensures)
