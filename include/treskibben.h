@@ -16,7 +16,7 @@ extern "C" {
 #endif
 
 /*
- * What a call answers.
+ * What a call answers. The answers to questions begin with the same two fields.
  *
  * number: 0 where the input is accepted, else the number of the refusal.
  * place:  where the fault is, as the refusal says; 0 where the input is accepted.
@@ -53,6 +53,105 @@ typedef struct treskibben_answer {
  *   9       bytes after the last record                              the first such byte
  */
 treskibben_answer treskibben_check(const uint8_t *section, size_t length);
+
+/*
+ * Questions on a section.
+ *
+ * `section` and `length` are lent as to treskibben_check. Each question first gives the refusal
+ * that treskibben_check gives, if the section has a fault. Then come these, 10 before 11:
+ *
+ *   number  when                                                     place
+ *   0       the question is answered                                 0
+ *   10      no record of that number or address                      0
+ *   11      no location or live-out of that number                   0
+ *
+ * All fields of a refused answer but number and place are 0. Functions, constants and records are
+ * numbered from 0 through the section, locations and live-outs from 0 in each record; any number
+ * may be asked for. A question costs about as much as the check.
+ */
+
+/*
+ * What the question by address answers.
+ *
+ * index:    the number of the first record with the address, in section order.
+ * function: the number of that record's function.
+ * sharing:  how many records have the address, the first one included.
+ */
+typedef struct treskibben_find_answer {
+    uint64_t number;
+    uint64_t place;
+    uint64_t index;
+    uint64_t function;
+    uint64_t sharing;
+} treskibben_find_answer;
+
+/*
+ * The first record with this address: its function's address plus its instruction offset. 10
+ * exactly if there is none.
+ */
+treskibben_find_answer treskibben_find(const uint8_t *section, size_t length, uint64_t address);
+
+/*
+ * What the question by record number answers.
+ *
+ * first:  the record's first byte in the section, where its ID stands.
+ * length: how many bytes it has, up to its last padding byte. They are all inside the section, and
+ *         no record is empty.
+ */
+typedef struct treskibben_record_answer {
+    uint64_t number;
+    uint64_t place;
+    uint64_t first;
+    uint64_t length;
+} treskibben_record_answer;
+
+/* Where the record of this number stands in the section. */
+treskibben_record_answer treskibben_record(const uint8_t *section, size_t length, uint64_t record);
+
+/*
+ * What the question by record and location number answers.
+ *
+ * constant:       the 64-bit constant of kinds 4 and 5; 0 for kinds 1 to 3.
+ * offset:         the signed offset, as it stands in the section for every kind.
+ * size:           the value's size in bytes.
+ * dwarf_register: the register's DWARF number; constants don't use it.
+ * kind:           1 Register, the value is in the register;
+ *                 2 Direct, the value is register + offset;
+ *                 3 Indirect, the value is in memory at register + offset;
+ *                 4 Constant, the value is the offset, sign-extended;
+ *                 5 ConstIndex, the value is the section's constant number offset.
+ */
+typedef struct treskibben_location_answer {
+    uint64_t number;
+    uint64_t place;
+    uint64_t constant;
+    int32_t offset;
+    uint16_t size;
+    uint16_t dwarf_register;
+    uint8_t kind;
+} treskibben_location_answer;
+
+/* The location of this number in the record of that number. */
+treskibben_location_answer treskibben_location(const uint8_t *section, size_t length,
+                                               uint64_t record, uint64_t location);
+
+/*
+ * What the question by record and live-out number answers: a register that is in use after the
+ * record's instruction.
+ *
+ * dwarf_register: the register's DWARF number.
+ * size:           how many of its bytes are in use.
+ */
+typedef struct treskibben_live_out_answer {
+    uint64_t number;
+    uint64_t place;
+    uint16_t dwarf_register;
+    uint8_t size;
+} treskibben_live_out_answer;
+
+/* The live-out of this number in the record of that number. */
+treskibben_live_out_answer treskibben_live_out(const uint8_t *section, size_t length,
+                                               uint64_t record, uint64_t live_out);
 
 #ifdef __cplusplus
 }

@@ -1,4 +1,5 @@
 /* Calls the library from C on the worked rows A to H, whose bytes are written out by hand. */
+#include "rows.h"
 #include "treskibben.h"
 
 #include <inttypes.h>
@@ -12,26 +13,6 @@ static const uint8_t row_d[16] = {1};
 static const uint8_t row_e[17] = {3};
 static const uint8_t row_f[16] = {3, 0, 0, 0, 0, 0, 0, 0, 0, 0, 0, 0, 1, 0, 0, 0};
 static const uint8_t row_g[16] = {3, 0, 0, 0, 1, 0, 0, 0, 0, 0, 0, 0, 0, 0, 0, 0};
-
-static const uint8_t row_h[152] = {
-    /* header: version 3, one function, no constants, one record */
-    3, 0, 0, 0, 1, 0, 0, 0, 0, 0, 0, 0, 1, 0, 0, 0,
-    /* function: address 0x1000, stack size 24, one record */
-    0, 0x10, 0, 0, 0, 0, 0, 0, 24, 0, 0, 0, 0, 0, 0, 0, 1, 0, 0, 0, 0, 0, 0, 0,
-    /* record: ID 7, offset 0x20, flags, seven locations */
-    7, 0, 0, 0, 0, 0, 0, 0, 0x20, 0, 0, 0, 0, 0, 7, 0,
-    /* three constants of 0 */
-    4, 0, 8, 0, 0, 0, 0, 0, 0, 0, 0, 0,
-    4, 0, 8, 0, 0, 0, 0, 0, 0, 0, 0, 0,
-    4, 0, 8, 0, 0, 0, 0, 0, 0, 0, 0, 0,
-    /* RSP+8 and RSP+8, RSP+8 and RSP+16 */
-    3, 0, 8, 0, 7, 0, 0, 0, 8, 0, 0, 0,
-    3, 0, 8, 0, 7, 0, 0, 0, 8, 0, 0, 0,
-    3, 0, 8, 0, 7, 0, 0, 0, 8, 0, 0, 0,
-    3, 0, 8, 0, 7, 0, 0, 0, 16, 0, 0, 0,
-    /* padding, zeros, no live-outs, padding */
-    0, 0, 0, 0, 0, 0, 0, 0, 0, 0, 0, 0,
-};
 
 struct row {
     char name;

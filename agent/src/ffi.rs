@@ -4,34 +4,142 @@
 //! slice, so a safe function here has nothing to test; it only has to hand over a true slice.
 
 use crate::Refusal;
+use std::mem::offset_of;
 
-/// What every exported function returns: the struct `treskibben_answer` of `treskibben.h`.
+#[cfg(test)]
+mod tests;
+
+/// The number and the place that every answer begins with, both 0 where the call is accepted.
 #[repr(C)]
-pub(crate) struct Answer {
+pub(crate) struct Verdict {
     number: u64,
     place: u64,
+}
+
+impl Verdict {
+    /// The refusal, if it is one.
+    pub(crate) fn accepted(&self) -> Result<(), Refusal> {
+        match self.number {
+            0 => Ok(()),
+            number => Err(Refusal::new(number, self.place)),
+        }
+    }
+}
+
+/// What the check answers: the struct `treskibben_answer` of `treskibben.h`.
+#[repr(C)]
+pub(crate) struct Answer {
+    verdict: Verdict,
     value: u64,
 }
 
 impl Answer {
     /// The value of an accepted call, or the refusal.
     pub(crate) fn outcome(self) -> Result<u64, Refusal> {
-        match self.number {
-            0 => Ok(self.value),
-            number => Err(Refusal::new(number, self.place)),
-        }
+        self.verdict.accepted().map(|()| self.value)
     }
 }
 
+/// What the question by address answers: the struct `treskibben_find_answer`.
+#[repr(C)]
+pub(crate) struct Found {
+    pub(crate) verdict: Verdict,
+    pub(crate) index: u64,
+    pub(crate) function: u64,
+    pub(crate) sharing: u64,
+}
+
+/// What the question by record number answers: the struct `treskibben_record_answer`.
+#[repr(C)]
+pub(crate) struct Stands {
+    pub(crate) verdict: Verdict,
+    pub(crate) first: u64,
+    pub(crate) length: u64,
+}
+
+/// What the question by location number answers: the struct `treskibben_location_answer`.
+#[repr(C)]
+pub(crate) struct Location {
+    pub(crate) verdict: Verdict,
+    pub(crate) constant: u64,
+    pub(crate) offset: i32,
+    pub(crate) size: u16,
+    pub(crate) register: u16,
+    pub(crate) kind: u8,
+}
+
+/// What the question by live-out number answers: the struct `treskibben_live_out_answer`.
+#[repr(C)]
+pub(crate) struct LiveOut {
+    pub(crate) verdict: Verdict,
+    pub(crate) register: u16,
+    pub(crate) size: u8,
+}
+
+// The structs lie in memory as those of `treskibben.h` do, whose numbers `ctest/questions.c` asserts.
+const _: () = {
+    assert!(size_of::<Verdict>() == 16 && offset_of!(Verdict, place) == 8);
+    assert!(size_of::<Answer>() == 24 && offset_of!(Answer, value) == 16);
+    assert!(size_of::<Found>() == 40 && offset_of!(Found, index) == 16);
+    assert!(offset_of!(Found, function) == 24 && offset_of!(Found, sharing) == 32);
+    assert!(size_of::<Stands>() == 32 && offset_of!(Stands, first) == 16);
+    assert!(offset_of!(Stands, length) == 24);
+    assert!(size_of::<Location>() == 40 && offset_of!(Location, constant) == 16);
+    assert!(offset_of!(Location, offset) == 24 && offset_of!(Location, size) == 28);
+    assert!(offset_of!(Location, register) == 30 && offset_of!(Location, kind) == 32);
+    assert!(size_of::<LiveOut>() == 24 && offset_of!(LiveOut, register) == 16);
+    assert!(offset_of!(LiveOut, size) == 18);
+};
+
 extern "C" {
     fn treskibben_check(section: *const u8, length: usize) -> Answer;
+    fn treskibben_find(section: *const u8, length: usize, address: u64) -> Found;
+    fn treskibben_record(section: *const u8, length: usize, record: u64) -> Stands;
+    fn treskibben_location(
+        section: *const u8,
+        length: usize,
+        record: u64,
+        location: u64,
+    ) -> Location;
+    fn treskibben_live_out(
+        section: *const u8,
+        length: usize,
+        record: u64,
+        live_out: u64,
+    ) -> LiveOut;
 }
 
 /// The check of a section.
 pub(crate) fn check(section: &[u8]) -> Answer {
     // SAFETY: the pointer and the length are those of one slice, which is borrowed for the whole
     // call: the bytes can be read and nobody writes them meanwhile. The pointer of a slice is never
-    // null, also where the slice is empty. The function reads no other memory, writes none, keeps
-    // no pointer, and its declaration above is that of `treskibben.h`.
+    // null, also where the slice is empty. The function reads no other memory, writes none but its
+    // answer, keeps no pointer, and its declaration above is that of `treskibben.h`.
     unsafe { treskibben_check(section.as_ptr(), section.len()) }
+}
+
+/// The question by address.
+pub(crate) fn find(section: &[u8], address: u64) -> Found {
+    // SAFETY: as in `check`. Every address may be asked for.
+    unsafe { treskibben_find(section.as_ptr(), section.len(), address) }
+}
+
+/// The question by record number.
+pub(crate) fn record(section: &[u8], record: u64) -> Stands {
+    // SAFETY: as in `check`. Every number may be asked for. The answer has no pointer, but numbers.
+    unsafe { treskibben_record(section.as_ptr(), section.len(), record) }
+}
+
+/// The question by record and location number.
+pub(crate) fn location(section: &[u8], record: u64, location: u64) -> Location {
+    // SAFETY: as in `check`. All numbers may be asked for. Every field of the answer is a number,
+    // for which all bits will do.
+    unsafe { treskibben_location(section.as_ptr(), section.len(), record, location) }
+}
+
+/// The question by record and live-out number.
+pub(crate) fn live_out(section: &[u8], record: u64, live_out: u64) -> LiveOut {
+    // SAFETY: as in `check`. All numbers may be asked for. Every field of the answer is a number,
+    // for which all bits will do.
+    unsafe { treskibben_live_out(section.as_ptr(), section.len(), record, live_out) }
 }

@@ -1,8 +1,9 @@
 //! LLVM stack map sections, version 3: a safe interface to a library whose every function is proved.
 //!
 //! [`check`] says whether a section keeps the layout, and of one that doesn't, which rule it breaks
-//! and at which byte. Every slice of bytes gets an answer; none makes a function panic, read beyond
-//! its slice or run without end.
+//! and at which byte. The questions read a section without decoding it: [`find`] a record by its
+//! address, [`record()`] its bytes, [`location()`] and [`live_out`] what they say. Every slice of
+//! bytes gets an answer; none makes a function panic, read beyond its slice or run without end.
 //!
 //! ```
 //! // A section of no functions, no constants and no records: version 3 and fifteen zeros.
@@ -19,10 +20,14 @@
 
 #![deny(missing_docs, unsafe_code)]
 
+mod answers;
 #[allow(unsafe_code)]
 mod ffi;
+mod questions;
 mod refusal;
 
+pub use answers::{Found, LiveOut, Location, LocationKind};
+pub use questions::{find, live_out, location, record};
 pub use refusal::Refusal;
 
 /// Checks that `section` is a whole version 3 stack map section and nothing else.

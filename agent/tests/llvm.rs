@@ -1,6 +1,8 @@
 //! Sections that LLVM itself wrote. `llvm/build` compiles small programs for two targets at two levels, and for each
-//! section the proved check, the second implementation and llvm-readobj must agree.
+//! section the proved check and questions, the second implementation and llvm-readobj must agree.
 
+#[path = "llvm/asked.rs"]
+mod asked;
 #[path = "llvm/compare.rs"]
 mod compare;
 #[path = "llvm/coverage.rs"]
@@ -27,9 +29,11 @@ fn verdict(name: &str, bytes: &[u8]) -> Option<(u64, u64)> {
     proved
 }
 
+/// Both the section as the second implementation reads it and the library's answers are what is printed.
 fn compared(name: &str, bytes: &[u8], printed: &str) {
     let printed = readobj::parse(printed).unwrap_or_else(|fault| panic!("{name}.readobj: {fault}"));
     compare(&read(name, bytes), &printed).unwrap_or_else(|fault| panic!("{name}: {fault}"));
+    asked::compare(bytes, &printed).unwrap_or_else(|fault| panic!("{name}, asked: {fault}"));
 }
 
 #[test]
@@ -81,7 +85,8 @@ fn same_but_for_addresses(name: &str, linked: &[u8], alone: &[u8]) {
 }
 
 /// Any one byte damaged: both implementations give one verdict, and where they accept, the comparison with
-/// the printed text fails. So every byte is either checked or compared, and the comparison can fail.
+/// the printed text fails. So every byte is either checked or compared, and the comparison can fail. The same
+/// holds of the library's answers, but for stack sizes, which no question gives.
 #[test]
 fn every_damaged_byte_is_noticed() {
     for Built { name, bytes, printed, .. } in sections::single() {
@@ -95,12 +100,20 @@ fn every_damaged_byte_is_noticed() {
                 if verdict(name, &damaged).is_none() {
                     let difference = compare(&read(name, &damaged), &printed);
                     assert!(difference.is_err(), "{name}: byte {place} with {flip:#x} passes unseen");
+                    let seen = asked::compare(&damaged, &printed).is_err();
+                    let asked = !in_a_stack_size(place, printed.functions.len());
+                    assert_eq!(seen, asked, "{name}: byte {place} with {flip:#x} in the answers");
                     differing += 1;
                 }
             }
         }
         assert!(differing > 0, "{name}: the comparison was never asked");
     }
+}
+
+/// Whether a byte of a section is one of a function's stack size.
+fn in_a_stack_size(place: usize, functions: usize) -> bool {
+    (0..functions).any(|number| (24 + 24 * number..32 + 24 * number).contains(&place))
 }
 
 /// A field of the printed text changed: the comparison names it. A line it does not know: the parser says so.
@@ -120,10 +133,13 @@ fn a_changed_text_is_noticed() {
         ("Indirect [R#7 + 8]", "Indirect [R#7 + -8]"),
         ("Constant 4294967289, size: 8", "Constant 4294967288, size: 8"),
         ("Constant 0, size: 8", "Constant 0, size: 4"),
+        ("ConstantIndex #0 (81985529216486895)", "ConstantIndex #0 (81985529216486894)"),
     ] {
         assert!(built.printed.contains(from), "{from:?} is not printed");
         let printed = readobj::parse(&built.printed.replacen(from, to, 1)).unwrap();
         assert!(compare(&section, &printed).is_err(), "{to:?} for {from:?} passes unseen");
+        let asked = !from.starts_with("stack size") && !from.starts_with("  #1");
+        assert_eq!(asked::compare(&built.bytes, &printed).is_err(), asked, "{to:?} for {from:?} in the answers");
     }
     for (from, to) in [
         ("Version: 3", "Version: 4"),

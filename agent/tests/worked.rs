@@ -3,6 +3,7 @@
 use generator::layout::{Function, Location, Record, Section};
 use std::fs;
 use std::path::Path;
+use treskibben::{Found, LocationKind, Refusal};
 
 /// Row C: `03` and fifteen zeros.
 const C: [u8; 16] = [3, 0, 0, 0, 0, 0, 0, 0, 0, 0, 0, 0, 0, 0, 0, 0];
@@ -61,6 +62,42 @@ fn rows_a_to_h() {
     assert_eq!(answer(&c_with(12, 1)), (5, 12), "F");
     assert_eq!(answer(&c_with(4, 1)), (4, 16), "G");
     assert_eq!(answer(&H), (0, 0), "H");
+}
+
+#[test]
+fn questions_on_row_h() {
+    let refused = |number| Some((number, 0));
+    let of = |refusal: Refusal| (refusal.number(), refusal.place());
+    let found = Found {
+        record: 0,
+        function: 0,
+        sharing: 1,
+    };
+    assert_eq!(treskibben::find(&H, 0x1020), Ok(found));
+    for address in [0, 0x20, 0x1000, 0x101f, 0x1021, u64::MAX] {
+        assert_eq!(treskibben::find(&H, address).err().map(of), refused(10));
+    }
+    let bytes = treskibben::record(&H, 0).expect("record 0");
+    assert!(std::ptr::eq(bytes, &H[40..152]));
+    assert_eq!(treskibben::record(&H, 1).err().map(of), refused(10));
+    for (number, offset) in [0, 0, 0, 8, 8, 8, 16].into_iter().enumerate() {
+        let (kind, register) = match number {
+            0..3 => (LocationKind::Constant, 0),
+            _ => (LocationKind::Indirect, 7),
+        };
+        let expected = treskibben::Location {
+            kind,
+            size: 8,
+            register,
+            offset,
+            constant: 0,
+        };
+        assert_eq!(treskibben::location(&H, 0, number as u64), Ok(expected));
+    }
+    assert_eq!(treskibben::location(&H, 0, 7).err().map(of), refused(11));
+    assert_eq!(treskibben::live_out(&H, 0, 0).err().map(of), refused(11));
+    assert_eq!(treskibben::location(&H, 1, 7).err().map(of), refused(10));
+    assert_eq!(treskibben::live_out(&H, 1, 0).err().map(of), refused(10));
 }
 
 #[test]

@@ -5,10 +5,12 @@
 //! the library and of the second implementation.
 
 pub mod aimed;
+pub mod asked;
 pub mod damage;
 pub mod edges;
 pub mod largest;
 pub mod layout;
+pub mod questions;
 pub mod rng;
 pub mod valid;
 
@@ -51,12 +53,18 @@ pub fn case(rng: &mut Rng) -> Case {
         0 => medium(rng),
         _ => valid::section(rng),
     };
+    case_of(rng, &section)
+}
+
+/// A random case that is made of this section. Where it is known to be accepted, its bytes are
+/// those of the section.
+pub fn case_of(rng: &mut Rng, section: &Section) -> Case {
     match rng.below(16) {
         0 | 1 => Case::known("whole", section.encode(), 0, 0),
-        2..=8 => aimed(rng, &section),
-        9 | 10 => aimed_twice(rng, &section),
+        2..=8 => aimed(rng, section),
+        9 | 10 => aimed_twice(rng, section),
         11 => Case::open("noise", noise(rng)),
-        _ => damaged(rng, &section),
+        _ => damaged(rng, section),
     }
 }
 

@@ -132,6 +132,32 @@ pub fn section(rng: &mut Rng) -> Section {
     shaped(rng, &shape)
 }
 
+/// A random section whose functions lie close below one address, often the first or the last there
+/// is, and most of whose records have that address.
+pub fn crowded(rng: &mut Rng) -> Section {
+    let mut section = section(rng);
+    let centre = match rng.below(6) {
+        0 | 1 => rng.below(3) as u64,
+        2 | 3 => u64::MAX - rng.below(3) as u64,
+        _ => address(rng),
+    };
+    let mut records = section.records.iter_mut();
+    for function in &mut section.functions {
+        let below = rng.pick(&[0, 0, 1, 2, 16, u64::from(u32::MAX)]);
+        function.address = centre.saturating_sub(below);
+        let gap = centre - function.address;
+        let room = (u64::MAX - function.address).min(u64::from(u32::MAX));
+        for record in records.by_ref().take(function.record_count as usize) {
+            let offset = match rng.below(4) {
+                0 => (gap + rng.below(3) as u64).saturating_sub(1).min(room),
+                _ => gap,
+            };
+            record.offset = offset as u32;
+        }
+    }
+    section
+}
+
 /// A section of exactly `length` bytes, which is a multiple of 8 and at least 16: records of up to
 /// eight locations and four live-outs, one function to every eight records or so, and constants
 /// where a record no longer fits.

@@ -15,7 +15,7 @@ pub fn compare(section: &Section, printed: &Printed) -> Result<(), String> {
     records(section, printed)
 }
 
-fn same<T: PartialEq<U> + Debug, U: Debug>(what: &str, ours: T, printed: U) -> Result<(), String> {
+pub fn same<T: PartialEq<U> + Debug, U: Debug>(what: &str, ours: T, printed: U) -> Result<(), String> {
     if ours == printed { Ok(()) } else { Err(format!("{what}: we read {ours:?}, printed is {printed:?}")) }
 }
 
@@ -47,7 +47,7 @@ fn records(section: &Section, printed: &Printed) -> Result<(), String> {
 }
 
 /// For each record in order its function's number and address.
-fn owners(printed: &Printed) -> impl Iterator<Item = (usize, u64)> + '_ {
+pub fn owners(printed: &Printed) -> impl Iterator<Item = (usize, u64)> + '_ {
     let repeated = |(number, function): (usize, &readobj::Function)| {
         (0..function.record_count).map({
             let owner = (number, function.address);
@@ -58,7 +58,7 @@ fn owners(printed: &Printed) -> impl Iterator<Item = (usize, u64)> + '_ {
 }
 
 /// How long a record with these numbers of locations and live-outs is: both lists end at a multiple of 8 bytes.
-fn length(record: &readobj::Record) -> usize {
+pub fn length(record: &readobj::Record) -> usize {
     let rounded = |length: usize| (length + 7) / 8 * 8;
     let to_live_outs = rounded(16 + 12 * record.locations.len()) + 4;
     rounded(to_live_outs + 4 * record.live_outs.len())
@@ -80,18 +80,23 @@ fn record(ours: &Record, theirs: &readobj::Record, pool: &[u64]) -> Result<(), S
 }
 
 fn location(ours: &Location, theirs: &readobj::Location, pool: &[u64]) -> Result<(), String> {
-    let (kind, register, offset) = match theirs.value {
-        Value::Register(register) => (1, register, 0),
-        Value::Direct(register, offset) => (2, register, offset),
-        Value::Indirect(register, offset) => (3, register, offset),
-        Value::Constant(bits) => (4, 0, bits as i32),
-        Value::ConstIndex(index, value) => {
-            same("constant of the pool", pool.get(index as usize), Some(&value))?;
-            (5, 0, index as i32)
-        }
-    };
+    if let Value::ConstIndex(index, value) = theirs.value {
+        same("constant of the pool", pool.get(index as usize), Some(&value))?;
+    }
+    let (kind, register, offset, _) = fields(&theirs.value);
     same("kind", ours.kind, kind)?;
     same("size", ours.size, theirs.size)?;
     same("register", ours.register, register)?;
     same("offset", ours.offset, offset)
+}
+
+/// Kind, register, offset and 64-bit constant of a printed location.
+pub fn fields(value: &Value) -> (u8, u16, i32, u64) {
+    match *value {
+        Value::Register(register) => (1, register, 0, 0),
+        Value::Direct(register, offset) => (2, register, offset, 0),
+        Value::Indirect(register, offset) => (3, register, offset, 0),
+        Value::Constant(bits) => (4, 0, bits as i32, i64::from(bits as i32) as u64),
+        Value::ConstIndex(index, constant) => (5, 0, index as i32, constant),
+    }
 }

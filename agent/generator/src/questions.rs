@@ -1,0 +1,197 @@
+//! Questions on a section, mostly at the edges of its parts, and what a whole section answers them.
+
+use crate::layout::{Section, CONSTANT, FUNCTION, HEADER};
+use crate::rng::Rng;
+use std::iter::repeat_n;
+
+/// A question on a section.
+#[derive(Clone, Copy, Debug, PartialEq, Eq)]
+pub enum Question {
+    /// By address.
+    Find(u64),
+    /// By record number.
+    Record(u64),
+    /// By record and location number.
+    Location(u64, u64),
+    /// By record and live-out number.
+    LiveOut(u64, u64),
+}
+
+/// What a question is answered.
+#[derive(Clone, Copy, Debug, PartialEq, Eq)]
+pub enum Answer {
+    Refused {
+        number: u64,
+        place: u64,
+    },
+    Found {
+        record: u64,
+        function: u64,
+        sharing: u64,
+    },
+    /// Where the record's bytes stand in the section.
+    Record {
+        first: usize,
+        length: usize,
+    },
+    Location {
+        kind: u8,
+        size: u16,
+        register: u16,
+        offset: i32,
+        constant: u64,
+    },
+    LiveOut {
+        register: u16,
+        size: u8,
+    },
+}
+
+/// The refusal of a record that isn't there, and that of a location or live-out.
+const NO_RECORD: Answer = Answer::Refused {
+    number: 10,
+    place: 0,
+};
+const NO_ENTRY: Answer = Answer::Refused {
+    number: 11,
+    place: 0,
+};
+
+/// The function and the address of each record.
+pub fn addresses(section: &Section) -> impl Iterator<Item = (usize, u64)> + '_ {
+    let functions = section.functions.iter().enumerate();
+    let owners = functions
+        .flat_map(|(nth, function)| repeat_n((nth, function), function.record_count as usize));
+    owners
+        .zip(&section.records)
+        .map(|((nth, function), record)| (nth, function.address + u64::from(record.offset)))
+}
+
+/// The entry of a number, whatever the number.
+fn entry<T>(entries: &[T], number: u64) -> Option<&T> {
+    entries.get(usize::try_from(number).ok()?)
+}
+
+/// What a whole section answers.
+pub fn answer(section: &Section, question: Question) -> Answer {
+    match question {
+        Question::Find(address) => find(section, address),
+        Question::Record(record) => stretch(section, record),
+        Question::Location(record, number) => location(section, record, number),
+        Question::LiveOut(record, number) => live_out(section, record, number),
+    }
+}
+
+fn find(section: &Section, address: u64) -> Answer {
+    let mut there = addresses(section)
+        .enumerate()
+        .filter(|(_, (_, own))| *own == address);
+    match there.next() {
+        None => NO_RECORD,
+        Some((record, (function, _))) => Answer::Found {
+            record: record as u64,
+            function: function as u64,
+            sharing: 1 + there.count() as u64,
+        },
+    }
+}
+
+fn stretch(section: &Section, number: u64) -> Answer {
+    let Some(record) = entry(&section.records, number) else {
+        return NO_RECORD;
+    };
+    let tables = HEADER + FUNCTION * section.functions.len() + CONSTANT * section.constants.len();
+    let before = &section.records[..number as usize];
+    Answer::Record {
+        first: tables + before.iter().map(|record| record.length()).sum::<usize>(),
+        length: record.length(),
+    }
+}
+
+fn location(section: &Section, record: u64, number: u64) -> Answer {
+    let Some(record) = entry(&section.records, record) else {
+        return NO_RECORD;
+    };
+    let Some(location) = entry(&record.locations, number) else {
+        return NO_ENTRY;
+    };
+    let constant = match location.kind {
+        4 => i64::from(location.offset as i32) as u64,
+        5 => section.constants[location.offset as usize],
+        _ => 0,
+    };
+    Answer::Location {
+        kind: location.kind,
+        size: location.size,
+        register: location.register,
+        offset: location.offset as i32,
+        constant,
+    }
+}
+
+fn live_out(section: &Section, record: u64, number: u64) -> Answer {
+    let Some(record) = entry(&section.records, record) else {
+        return NO_RECORD;
+    };
+    match entry(&record.live_outs, number) {
+        None => NO_ENTRY,
+        Some(out) => Answer::LiveOut {
+            register: out.register,
+            size: out.size,
+        },
+    }
+}
+
+/// A question on a section, or on what a damage has left of it.
+pub fn question(rng: &mut Rng, section: &Section) -> Question {
+    let record = number(rng, section.records.len());
+    let record_there = entry(&section.records, record);
+    match rng.below(8) {
+        0..=2 => Question::Find(address(rng, section)),
+        3 => Question::Record(record),
+        4..=6 => {
+            let count = record_there.map_or(0, |record| record.locations.len());
+            Question::Location(record, number(rng, count))
+        }
+        _ => {
+            let count = record_there.map_or(0, |record| record.live_outs.len());
+            Question::LiveOut(record, number(rng, count))
+        }
+    }
+}
+
+/// The number of one of `count` items; or one past them, far past them where a narrower number
+/// would be inside again, or the largest.
+fn number(rng: &mut Rng, count: usize) -> u64 {
+    let inside = rng.below(count.max(1)) as u64;
+    let count = count as u64;
+    match rng.below(16) {
+        0..=7 => inside,
+        8 => 0,
+        9 | 10 => count.saturating_sub(1),
+        11 => count,
+        12 => count + 1,
+        13 => inside + rng.pick(&[1 << 8, 1 << 16, 1 << 31, 1 << 32, 1 << 63]),
+        14 => rng.pick(&[1 << 32, u64::MAX, u64::MAX - inside]),
+        _ => rng.number(64),
+    }
+}
+
+/// The address of a record; or one beside it, one where a narrower number would be equal, that of
+/// a function, or one that has nothing to do with the section.
+fn address(rng: &mut Rng, section: &Section) -> u64 {
+    let nth = rng.below(section.records.len().max(1));
+    let there = addresses(section).nth(nth).map_or(0, |(_, own)| own);
+    match rng.below(16) {
+        0..=7 => there,
+        8 => there.wrapping_add(1),
+        9 => there.wrapping_sub(1),
+        10 => there.wrapping_add(rng.pick(&[1 << 8, 1 << 16, 1 << 32, 1 << 63])),
+        11 if !section.functions.is_empty() => {
+            section.functions[rng.below(section.functions.len())].address
+        }
+        12 => 0,
+        13 => u64::MAX,
+        _ => rng.number(64),
+    }
+}

@@ -1,0 +1,55 @@
+//! What the safe interface leaves out: the other fields of a refused answer.
+
+use super::*;
+use generator::questions::{question, Question};
+use generator::{case_of, valid, Rng};
+
+/// Number, place and whether all other fields are 0.
+fn ask(section: &[u8], question: Question) -> (u64, u64, bool) {
+    let (verdict, zeros) = match question {
+        Question::Find(address) => {
+            let it = find(section, address);
+            let zeros = (it.index, it.function, it.sharing) == (0, 0, 0);
+            (it.verdict, zeros)
+        }
+        Question::Record(number) => {
+            let it = record(section, number);
+            let zeros = (it.first, it.length) == (0, 0);
+            (it.verdict, zeros)
+        }
+        Question::Location(record, number) => {
+            let it = location(section, record, number);
+            let zeros = (it.kind, it.size, it.register, it.offset, it.constant) == (0, 0, 0, 0, 0);
+            (it.verdict, zeros)
+        }
+        Question::LiveOut(record, number) => {
+            let it = live_out(section, record, number);
+            let zeros = (it.register, it.size) == (0, 0);
+            (it.verdict, zeros)
+        }
+    };
+    (verdict.number, verdict.place, zeros)
+}
+
+#[test]
+fn a_refused_answer_has_zeros_and_an_accepted_one_no_place() {
+    let mut rng = Rng::new(1);
+    let mut counts = [0; 12];
+    for _ in 0..20_000 {
+        let section = valid::crowded(&mut rng);
+        let case = case_of(&mut rng, &section);
+        for _ in 0..4 {
+            let question = question(&mut rng, &section);
+            let (number, place, zeros) = ask(&case.bytes, question);
+            counts[number as usize] += 1;
+            if number == 0 {
+                assert_eq!(place, 0, "{question:?} of {:?}", case.bytes);
+            } else {
+                assert!(zeros, "{question:?} of {:?}", case.bytes);
+            }
+        }
+        let answer = check(&case.bytes);
+        assert_eq!(answer.value, 0, "{:?}", case.bytes);
+    }
+    assert!(counts.iter().all(|count| *count > 100), "{counts:?}");
+}
