@@ -1,0 +1,2 @@
+// The conversion of a section to a listing.
+mod items;
