@@ -1,2 +1,3 @@
 // The conversion of a section to a listing.
 mod items;
+mod runs;
