@@ -1,3 +1,4 @@
 pub mod Puts
 pub mod Stores
 pub mod Loops
+pub mod Passes

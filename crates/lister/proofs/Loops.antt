@@ -6,6 +6,7 @@ use native.Mathlib.Omega.{arith}
 use native.Mathlib.Nat.{mul-suc}
 use lib.ListN.{length}
 use Rattle.stackmap.specs.Fields.{Field, size, all, many}
+use Rattle.stackmap.proofs.Fields.{size-append}
 use Rattle.lister.specs.Put.{Put}
 use Rattle.lister.proofs.Puts.{Putting, putting-start, putting-on, putting-end, put-long, first-item, no-item}
 
@@ -43,3 +44,9 @@ module _ {A : Type 0} (item : A → List Field) (read : List ℕ → ℕ → A) 
 
     pub run-end : {out₀ out : List ℕ} {to p left t : ℕ} {whole : List Field} → Running s out₀ to whole out p left t → left ≡ 0 → Put out₀ out to t whole
     run-end {p = p} {left = left} w h = putting-end (w .putting) (no-item item read step s left p h)
+
+  -- how long n items are
+  pub run-size : ((x : A) → size (item x) ≡ long) → (n : ℕ) (s : List ℕ) (at : ℕ) → size (all item (many read step n s at)) ≡ long * n
+  unfolding all many size
+  run-size even zero s at = omega arith
+  run-size even (suc n) s at = rw (size-append, even (read s at), run-size even n s (at + step), mul-suc) (omega arith)

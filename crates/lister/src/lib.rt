@@ -1,3 +1,4 @@
 // The conversion of a section to a listing.
 mod items;
+mod records;
 mod runs;
