@@ -2,3 +2,4 @@ pub mod Puts
 pub mod Stores
 pub mod Loops
 pub mod Passes
+pub mod Whole
