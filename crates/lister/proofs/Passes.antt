@@ -1,6 +1,6 @@
 -- The passes over the records: what is left of them, in the section and in the listing.
 use Prim.Native.Nat.{ℕ, zero, suc, _+_, _*_, _-_, _≤_, _<_}
-use mathlib.Core.Path.{_≡_, refl, sym, _∙_, ap}
+use mathlib.Core.Path.{_≡_, refl, _∙_}
 use mathlib.Core.List.{List, []}
 use native.Mathlib.Omega.{arith}
 use lib.ListN.{length, take, drop, length-drop}
@@ -128,7 +128,7 @@ pass-start h k = record { inside = h; room = k; putting = putting-start _ _ _ }
 module _ {s out₀ out : List ℕ} {to p left t : ℕ} {whole : List Field} (m : Passing s out₀ to whole out p left t) where
   pub pass-here : 0 < left
       → (recordLength (take (length s - p) (drop p s)) ≤ length (take (length s - p) (drop p s)))
-        × (t + size (recordItems (readRecord (take (length s - p) (drop p s)))) ≤ length out)
+      × (t + size (recordItems (readRecord (take (length s - p) (drop p s)))) ≤ length out)
   pass-here h = rw part-from (next-inside s left p (m .inside) h, let r = m .room in omega (arith, listing-step s left p h))
 
   pub pass-on : 0 < left → {out′ : List ℕ} {long t′ : ℕ} → long ≡ recordLength (take (length s - p) (drop p s))

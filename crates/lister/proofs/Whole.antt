@@ -1,17 +1,16 @@
 -- A whole section that is accepted: where its parts stand, how long its listing is, and what the conversion answers.
 use Prim.Native.Nat.{ℕ, _+_, _*_, _≤_, _<_}
-use mathlib.Core.Path.{_≡_, refl, sym, _∙_, ap}
+use mathlib.Core.Path.{_≡_, refl, sym, _∙_}
 use mathlib.Core.List.{List, _++_}
 use native.Mathlib.Omega.{arith}
 use native.Mathlib.Nat.{zero-add}
 use borrow.Author.Tests.{le-leb, lt-leb}
 use lib.ListN.{length, drop, set}
-use lib.Seq.{sets}
 use Rattle.wire.specs.Word.{bytes}
 use Rattle.stackmap.specs.declared.Verdict.{Verdict}
 use Rattle.stackmap.specs.declared.Verdict.the-variants.{Valid, Refused}
 use Rattle.stackmap.specs.Fields.{bytesOf, size, all, many}
-use Rattle.stackmap.specs.Section.{functionFields, constantFields, recordFields, sectionFields, numFunctions, numConstants, numRecords, constantsAt, recordsAt, readFunction, readConstant, readFunctions, readRecords, readSection}
+use Rattle.stackmap.specs.Section.{functionFields, constantFields, sectionFields, numFunctions, numConstants, numRecords, constantsAt, recordsAt, readFunction, readConstant, readFunctions, readRecords, readSection}
 use Rattle.stackmap.specs.Check.{sectionCheck, Accepted}
 use Rattle.stackmap.proofs.Fields.{length-bytesOf, size-append}
 use Rattle.stackmap.proofs.Items.{function-size, constant-size}

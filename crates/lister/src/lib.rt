@@ -26,14 +26,15 @@ const NUM_RECORDS_AT: usize = 12;
 
 // How a section is laid out: how many functions, constants and records, where the constants begin
 // (the pool), and where the first record stands.
-pub struct Tables {
-    pub functions: usize,
-    pub constants: usize,
-    pub records: usize,
-    pub pool: usize,
-    pub first: usize,
+struct Tables {
+    functions: usize,
+    constants: usize,
+    records: usize,
+    pool: usize,
+    first: usize,
 }
 
+// The layout, as the header gives it.
 fn section_tables(s: &[u8]) -> Tables
     requires { ⌜ headerSize ≤ length (now s) ⌝ }
     ensures { λ r. ⌜ Tabled (now (s .entry)) (r .functions) (r .constants) (r .records) (r .pool) (r .first) ⌝ }

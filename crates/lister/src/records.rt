@@ -21,11 +21,11 @@ const LIVE_OUTS_HEAD_SIZE: usize = 4;
 const PADDING_SIZE: usize = 4;
 
 // How a record is laid out: how many locations and live-outs, where the live-outs begin, and its length.
-pub struct Shape {
-    pub locations: usize,
-    pub outs: usize,
-    pub begin: usize,
-    pub length: usize,
+struct Shape {
+    locations: usize,
+    outs: usize,
+    begin: usize,
+    length: usize,
 }
 
 // The record at the start of `s`.
@@ -65,9 +65,9 @@ pub fn records_length(s: &[u8], at: usize, count: usize) -> usize
 }
 
 // A record that has been passed: its length, and where the next item begins.
-pub struct Passed {
-    pub length: usize,
-    pub next: usize,
+struct Passed {
+    length: usize,
+    next: usize,
 }
 
 // The record at the start of `s`, with its locations and then its live-outs.

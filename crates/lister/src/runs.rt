@@ -23,12 +23,12 @@ pub fn put_functions(s: &[u8], at: usize, count: usize, out: &mut [u8], to: usiz
     ensures { λ r. ⌜ Put (now (out .entry)) (now (out .exit)) to r (all functionItem (many readFunction functionSize count (now (s .entry)) at)) ⌝ }
 {
     let mut p = at;
-    let mut left = count;
+    let mut functions = count;
     let mut t = to;
-    while left > 0 {
+    while functions > 0 {
         t = items::put_function(s, p, out, t);
         p += FUNCTION_SIZE;
-        left -= 1;
+        functions -= 1;
     }
     t
 }
@@ -39,12 +39,12 @@ pub fn put_constants(s: &[u8], at: usize, count: usize, out: &mut [u8], to: usiz
     ensures { λ r. ⌜ Put (now (out .entry)) (now (out .exit)) to r (all constantItem (many readConstant constantSize count (now (s .entry)) at)) ⌝ }
 {
     let mut p = at;
-    let mut left = count;
+    let mut constants = count;
     let mut t = to;
-    while left > 0 {
+    while constants > 0 {
         t = items::put_constant(s, p, out, t);
         p += CONSTANT_SIZE;
-        left -= 1;
+        constants -= 1;
     }
     t
 }
@@ -55,12 +55,12 @@ pub fn put_locations(s: &[u8], at: usize, count: usize, out: &mut [u8], to: usiz
     ensures { λ r. ⌜ Put (now (out .entry)) (now (out .exit)) to r (all locationItem (many readLocation locationSize count (now (s .entry)) at)) ⌝ }
 {
     let mut p = at;
-    let mut left = count;
+    let mut locations = count;
     let mut t = to;
-    while left > 0 {
+    while locations > 0 {
         t = items::put_location(s, p, out, t);
         p += LOCATION_SIZE;
-        left -= 1;
+        locations -= 1;
     }
     t
 }
@@ -71,12 +71,12 @@ pub fn put_live_outs(s: &[u8], at: usize, count: usize, out: &mut [u8], to: usiz
     ensures { λ r. ⌜ Put (now (out .entry)) (now (out .exit)) to r (all liveOutItem (many readLiveOut liveOutSize count (now (s .entry)) at)) ⌝ }
 {
     let mut p = at;
-    let mut left = count;
+    let mut outs = count;
     let mut t = to;
-    while left > 0 {
+    while outs > 0 {
         t = items::put_live_out(s, p, out, t);
         p += LIVE_OUT_SIZE;
-        left -= 1;
+        outs -= 1;
     }
     t
 }

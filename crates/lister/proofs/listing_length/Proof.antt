@@ -1,60 +1,48 @@
+-- An accepted section's functions, constants and records are inside, so that no sum overflows.
 use native.Mathlib.Omega.{arith}
-use mathlib.Core.Path.{_≡_, sym, _∙_}
 use Rattle.lister.proofs.Whole.{laid, listing-length}
 use Rattle.lister.proofs.listing_length.Statement.{statement}
 use Rattle.lister.proofs.listing_length.Tie as tie
-use Rattle.lister.proofs.listing_length.Reads as reads
-use Rattle.lister.proofs.listing_length.Lts as lts
-use Rattle.lister.proofs.records.records_length.Reads as records-length-reads
-use Rattle.lister.proofs.section_tables.Reads as section-tables-reads
 
--- src/lib.rt:59:9
 section-tables-requires : tie.Need-section-tables-requires
 section-tables-requires c κs = let l = laid _ (c .before .pre) in omega arith
 
--- src/lib.rt:60:9
 records-length-requires : tie.Need-records-length-requires
 records-length-requires c κs =
     let t = c .section-tables .ensures in
     let l = laid _ (c .before .before .pre) in
     rw (t .records-are, t .first-is) (omega arith)
 
--- src/lib.rt:61:5
 mul-result : tie.Need-mul-result
 mul-result c =
     let t = c .before .before .section-tables .ensures in
     let l = laid _ (c .before .before .before .before .pre) in
     omega arith
 
--- src/lib.rt:62:11
 mul-result-2 : tie.Need-mul-result-2
 mul-result-2 c =
     let t = c .before .before .before .section-tables .ensures in
     let l = laid _ (c .before .before .before .before .before .pre) in
     omega arith
 
--- src/lib.rt:61:5
 add-result : tie.Need-add-result
 add-result c =
     let t = c .before .before .before .section-tables .ensures in
     let l = laid _ (c .before .before .before .before .before .pre) in
     omega arith
 
--- src/lib.rt:61:5
 add-result-2 : tie.Need-add-result-2
 add-result-2 c =
     let t = c .before .before .before .section-tables .ensures in
     let l = laid _ (c .before .before .before .before .before .pre) in
     omega (arith, rw (t .records-are, t .first-is) at (c .before .before .records-length .ensures))
 
--- src/lib.rt:61:5
 add-result-3 : tie.Need-add-result-3
 add-result-3 c =
     let t = c .before .before .before .section-tables .ensures in
     let l = laid _ (c .before .before .before .before .before .pre) in
     omega (arith, rw (t .records-are, t .first-is) at (c .before .before .records-length .ensures))
 
--- src/lib.rt:55:1
 returns : tie.Need-returns
 returns c =
     let t = c .before .before .before .section-tables .ensures in

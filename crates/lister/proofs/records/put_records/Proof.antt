@@ -1,3 +1,4 @@
+-- What is left to be written gives what the whole gives.
 use borrow.Author.Needs.{needs}
 use native.Mathlib.Omega.{arith}
 use mathlib.Core.Path.{_≡_}
@@ -8,9 +9,6 @@ use Rattle.lister.proofs.Puts.{put-long}
 use Rattle.lister.proofs.Passes.{Passing, pass-start, pass-here, pass-on, pass-end}
 use Rattle.lister.proofs.records.put_records.Statement.{statement}
 use Rattle.lister.proofs.records.put_records.Tie as tie
-use Rattle.lister.proofs.records.put_records.Reads as reads
-use Rattle.lister.proofs.records.put_records.Lts as lts
-use Rattle.lister.proofs.records.put_record.Reads as put-record-reads
 
 abbrev Inv-loop : tie.InvT-loop
 Inv-loop s at count out₀ to p₀ left₀ t₀ out p left t = Passing s out₀ to (all recordItems (readRecords count s at)) out p left t
@@ -18,49 +16,43 @@ Inv-loop s at count out₀ to p₀ left₀ t₀ out p left t = Passing s out₀ 
 abbrev μ-loop : tie.MeasureT-loop
 μ-loop s at count out₀ to p₀ left₀ t₀ out p left t = left
 
--- src/records.rt:96:5
 loop-holds : tie.Need-loop-holds Inv-loop μ-loop
 loop-holds c = pass-start (c .before .before .pre .0) (c .before .before .pre .1)
 
--- src/records.rt:97:33
 sub-put-record : tie.Need-sub-put-record Inv-loop μ-loop
 sub-put-record c = search needs
 
--- src/records.rt:97:33
 part-put-record-start : tie.Need-part-put-record-start Inv-loop μ-loop
 part-put-record-start c = search needs
 
--- src/records.rt:97:33
 part-put-record-end : tie.Need-part-put-record-end Inv-loop μ-loop
 part-put-record-end c = search needs
 
--- src/records.rt:97:13
 put-record-requires : tie.Need-put-record-requires Inv-loop μ-loop
-put-record-requires c κs = pass-here (c .before .before .before .loop .inv) (c .before .before .loop-test .taken)
+put-record-requires c κs = pass-here (c .before .before .before .loop .inv) (omega arith)
 
--- src/records.rt:98:9
 add-p : tie.Need-add-p Inv-loop μ-loop
-add-p c = let m = pass-on (c .before .before .before .before .before .before .before .loop .inv) (c .before .before .before .before .before .before .loop-test .taken) (c .before .before .before .put-record .ensures .0) (c .before .before .before .put-record .ensures .1) in omega arith
+add-p c =
+    let p = c .before .before .before in
+    let m = pass-on (p .before .before .before .before .loop .inv) (omega arith) (p .put-record .ensures .0) (p .put-record .ensures .1) in
+    omega arith
 
--- src/records.rt:100:9
 sub-left : tie.Need-sub-left Inv-loop μ-loop
 sub-left c = search needs
 
--- src/records.rt:96:5
 loop-less : tie.Need-loop-less Inv-loop μ-loop
 loop-less c = search needs
 
--- src/records.rt:96:5
 loop-again : tie.Need-loop-again Inv-loop μ-loop
-loop-again c = pass-on (c .before .before .before .before .before .before .before .loop .inv) (c .before .before .before .before .before .before .loop-test .taken) (c .before .before .before .put-record .ensures .0) (c .before .before .before .put-record .ensures .1)
+loop-again c =
+    let p = c .before .before .before in
+    pass-on (p .before .before .before .before .loop .inv) (omega arith) (p .put-record .ensures .0) (p .put-record .ensures .1)
 
--- src/records.rt:89:1
 returns : tie.Need-returns Inv-loop μ-loop
 returns c =
     let none : c .before .loop .left ≡ 0 = omega arith in
     pass-end (c .before .loop .inv) none
 
--- src/records.rt:89:1
 same-length : tie.Need-same-length Inv-loop μ-loop
 same-length c = put-long (returns c)
 

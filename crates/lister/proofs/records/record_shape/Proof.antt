@@ -1,75 +1,57 @@
+-- What is read is what the definitions read.
 use native.Mathlib.Omega.{arith}
 use Rattle.stackmap.specs.Section.{recordLength}
 use borrow.Author.Needs.{needs}
 use Rattle.lister.proofs.records.record_shape.Statement.{statement}
 use Rattle.lister.proofs.records.record_shape.Tie as tie
-use Rattle.lister.proofs.records.record_shape.Reads as reads
-use Rattle.lister.proofs.records.record_shape.Lts as lts
-use Rattle.wire.proofs.u16_at.Reads as u16-at-reads
 
--- src/records.rt:36:21
 u16-at-requires : tie.Need-u16-at-requires
 unfolding recordLength
 u16-at-requires c κs = search needs
 
--- src/records.rt:36:21
 cast-locations : tie.Need-cast-locations
 cast-locations c = search needs
 
--- src/records.rt:37:34
 mul-end : tie.Need-mul-end
 mul-end c = search needs
 
--- src/records.rt:37:15
 add-end : tie.Need-add-end
 add-end c = search needs
 
--- src/records.rt:37:68
 mul-end-2 : tie.Need-mul-end-2
 mul-end-2 c = search needs
 
--- src/records.rt:37:15
 add-end-2 : tie.Need-add-end-2
 add-end-2 c = search needs
 
--- src/records.rt:38:32
 add-u16-at : tie.Need-add-u16-at
 add-u16-at c = search needs
 
--- src/records.rt:38:16
 u16-at-requires-2 : tie.Need-u16-at-requires-2
 unfolding recordLength
 u16-at-requires-2 c κs = let h = rw (← c .u16-at .ensures) at (c .before .before .pre) in omega arith
 
--- src/records.rt:38:16
 cast-outs : tie.Need-cast-outs
 cast-outs c = search needs
 
--- src/records.rt:39:17
 add-begin : tie.Need-add-begin
 add-begin c = search needs
 
--- src/records.rt:44:25
 mul-t9 : tie.Need-mul-t9
 mul-t9 c = search needs
 
--- src/records.rt:44:17
 add-t10 : tie.Need-add-t10
 add-t10 c = search needs
 
--- src/records.rt:44:55
 add-t7 : tie.Need-add-t7
 add-t7 c = search needs
 
--- src/records.rt:44:54
 mul-t11 : tie.Need-mul-t11
 mul-t11 c = search needs
 
--- src/records.rt:44:17
 add-t12 : tie.Need-add-t12
 add-t12 c = search needs
 
--- src/records.rt:32:1
 returns : tie.Need-returns
 unfolding recordLength
 returns c =

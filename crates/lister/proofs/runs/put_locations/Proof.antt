@@ -1,3 +1,4 @@
+-- What is left to be written gives what the whole gives.
 use borrow.Author.Needs.{needs}
 use mathlib.Core.Path.{_≡_}
 use native.Mathlib.Omega.{arith}
@@ -9,47 +10,39 @@ use Rattle.lister.proofs.Stores.{location-item-size}
 use Rattle.lister.proofs.Loops.{Running, run-start, run-on, run-end}
 use Rattle.lister.proofs.runs.put_locations.Statement.{statement}
 use Rattle.lister.proofs.runs.put_locations.Tie as tie
-use Rattle.lister.proofs.runs.put_locations.Reads as reads
-use Rattle.lister.proofs.runs.put_locations.Lts as lts
-use Rattle.lister.proofs.items.put_location.Reads as put-location-reads
 
 abbrev Inv-loop : tie.InvT-loop
-Inv-loop s at count out₀ to p₀ left₀ t₀ out p left t = Running locationItem readLocation 12 10 s out₀ to (all locationItem (many readLocation 12 count s at)) out p left t
+Inv-loop s at count out₀ to p₀ locations₀ t₀ out p locations t = Running locationItem readLocation 12 10 s out₀ to (all locationItem (many readLocation 12 count s at)) out p locations t
 
 abbrev μ-loop : tie.MeasureT-loop
-μ-loop s at count out₀ to p₀ left₀ t₀ out p left t = left
+μ-loop s at count out₀ to p₀ locations₀ t₀ out p locations t = locations
 
--- src/runs.rt:60:5
 loop-holds : tie.Need-loop-holds Inv-loop μ-loop
 loop-holds c = run-start locationItem readLocation 12 10 location-item-size (c .before .before .pre .0) (c .before .before .pre .1)
 
--- src/runs.rt:61:9
 put-location-requires : tie.Need-put-location-requires Inv-loop μ-loop
 put-location-requires c κs = search needs
 
--- src/runs.rt:62:9
 add-p : tie.Need-add-p Inv-loop μ-loop
 add-p c = search needs
 
--- src/runs.rt:63:9
-sub-left : tie.Need-sub-left Inv-loop μ-loop
-sub-left c = search needs
+sub-locations : tie.Need-sub-locations Inv-loop μ-loop
+sub-locations c = search needs
 
--- src/runs.rt:60:5
 loop-less : tie.Need-loop-less Inv-loop μ-loop
 loop-less c = search needs
 
--- src/runs.rt:60:5
 loop-again : tie.Need-loop-again Inv-loop μ-loop
-loop-again c = run-on locationItem readLocation 12 10 location-item-size (c .before .before .before .before .before .loop .inv) (c .before .before .before .before .loop-test .taken) (c .before .before .put-location .ensures)
+loop-again c =
+    let l = c .before .before .before .before .before .loop in
+    run-on locationItem readLocation 12 10 location-item-size (l .inv) (omega arith) (c .before .before .put-location .ensures)
 
--- src/runs.rt:53:1
 returns : tie.Need-returns Inv-loop μ-loop
 returns c =
-    let none : c .before .loop .left ≡ 0 = omega arith in
-    run-end locationItem readLocation 12 10 location-item-size (c .before .loop .inv) none
+    let l = c .before .loop in
+    let none : l .locations ≡ 0 = omega arith in
+    run-end locationItem readLocation 12 10 location-item-size (l .inv) none
 
--- src/runs.rt:53:1
 same-length : tie.Need-same-length Inv-loop μ-loop
 same-length c = put-long (returns c)
 
@@ -62,7 +55,7 @@ put-locations-spec =
     loop-holds
     put-location-requires
     add-p
-    sub-left
+    sub-locations
     loop-less
     loop-again
     same-length
