@@ -8,12 +8,19 @@ mod parser;
 mod section;
 mod words;
 
-use measure::{measure, table};
+use measure::{measure, ratio, table};
 use std::hint::black_box;
 
 /// Rows that the others are compared with.
 const PARSER: &str = "StackMapParser";
 const REFERENCE: &str = "reference check";
+const CHECK: &str = "treskibben check";
+
+/// Questions, which are compared with the check of the same section, and the ratio to reach.
+const FOUND: &str = "question by address, found (last record)";
+const NOT_FOUND: &str = "question by address, not found";
+const BY_NUMBER: &str = "question by record number (last)";
+const MOST_OF_CHECK: f64 = 1.3;
 
 /// The largest section that is accepted.
 const LIMIT: usize = 16_777_216;
@@ -26,12 +33,19 @@ fn main() {
     let rounds = std::env::args().nth(1).map_or(31, |rounds| rounds.parse().expect("ROUNDS is a number"));
     assert!(rounds >= 21, "fewer than 21 rounds give no steady median");
     let bytes = section::build(LIMIT);
-    agree(&bytes);
-    check_rows(rounds, &bytes);
+    let last = agree(&bytes);
+    rows(rounds, &bytes, &last);
 }
 
-/// All read the same section: both checks accept it, and the parser's sum is that of the fields we read.
-fn agree(bytes: &[u8]) {
+/// The last record: its number and its address, which is the highest.
+struct Last {
+    number: u64,
+    address: u64,
+}
+
+/// All read the same section: both checks accept it, the parser's sum is that of the fields we read, and the
+/// questions are answered as they should be. Gives the last record.
+fn agree(bytes: &[u8]) -> Last {
     assert!(treskibben::check(bytes).is_ok(), "the proved check refuses the section");
     let Ok(read) = reference::section::read(bytes) else { panic!("the second implementation refuses the section") };
     assert_eq!(parser::walk(bytes), parser::sum(&read), "the parser reads other fields");
@@ -41,20 +55,36 @@ fn agree(bytes: &[u8]) {
     println!("section of {} bytes: {functions} functions, {constants} constants,", bytes.len());
     println!("{} records with {locations} locations and {live_outs} live-outs", read.records.len());
     println!("StackMapParser of LLVM 14 compiled with {}", env!("PARSER_COMPILER"));
+    let Some(record) = read.records.last() else { panic!("the section has no records") };
+    let last = Last { number: read.records.len() as u64 - 1, address: record.address };
+    assert!(read.records.iter().all(|other| other.address <= last.address), "the last record is not the highest");
+    let found = treskibben::find(bytes, last.address).map(|found| (found.record, found.sharing));
+    assert_eq!(found, Ok((last.number, 1)), "the last record is found at its address");
+    assert!(treskibben::find(bytes, last.address + 1).is_err(), "no record is found above it");
+    assert_eq!(treskibben::record(bytes, last.number), Ok(&bytes[record.first..]), "the last record's bytes");
+    last
 }
 
-/// The check of a whole section.
-fn check_rows(rounds: usize, bytes: &[u8]) {
+/// The check of a whole section, and questions on it.
+fn rows(rounds: usize, bytes: &[u8], last: &Last) {
     let rows = measure(
         rounds,
         &mut [
-            ("treskibben check", &mut on(bytes, treskibben::check)),
+            (CHECK, &mut on(bytes, treskibben::check)),
             (REFERENCE, &mut on(bytes, reference::section::check)),
             (PARSER, &mut on(bytes, parser::walk)),
             ("plain read", &mut on(bytes, words::sum)),
+            (FOUND, &mut on(bytes, |bytes| treskibben::find(bytes, black_box(last.address)))),
+            (NOT_FOUND, &mut on(bytes, |bytes| treskibben::find(bytes, black_box(last.address + 1)))),
+            (BY_NUMBER, &mut on(bytes, |bytes| treskibben::record(bytes, black_box(last.number)))),
         ],
     );
-    println!("\n{}", table(&rows, &[PARSER, REFERENCE]));
+    println!("\n{}", table(&rows, &[PARSER, REFERENCE, CHECK]));
+    for question in [FOUND, NOT_FOUND, BY_NUMBER] {
+        let ratio = ratio(&rows, question, CHECK);
+        let verdict = if ratio <= MOST_OF_CHECK { "reached" } else { "NOT reached" };
+        println!("{question}: {ratio:.3} of the check, at most {MOST_OF_CHECK} wanted: {verdict}");
+    }
 }
 
 /// The action of asking a function about the bytes, in such a way that no answer is known beforehand or left out.

@@ -46,20 +46,26 @@ fn row(name: &str, mut times: Vec<Duration>) -> Row {
 /// One line a row: median, the middle half and the fastest time, and the median's ratio to that of each base row.
 pub fn table(rows: &[Row], bases: &[&str]) -> String {
     let bases: Vec<&Row> = bases.iter().map(|base| find(rows, base)).collect();
-    let mut text = format!("{:<24}{:>11}{:>19}{:>11}", "", "median ms", "quartiles", "fastest");
+    let width = 2 + rows.iter().map(|row| row.name.len()).max().unwrap_or(0);
+    let mut text = format!("{:<width$}{:>11}{:>19}{:>11}", "", "median ms", "quartiles", "fastest");
     for base in &bases {
         let _ = write!(text, "{:>20}", format!("/ {}", base.name));
     }
     text.push('\n');
     for row in rows {
         let quartiles = format!("{:.3}..{:.3}", row.lower_quartile, row.upper_quartile);
-        let _ = write!(text, "{:<24}{:>11.3}{:>19}{:>11.3}", row.name, row.median, quartiles, row.fastest);
+        let _ = write!(text, "{:<width$}{:>11.3}{:>19}{:>11.3}", row.name, row.median, quartiles, row.fastest);
         for base in &bases {
-            let _ = write!(text, "{:>20.3}", row.median / base.median);
+            let _ = write!(text, "{:>20.3}", ratio(rows, &row.name, &base.name));
         }
         text.push('\n');
     }
     text
+}
+
+/// The ratio of one row's median to that of another.
+pub fn ratio(rows: &[Row], name: &str, base: &str) -> f64 {
+    find(rows, name).median / find(rows, base).median
 }
 
 fn find<'a>(rows: &'a [Row], name: &str) -> &'a Row {

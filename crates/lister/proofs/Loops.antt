@@ -1,0 +1,52 @@
+-- A loop that writes items of one kind, each of the same size in the section and in the listing.
+use Prim.Native.Nat.{ℕ, zero, suc, _+_, _*_, _-_, _≤_, _<_}
+use mathlib.Core.Path.{_≡_}
+use mathlib.Core.List.{List}
+use native.Mathlib.Omega.{arith}
+use native.Mathlib.Nat.{mul-suc}
+use lib.ListN.{length}
+use Rattle.stackmap.specs.Fields.{Field, size, all, many}
+use Rattle.stackmap.proofs.Fields.{size-append}
+use Rattle.lister.specs.Put.{Put}
+use Rattle.lister.proofs.Puts.{Putting, putting-start, putting-on, putting-end, put-long, first-item, no-item}
+
+one-less : (k n : ℕ) → 0 < n → k * n ≡ k + k * (n - 1)
+one-less k zero h = absurd (omega arith)
+one-less k (suc n) h =
+    let b : suc n - 1 ≡ n = omega arith in
+    rw (b, mul-suc) (omega arith)
+
+module _ {A : Type 0} (item : A → List Field) (read : List ℕ → ℕ → A) (step long : ℕ) where
+  -- `left` items from p are still to be written, to the place t
+  pub record Running (s out₀ : List ℕ) (to : ℕ) (whole : List Field) (out : List ℕ) (p left t : ℕ) : Type 0 where
+    pub inside : p + step * left ≤ length s
+    pub room : t + long * left ≤ length out
+    pub putting : Putting out₀ to whole out t (all item (many read step left s p))
+
+  module _ (even : (x : A) → size (item x) ≡ long) {s : List ℕ} where
+    pub run-start : {out : List ℕ} {at count to : ℕ} → at + step * count ≤ length s → to + long * count ≤ length out
+        → Running s out to (all item (many read step count s at)) out at count to
+    run-start h k = record { inside = h; room = k; putting = putting-start _ _ _ }
+
+    pub run-on : {out₀ out out′ : List ℕ} {to p left t t′ : ℕ} {whole : List Field} → Running s out₀ to whole out p left t → 0 < left
+        → Put out out′ t t′ (item (read s p)) → Running s out₀ to whole out′ (p + step) (left - 1) t′
+    run-on {out} {p = p} {left = left} w h q =
+        let i = w .inside in
+        let r = w .room in
+        let e = q .ends in
+        let l = put-long q in
+        let z = even (read s p) in
+        record {
+          inside = omega (arith, one-less step left h);
+          room = omega (arith, one-less long left h);
+          putting = putting-on (item (read s p)) _ (w .putting) (first-item item read step s left p h) q;
+        }
+
+    pub run-end : {out₀ out : List ℕ} {to p left t : ℕ} {whole : List Field} → Running s out₀ to whole out p left t → left ≡ 0 → Put out₀ out to t whole
+    run-end {p = p} {left = left} w h = putting-end (w .putting) (no-item item read step s left p h)
+
+  -- how long n items are
+  pub run-size : ((x : A) → size (item x) ≡ long) → (n : ℕ) (s : List ℕ) (at : ℕ) → size (all item (many read step n s at)) ≡ long * n
+  unfolding all many size
+  run-size even zero s at = omega arith
+  run-size even (suc n) s at = rw (size-append, even (read s at), run-size even n s (at + step), mul-suc) (omega arith)

@@ -1,0 +1,78 @@
+-- One item: its size, and the stores that write it.
+use Prim.Native.Nat.{ℕ, _+_, _%_, _<_}
+use mathlib.Core.Path.{_≡_, refl}
+use mathlib.Core.List.{List, [], _∷_}
+use native.Mathlib.Omega.{arith}
+use native.Mathlib.Nat.{add-assoc}
+use lib.ListN.{set, getD}
+use lib.Seq.{sets}
+use Rattle.wire.specs.Word.{word, bytes}
+use Rattle.wire.proofs.Laws.{sets-append, length-bytes}
+use Rattle.stackmap.specs.Fields.{bytesOf, size}
+use Rattle.stackmap.specs.Section.{Function, Location, LiveOut, Record, readFunction, readConstant, readLocation, readLiveOut, readRecord}
+use Rattle.stackmap.proofs.Items.{byte-word}
+use Rattle.listing.specs.Listing.{functionItem, constantItem, recordItem, locationItem, liveOutItem}
+use Rattle.lister.specs.Put.{Put}
+
+-- Sizes.
+
+pub function-item-size : (f : Function) → size (functionItem f) ≡ 25
+unfolding size functionItem
+function-item-size f = refl
+
+pub constant-item-size : (v : ℕ) → size (constantItem v) ≡ 9
+unfolding size constantItem
+constant-item-size v = refl
+
+pub record-item-size : (r : Record) → size (recordItem r) ≡ 13
+unfolding size recordItem
+record-item-size r = refl
+
+pub location-item-size : (l : Location) → size (locationItem l) ≡ 10
+unfolding size locationItem
+location-item-size l = refl
+
+pub live-out-item-size : (o : LiveOut) → size (liveOutItem o) ≡ 4
+unfolding size liveOutItem
+live-out-item-size o = refl
+
+-- Stores.
+
+byte-is : (v : ℕ) → v < 256 → bytes 1 v ≡ v ∷ []
+unfolding bytes
+byte-is v h = let e : v % 256 ≡ v = omega arith in rw e
+
+-- a byte that is read
+byte-read : (s : List ℕ) (at : ℕ) → getD s at 0 < 256 → bytes 1 (word 1 s at) ≡ getD s at 0 ∷ []
+byte-read s at h = rw byte-word (byte-is _ h)
+
+module _ (out s : List ℕ) (to at : ℕ) where
+  pub function-put :
+      Put out
+      (sets (sets (sets (set out to 1) (to + 1) (bytes 8 (word 8 s at))) (to + 9) (bytes 8 (word 8 s (at + 8)))) (to + 17) (bytes 8 (word 8 s (at + 16))))
+      to (to + 25) (functionItem (readFunction s at))
+  unfolding functionItem readFunction bytesOf size
+  function-put = record { ends = refl; output = simp (sets-append, length-bytes, byte-is 1 (omega arith), add-assoc) }
+
+  pub constant-put : Put out (sets (set out to 2) (to + 1) (bytes 8 (word 8 s at))) to (to + 9) (constantItem (readConstant s at))
+  unfolding constantItem readConstant bytesOf size
+  constant-put = record { ends = refl; output = simp (sets-append, byte-is 2 (omega arith)) }
+
+  pub location-put : getD s at 0 < 256 →
+      Put out
+      (sets (sets (sets (set (set out to 4) (to + 1) (getD s at 0)) (to + 2) (bytes 2 (word 2 s (at + 2)))) (to + 4) (bytes 2 (word 2 s (at + 4)))) (to + 6) (bytes 4 (word 4 s (at + 8))))
+      to (to + 10) (locationItem (readLocation s at))
+  unfolding locationItem readLocation bytesOf size
+  location-put h = record { ends = refl; output = simp (sets-append, length-bytes, byte-is 4 (omega arith), byte-read s at h, add-assoc) }
+
+  pub live-out-put : getD s (at + 3) 0 < 256 →
+      Put out
+      (set (sets (set out to 5) (to + 1) (bytes 2 (word 2 s at))) (to + 3) (getD s (at + 3) 0))
+      to (to + 4) (liveOutItem (readLiveOut s at))
+  unfolding liveOutItem readLiveOut bytesOf size
+  live-out-put h = record { ends = refl; output = simp (sets-append, length-bytes, byte-is 5 (omega arith), byte-read s (at + 3) h, add-assoc) }
+
+pub record-put : (out s : List ℕ) (to : ℕ) →
+    Put out (sets (sets (set out to 3) (to + 1) (bytes 8 (word 8 s 0))) (to + 9) (bytes 4 (word 4 s 8))) to (to + 13) (recordItem (readRecord s))
+unfolding recordItem readRecord bytesOf size
+record-put out s to = record { ends = refl; output = simp (sets-append, length-bytes, byte-is 3 (omega arith), add-assoc) }

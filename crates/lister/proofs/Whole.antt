@@ -1,0 +1,152 @@
+-- A whole section that is accepted: where its parts stand, how long its listing is, and what the conversion answers.
+use Prim.Native.Nat.{ℕ, _+_, _*_, _≤_, _<_}
+use mathlib.Core.Path.{_≡_, refl, sym, _∙_}
+use mathlib.Core.List.{List, _++_}
+use native.Mathlib.Omega.{arith}
+use native.Mathlib.Nat.{zero-add}
+use borrow.Author.Tests.{le-leb, lt-leb}
+use lib.ListN.{length, drop, set}
+use Rattle.wire.specs.Word.{bytes}
+use Rattle.stackmap.specs.declared.Verdict.{Verdict}
+use Rattle.stackmap.specs.declared.Verdict.the-variants.{Valid, Refused}
+use Rattle.stackmap.specs.Fields.{bytesOf, size, all, many}
+use Rattle.stackmap.specs.Section.{functionFields, constantFields, sectionFields, numFunctions, numConstants, numRecords, constantsAt, recordsAt, readFunction, readConstant, readFunctions, readRecords, readSection}
+use Rattle.stackmap.specs.Check.{sectionCheck, Accepted}
+use Rattle.stackmap.proofs.Fields.{length-bytesOf, size-append}
+use Rattle.stackmap.proofs.Items.{function-size, constant-size}
+use Rattle.stackmap.proofs.Forth.{section-long, accepted-length}
+use Rattle.listing.specs.Listing.{functionItem, constantItem, recordItems, endItem, listingFields, encodeListing, give, toListing}
+use Rattle.listing.proofs.Writes.{sets-whole}
+use Rattle.lister.specs.Put.{Put}
+use Rattle.lister.specs.Shape.{Tabled}
+use Rattle.lister.proofs.Puts.{put-join, put-long}
+use Rattle.lister.proofs.Stores.{function-item-size, constant-item-size}
+use Rattle.lister.proofs.Loops.{run-size}
+use Rattle.lister.proofs.Passes.{inSection, inListing, records-shorter}
+
+-- What is given where nothing is refused.
+
+give-short : (e : ℕ) (r out : List ℕ) → length out < length r → give (Valid e) r out ≡ record { number = 24; place = 0; written = 0; output = out }
+give-short e r out h = rw (lt-leb _ _ h, give)
+
+give-whole : (e : ℕ) (r out : List ℕ) → length r ≤ length out
+    → give (Valid e) r out ≡ record { number = 0; place = 0; written = length r; output = r ++ drop (length r) out }
+give-whole e r out h = rw (le-leb _ _ h, give)
+
+module _ (s : List ℕ) where
+  -- how long its listing is
+  abbrev pub listed : ℕ
+  listed = 25 * numFunctions s + 9 * numConstants s + inListing s (numRecords s) (recordsAt s) + 1
+
+  pub listing-size : size (listingFields (readSection s)) ≡ listed
+  unfolding listingFields readSection readFunctions size
+  listing-size =
+      simp size-append
+      (omega (
+        arith,
+        run-size functionItem readFunction 24 25 function-item-size (numFunctions s) s 16,
+        run-size constantItem readConstant 8 9 constant-item-size (numConstants s) s (constantsAt s),
+      ))
+
+  pub listing-length : length (encodeListing (readSection s)) ≡ listed
+  unfolding encodeListing
+  listing-length = length-bytesOf (listingFields (readSection s)) ∙ listing-size
+
+  -- its functions, its constants and its records are inside, and nothing follows
+  pub record Laid : Type 0 where
+    pub ends : recordsAt s + inSection s (numRecords s) (recordsAt s) ≡ length s
+    pub small : length s ≤ 16777216
+    pub short : inListing s (numRecords s) (recordsAt s) ≤ inSection s (numRecords s) (recordsAt s)
+
+  section-size : size (sectionFields (readSection s)) ≡ recordsAt s + inSection s (numRecords s) (recordsAt s)
+  unfolding sectionFields readSection readFunctions size
+  section-size =
+      simp size-append
+      (omega (
+        arith,
+        run-size functionFields readFunction 24 24 function-size (numFunctions s) s 16,
+        run-size constantFields readConstant 8 8 constant-size (numConstants s) s (constantsAt s),
+      ))
+
+  pub laid : Accepted s → Laid
+  laid k =
+      record {
+        ends = sym section-size ∙ section-long s (length s) k;
+        small = accepted-length s (length s) k .1;
+        short = records-shorter s (numRecords s) (recordsAt s);
+      }
+
+  -- There is room for each part after those that are written.
+  module _ {functions constants records pool first : ℕ} (h : Tabled s functions constants records pool first) (l : Laid)
+      (o₀ : List ℕ) (room : length (encodeListing (readSection s)) ≤ length o₀) where
+    pub functions-room : (16 + 24 * functions ≤ length s) × (0 + 25 * functions ≤ length o₀)
+    functions-room = let e = h .functions-are in let i = l .ends in (omega arith, omega (arith, listing-length))
+
+    module _ {o₁ : List ℕ} {b : ℕ} (p : Put o₀ o₁ 0 b (all functionItem (many readFunction 24 functions s 16))) where
+      after-functions : (b ≡ 25 * numFunctions s) × (length o₁ ≡ length o₀)
+      after-functions =
+          let e = h .functions-are in
+          let x = p .ends in
+          (omega (arith, run-size functionItem readFunction 24 25 function-item-size functions s 16), put-long p)
+
+      pub constants-room : (pool + 8 * constants ≤ length s) × (b + 9 * constants ≤ length o₁)
+      constants-room =
+          let e = h .constants-are in
+          let d = h .pool-is in
+          let i = l .ends in
+          (omega arith, omega (arith, listing-length, after-functions))
+
+      module _ {o₂ : List ℕ} {c : ℕ} (q : Put o₁ o₂ b c (all constantItem (many readConstant 8 constants s pool))) where
+        after-constants : (c ≡ 25 * numFunctions s + 9 * numConstants s) × (length o₂ ≡ length o₀)
+        after-constants =
+            let e = h .constants-are in
+            let x = q .ends in
+            (omega (arith, after-functions, run-size constantItem readConstant 8 9 constant-item-size constants s pool), put-long q ∙ after-functions .1)
+
+        pub records-room : (first + inSection s records first ≤ length s) × (c + inListing s records first ≤ length o₂)
+        records-room =
+            rw (h .records-are, h .first-is)
+            (let i = l .ends in omega arith, omega (arith, listing-length, after-constants))
+
+        pub end-room : {o₃ : List ℕ} {d : ℕ} → Put o₂ o₃ c d (all recordItems (readRecords records s first)) → d < length o₃
+        end-room r =
+            let w = rw (h .records-are, h .first-is) at r in
+            let x = w .ends in
+            omega (arith, listing-length, after-constants, put-long r)
+
+  -- its functions, its constants, its records and the end are all of it
+  module _ {functions constants records pool first : ℕ} (h : Tabled s functions constants records pool first) where
+    pub listing-join : {o₀ o₁ o₂ o₃ : List ℕ} {a b c d : ℕ} → Put o₀ o₁ a b (all functionItem (many readFunction 24 functions s 16))
+        → Put o₁ o₂ b c (all constantItem (many readConstant 8 constants s pool)) → Put o₂ o₃ c d (all recordItems (readRecords records s first))
+        → Put o₀ (set o₃ d 6) a (d + 1) (listingFields (readSection s))
+    unfolding listingFields readSection readFunctions
+    listing-join {o₃ = o₃} {d = d} p q r =
+        put-join _ _ (rw (h .functions-are) at p)
+        (put-join _ _ (rw (h .constants-are, h .pool-is) at q)
+        (put-join _ endItem (rw (h .records-are, h .first-is) at r)
+        (end-put o₃ d)))
+      where
+        end-put : (o : List ℕ) (t : ℕ) → Put o (set o t 6) t (t + 1) endItem
+        end-put o t = record { ends = unfold size in refl; output = unfold bytesOf bytes in refl }
+
+  -- What the conversion answers.
+
+  pub accepted : {v : Verdict} {e : ℕ} → v ≡ sectionCheck s → v ≡ Valid e → Accepted s
+  accepted {e = e} h k = let w = sym h ∙ k in rw (accepted-length s e w .0) at w
+
+  pub refused : (out : List ℕ) {n p : ℕ} → sectionCheck s ≡ Refused n p → toListing s out ≡ record { number = n; place = p; written = 0; output = out }
+  unfolding toListing
+  refused out h = rw h
+
+  pub too-short : (out : List ℕ) → Accepted s → length out < length (encodeListing (readSection s))
+      → toListing s out ≡ record { number = 24; place = 0; written = 0; output = out }
+  unfolding toListing
+  too-short out k h = rw k (give-short (length s) (encodeListing (readSection s)) out h)
+
+  pub converted : (out out′ : List ℕ) {end : ℕ} → Accepted s → length (encodeListing (readSection s)) ≤ length out
+      → Put out out′ 0 end (listingFields (readSection s)) → toListing s out ≡ record { number = 0; place = 0; written = end; output = out′ }
+  unfolding toListing encodeListing
+  converted out out′ k h p =
+      let w = sets-whole (encodeListing (readSection s)) out h in
+      let e = p .ends ∙ zero-add _ ∙ sym (length-bytesOf (listingFields (readSection s))) in
+      rw k (give-whole (length s) (encodeListing (readSection s)) out h ∙ rw (e, p .output, w))

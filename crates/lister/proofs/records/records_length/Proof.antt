@@ -1,0 +1,91 @@
+-- What is added up, with the items of the records that are left, is the whole; a record's items are shorter than the record,
+-- so that no sum overflows.
+use borrow.Author.Needs.{needs}
+use native.Mathlib.Omega.{arith}
+use Prim.Native.Nat.{_+_, _*_, _≤_}
+use lib.ListN.{length}
+use mathlib.Core.Path.{_≡_}
+use Rattle.lister.proofs.Passes.{Measuring, inListing, measure-start, measure-here, measure-on, measure-end}
+use Rattle.lister.proofs.records.records_length.Statement.{statement}
+use Rattle.lister.proofs.records.records_length.Tie as tie
+
+abbrev Inv-loop : tie.InvT-loop
+Inv-loop s at count p₀ left₀ total₀ p left total = Measuring s (inListing s count at) p left total
+
+abbrev μ-loop : tie.MeasureT-loop
+μ-loop s at count p₀ left₀ total₀ p left total = left
+
+loop-holds : tie.Need-loop-holds Inv-loop μ-loop
+loop-holds c = measure-start _ _ _ (c .before .pre)
+
+sub-record-shape : tie.Need-sub-record-shape Inv-loop μ-loop
+sub-record-shape c = search needs
+
+part-record-shape-start : tie.Need-part-record-shape-start Inv-loop μ-loop
+part-record-shape-start c = search needs
+
+part-record-shape-end : tie.Need-part-record-shape-end Inv-loop μ-loop
+part-record-shape-end c = search needs
+
+record-shape-requires : tie.Need-record-shape-requires Inv-loop μ-loop
+record-shape-requires c κs = measure-here (c .before .before .loop .inv) (omega arith)
+
+-- the sum with the next record's items is at most the section's length
+summed : (c : tie.After-record-shape Inv-loop μ-loop) →
+    c .before .before .before .loop .total + (13 + 10 * c .record-shape .result .locations + 4 * c .record-shape .result .outs)
+    ≤ length (c .before .before .before .before .before .args .s .now)
+summed c = let m = measure-on (c .before .before .before .loop .inv) (omega arith) (c .record-shape .ensures) in omega arith
+
+mul-total : tie.Need-mul-total Inv-loop μ-loop
+mul-total c = omega (arith, summed (c .before))
+
+add-total : tie.Need-add-total Inv-loop μ-loop
+add-total c = omega (arith, summed (c .before))
+
+mul-total-2 : tie.Need-mul-total-2 Inv-loop μ-loop
+mul-total-2 c = omega (arith, summed (c .before .before))
+
+add-total-2 : tie.Need-add-total-2 Inv-loop μ-loop
+add-total-2 c = omega (arith, summed (c .before .before))
+
+add-total-3 : tie.Need-add-total-3 Inv-loop μ-loop
+add-total-3 c = omega (arith, summed (c .before .before))
+
+add-p : tie.Need-add-p Inv-loop μ-loop
+add-p c = let m = measure-on (c .before .before .before .before .before .before .loop .inv) (omega arith) (c .before .before .before .record-shape .ensures) in omega arith
+
+sub-left : tie.Need-sub-left Inv-loop μ-loop
+sub-left c = search needs
+
+loop-less : tie.Need-loop-less Inv-loop μ-loop
+loop-less c = search needs
+
+loop-again : tie.Need-loop-again Inv-loop μ-loop
+loop-again c = measure-on (c .before .before .before .before .before .before .loop .inv) (omega arith) (c .before .before .before .record-shape .ensures)
+
+returns : tie.Need-returns Inv-loop μ-loop
+returns c =
+    let none : c .before .loop .left ≡ 0 = omega arith in
+    measure-end (c .before .loop .inv) none
+
+pub records-length-spec : {M : Type 1} → statement M
+records-length-spec =
+    tie.close
+    (tie.spec
+    Inv-loop
+    μ-loop
+    loop-holds
+    sub-record-shape
+    part-record-shape-start
+    part-record-shape-end
+    record-shape-requires
+    mul-total
+    add-total
+    mul-total-2
+    add-total-2
+    add-total-3
+    add-p
+    sub-left
+    loop-less
+    loop-again
+    returns)

@@ -1,0 +1,62 @@
+-- What is left to be written gives what the whole gives.
+use borrow.Author.Needs.{needs}
+use mathlib.Core.Path.{_≡_}
+use native.Mathlib.Omega.{arith}
+use Rattle.stackmap.specs.Fields.{all, many}
+use Rattle.stackmap.specs.Section.{readFunction}
+use Rattle.listing.specs.Listing.{functionItem}
+use Rattle.lister.proofs.Puts.{put-long}
+use Rattle.lister.proofs.Stores.{function-item-size}
+use Rattle.lister.proofs.Loops.{Running, run-start, run-on, run-end}
+use Rattle.lister.proofs.runs.put_functions.Statement.{statement}
+use Rattle.lister.proofs.runs.put_functions.Tie as tie
+
+abbrev Inv-loop : tie.InvT-loop
+Inv-loop s at count out₀ to p₀ functions₀ t₀ out p functions t = Running functionItem readFunction 24 25 s out₀ to (all functionItem (many readFunction 24 count s at)) out p functions t
+
+abbrev μ-loop : tie.MeasureT-loop
+μ-loop s at count out₀ to p₀ functions₀ t₀ out p functions t = functions
+
+loop-holds : tie.Need-loop-holds Inv-loop μ-loop
+loop-holds c = run-start functionItem readFunction 24 25 function-item-size (c .before .before .pre .0) (c .before .before .pre .1)
+
+put-function-requires : tie.Need-put-function-requires Inv-loop μ-loop
+put-function-requires c κs = search needs
+
+add-p : tie.Need-add-p Inv-loop μ-loop
+add-p c = search needs
+
+sub-functions : tie.Need-sub-functions Inv-loop μ-loop
+sub-functions c = search needs
+
+loop-less : tie.Need-loop-less Inv-loop μ-loop
+loop-less c = search needs
+
+loop-again : tie.Need-loop-again Inv-loop μ-loop
+loop-again c =
+    let l = c .before .before .before .before .before .loop in
+    run-on functionItem readFunction 24 25 function-item-size (l .inv) (omega arith) (c .before .before .put-function .ensures)
+
+returns : tie.Need-returns Inv-loop μ-loop
+returns c =
+    let l = c .before .loop in
+    let none : l .functions ≡ 0 = omega arith in
+    run-end functionItem readFunction 24 25 function-item-size (l .inv) none
+
+same-length : tie.Need-same-length Inv-loop μ-loop
+same-length c = put-long (returns c)
+
+pub put-functions-spec : {M : Type 1} → statement M
+put-functions-spec =
+    tie.close
+    (tie.spec
+    Inv-loop
+    μ-loop
+    loop-holds
+    put-function-requires
+    add-p
+    sub-functions
+    loop-less
+    loop-again
+    same-length
+    returns)

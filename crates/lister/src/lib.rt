@@ -1,0 +1,107 @@
+// The conversion of a section to a listing: document 01, "The listing".
+ghost use mathlib.Core.Path.{_≡_};
+ghost use Prim.Native.Nat.{_≤_};
+ghost use lib.ListN.{length};
+ghost use Rattle.stackmap.specs.Layout.{headerSize};
+ghost use Rattle.stackmap.specs.Section.{readSection};
+ghost use Rattle.stackmap.specs.Check.{Accepted};
+ghost use Rattle.listing.specs.Listing.{listingFields, encodeListing, toListing};
+ghost use Rattle.listing.specs.Answers.{Answers};
+ghost use Rattle.lister.specs.Put.{Put};
+ghost use Rattle.lister.specs.Shape.{Tabled};
+use listing::Conversion;
+use stackmap::Verdict;
+
+mod items;
+mod records;
+mod runs;
+
+const HEADER_SIZE: usize = 16;
+
+const NUM_FUNCTIONS_AT: usize = 4;
+
+const NUM_CONSTANTS_AT: usize = 8;
+
+const NUM_RECORDS_AT: usize = 12;
+
+// How a section is laid out: how many functions, constants and records, where the constants begin
+// (the pool), and where the first record stands.
+struct Tables {
+    functions: usize,
+    constants: usize,
+    records: usize,
+    pool: usize,
+    first: usize,
+}
+
+// The layout, as the header gives it.
+fn section_tables(s: &[u8]) -> Tables
+    requires { ⌜ headerSize ≤ length (now s) ⌝ }
+    ensures { λ r. ⌜ Tabled (now (s .entry)) (r .functions) (r .constants) (r .records) (r .pool) (r .first) ⌝ }
+{
+    let functions = wire::u32_at(s, NUM_FUNCTIONS_AT) as usize;
+    let constants = wire::u32_at(s, NUM_CONSTANTS_AT) as usize;
+    let records = wire::u32_at(s, NUM_RECORDS_AT) as usize;
+    let pool = HEADER_SIZE + runs::FUNCTION_SIZE * functions;
+    Tables {
+        functions,
+        constants,
+        records,
+        pool,
+        first: pool + runs::CONSTANT_SIZE * constants,
+    }
+}
+
+// How long the listing of a section is.
+fn listing_length(s: &[u8]) -> usize
+    requires { ⌜ Accepted (now s) ⌝ }
+    ensures { λ r. ⌜ r ≡ length (encodeListing (readSection (now (s .entry)))) ⌝ }
+{
+    let tables = section_tables(s);
+    let records = records::records_length(s, tables.first, tables.records);
+    items::FUNCTION_ITEM_SIZE * tables.functions
+        + items::CONSTANT_ITEM_SIZE * tables.constants
+        + records
+        + items::END_ITEM_SIZE
+}
+
+// The listing of a section: functions, then constants, then each record, then one end. Answers its length.
+fn put_listing(s: &[u8], out: &mut [u8]) -> usize
+    requires { ⌜ Accepted (now s) × (length (encodeListing (readSection (now s))) ≤ length (now out)) ⌝ }
+    ensures { λ r. ⌜ Put (now (out .entry)) (now (out .exit)) 0 r (listingFields (readSection (now (s .entry)))) ⌝ }
+{
+    let tables = section_tables(s);
+    let mut next = runs::put_functions(s, HEADER_SIZE, tables.functions, out, 0);
+    next = runs::put_constants(s, tables.pool, tables.constants, out, next);
+    next = records::put_records(s, tables.first, tables.records, out, next);
+    out[next] = items::END_KIND;
+    next + items::END_ITEM_SIZE
+}
+
+// A section's refusal; or 24 if the output is shorter than the listing; or the listing in the output, and its length.
+pub fn to_listing(section: &[u8], out: &mut [u8]) -> Conversion
+    ensures { λ r. ⌜ Answers r (now (out .exit)) (toListing (now (section .entry)) (now (out .entry))) ⌝ }
+{
+    match stackmap::check(section) {
+        Verdict::Refused(number, place) => Conversion {
+            number,
+            place,
+            written: 0,
+        },
+        Verdict::Valid(_) => {
+            if out.len() < listing_length(section) {
+                return Conversion {
+                    number: 24,
+                    place: 0,
+                    written: 0,
+                };
+            }
+            let written = put_listing(section, out);
+            Conversion {
+                number: 0,
+                place: 0,
+                written,
+            }
+        }
+    }
+}

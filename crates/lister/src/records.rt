@@ -1,0 +1,103 @@
+// The records, each read from its own stretch of the section: how long they are in the listing, and their items.
+ghost use mathlib.Core.Path.{_≡_};
+ghost use Prim.Native.Nat.{_+_, _≤_};
+ghost use lib.ListN.{length};
+ghost use Rattle.stackmap.specs.Fields.{size, all};
+ghost use Rattle.stackmap.specs.Section.{recordFields, recordLength, readRecord, readRecords};
+ghost use Rattle.listing.specs.Listing.{recordItems};
+ghost use Rattle.lister.specs.Put.{Put};
+ghost use Rattle.lister.specs.Shape.{Shaped};
+use crate::items;
+use crate::runs;
+
+const RECORD_HEAD_SIZE: usize = 16;
+
+const NUM_LOCATIONS_AT: usize = 14;
+
+const LIVE_OUTS_HEAD_ZEROS: usize = 2;
+
+const LIVE_OUTS_HEAD_SIZE: usize = 4;
+
+const PADDING_SIZE: usize = 4;
+
+// How a record is laid out: how many locations and live-outs, where the live-outs begin, and its length.
+struct Shape {
+    locations: usize,
+    outs: usize,
+    begin: usize,
+    length: usize,
+}
+
+// The record at the start of `s`.
+fn record_shape(s: &[u8]) -> Shape
+    requires { ⌜ recordLength (now s) ≤ length (now s) ⌝ }
+    ensures { λ r. ⌜ Shaped (now (s .entry)) (r .locations) (r .outs) (r .begin) (r .length) ⌝ }
+{
+    let locations = wire::u16_at(s, NUM_LOCATIONS_AT) as usize;
+    let end = RECORD_HEAD_SIZE + runs::LOCATION_SIZE * locations + locations % 2 * PADDING_SIZE;
+    let outs = wire::u16_at(s, end + LIVE_OUTS_HEAD_ZEROS) as usize;
+    let begin = end + LIVE_OUTS_HEAD_SIZE;
+    Shape {
+        locations,
+        outs,
+        begin,
+        length: begin + runs::LIVE_OUT_SIZE * outs + (outs + 1) % 2 * PADDING_SIZE,
+    }
+}
+
+// How long the items of the `count` records from `at` are.
+pub fn records_length(s: &[u8], at: usize, count: usize) -> usize
+    requires { ⌜ at + size (all recordFields (readRecords count (now s) at)) ≤ length (now s) ⌝ }
+    ensures { λ r. ⌜ r ≡ size (all recordItems (readRecords count (now (s .entry)) at)) ⌝ }
+{
+    let mut p = at;
+    let mut left = count;
+    let mut total: usize = 0;
+    while left > 0 {
+        let shape = record_shape(&s[p..]);
+        total += items::RECORD_ITEM_SIZE
+            + items::LOCATION_ITEM_SIZE * shape.locations
+            + items::LIVE_OUT_ITEM_SIZE * shape.outs;
+        p += shape.length;
+        left -= 1;
+    }
+    total
+}
+
+// A record that has been passed: its length, and where the next item begins.
+struct Passed {
+    length: usize,
+    next: usize,
+}
+
+// The record at the start of `s`, with its locations and then its live-outs.
+fn put_record(s: &[u8], out: &mut [u8], to: usize) -> Passed
+    requires { ⌜ (recordLength (now s) ≤ length (now s)) × (to + size (recordItems (readRecord (now s))) ≤ length (now out)) ⌝ }
+    ensures { λ r. ⌜ (r .length ≡ recordLength (now (s .entry))) × Put (now (out .entry)) (now (out .exit)) to (r .next) (recordItems (readRecord (now (s .entry)))) ⌝ }
+{
+    let shape = record_shape(s);
+    let mut next = items::put_record_item(s, out, to);
+    next = runs::put_locations(s, RECORD_HEAD_SIZE, shape.locations, out, next);
+    next = runs::put_live_outs(s, shape.begin, shape.outs, out, next);
+    Passed {
+        length: shape.length,
+        next,
+    }
+}
+
+// The `count` records from `at`.
+pub fn put_records(s: &[u8], at: usize, count: usize, out: &mut [u8], to: usize) -> usize
+    requires { ⌜ (at + size (all recordFields (readRecords count (now s) at)) ≤ length (now s)) × (to + size (all recordItems (readRecords count (now s) at)) ≤ length (now out)) ⌝ }
+    ensures { λ r. ⌜ Put (now (out .entry)) (now (out .exit)) to r (all recordItems (readRecords count (now (s .entry)) at)) ⌝ }
+{
+    let mut p = at;
+    let mut left = count;
+    let mut t = to;
+    while left > 0 {
+        let passed = put_record(&s[p..], out, t);
+        p += passed.length;
+        t = passed.next;
+        left -= 1;
+    }
+    t
+}

@@ -1,0 +1,82 @@
+// Runs of items of one kind. Each function answers where the next item begins.
+ghost use Prim.Native.Nat.{_+_, _*_, _≤_};
+ghost use lib.ListN.{length};
+ghost use Rattle.stackmap.specs.Fields.{all, many};
+ghost use Rattle.stackmap.specs.Layout.{functionSize, constantSize, locationSize, liveOutSize};
+ghost use Rattle.stackmap.specs.Section.{readFunction, readConstant, readLocation, readLiveOut};
+ghost use Rattle.listing.specs.Layout.{functionItemSize, constantItemSize, locationItemSize, liveOutItemSize};
+ghost use Rattle.listing.specs.Listing.{functionItem, constantItem, locationItem, liveOutItem};
+ghost use Rattle.lister.specs.Put.{Put};
+use crate::items;
+
+pub const FUNCTION_SIZE: usize = 24;
+
+pub const CONSTANT_SIZE: usize = 8;
+
+pub const LOCATION_SIZE: usize = 12;
+
+pub const LIVE_OUT_SIZE: usize = 4;
+
+// The `count` functions from `at`.
+pub fn put_functions(s: &[u8], at: usize, count: usize, out: &mut [u8], to: usize) -> usize
+    requires { ⌜ (at + functionSize * count ≤ length (now s)) × (to + functionItemSize * count ≤ length (now out)) ⌝ }
+    ensures { λ r. ⌜ Put (now (out .entry)) (now (out .exit)) to r (all functionItem (many readFunction functionSize count (now (s .entry)) at)) ⌝ }
+{
+    let mut p = at;
+    let mut functions = count;
+    let mut t = to;
+    while functions > 0 {
+        t = items::put_function(s, p, out, t);
+        p += FUNCTION_SIZE;
+        functions -= 1;
+    }
+    t
+}
+
+// The `count` constants from `at`.
+pub fn put_constants(s: &[u8], at: usize, count: usize, out: &mut [u8], to: usize) -> usize
+    requires { ⌜ (at + constantSize * count ≤ length (now s)) × (to + constantItemSize * count ≤ length (now out)) ⌝ }
+    ensures { λ r. ⌜ Put (now (out .entry)) (now (out .exit)) to r (all constantItem (many readConstant constantSize count (now (s .entry)) at)) ⌝ }
+{
+    let mut p = at;
+    let mut constants = count;
+    let mut t = to;
+    while constants > 0 {
+        t = items::put_constant(s, p, out, t);
+        p += CONSTANT_SIZE;
+        constants -= 1;
+    }
+    t
+}
+
+// The `count` locations from `at`.
+pub fn put_locations(s: &[u8], at: usize, count: usize, out: &mut [u8], to: usize) -> usize
+    requires { ⌜ (at + locationSize * count ≤ length (now s)) × (to + locationItemSize * count ≤ length (now out)) ⌝ }
+    ensures { λ r. ⌜ Put (now (out .entry)) (now (out .exit)) to r (all locationItem (many readLocation locationSize count (now (s .entry)) at)) ⌝ }
+{
+    let mut p = at;
+    let mut locations = count;
+    let mut t = to;
+    while locations > 0 {
+        t = items::put_location(s, p, out, t);
+        p += LOCATION_SIZE;
+        locations -= 1;
+    }
+    t
+}
+
+// The `count` live-outs from `at`.
+pub fn put_live_outs(s: &[u8], at: usize, count: usize, out: &mut [u8], to: usize) -> usize
+    requires { ⌜ (at + liveOutSize * count ≤ length (now s)) × (to + liveOutItemSize * count ≤ length (now out)) ⌝ }
+    ensures { λ r. ⌜ Put (now (out .entry)) (now (out .exit)) to r (all liveOutItem (many readLiveOut liveOutSize count (now (s .entry)) at)) ⌝ }
+{
+    let mut p = at;
+    let mut outs = count;
+    let mut t = to;
+    while outs > 0 {
+        t = items::put_live_out(s, p, out, t);
+        p += LIVE_OUT_SIZE;
+        outs -= 1;
+    }
+    t
+}
