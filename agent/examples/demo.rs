@@ -1,36 +1,127 @@
-//! Checks the section files that its arguments name, and says of each what the check finds.
+//! Checks the section files that its arguments name, and says of each what the check finds. After
+//! `--at ADDRESS` the next file is asked instead which record has that address and what it says.
 //!
 //! The exit status is 0 where every file could be read, whatever was found in it.
 
 use std::env;
+use std::ffi::OsString;
 use std::fs;
 use std::path::Path;
 use std::process::ExitCode;
+use treskibben::{Location, LocationKind, Refusal};
+
+/// What is done with a file: the check, or the question by this address.
+enum Task {
+    Check,
+    Find(u64),
+}
+
+/// The number that an argument writes, in decimal or in hexadecimal after 0x.
+fn number(argument: &OsString) -> Option<u64> {
+    let text = argument.to_str()?;
+    match text.strip_prefix("0x") {
+        Some(digits) => u64::from_str_radix(digits, 16).ok(),
+        None => text.parse().ok(),
+    }
+}
+
+/// The files in order, each with its task; `None` where there is no file or an address is wrong.
+fn tasks(arguments: impl Iterator<Item = OsString>) -> Option<Vec<(Task, OsString)>> {
+    let mut arguments = arguments.peekable();
+    arguments.peek()?;
+    let mut tasks = Vec::new();
+    while let Some(argument) = arguments.next() {
+        tasks.push(match argument.to_str() {
+            Some("--at") => (Task::Find(number(&arguments.next()?)?), arguments.next()?),
+            _ => (Task::Check, argument),
+        });
+    }
+    Some(tasks)
+}
+
+/// The items that a question gives for the numbers from 0, up to the first that isn't there.
+fn all<T>(question: impl Fn(u64) -> Result<T, Refusal>) -> impl Iterator<Item = T> {
+    (0..).map_while(move |number| question(number).ok())
+}
+
+/// A location in words.
+fn words(location: &Location) -> String {
+    let Location {
+        register, constant, ..
+    } = location;
+    let sum = match location.offset {
+        offset @ ..0 => format!("register {register} - {}", offset.unsigned_abs()),
+        offset => format!("register {register} + {offset}"),
+    };
+    let value = match location.kind {
+        LocationKind::Register => format!("in register {register}"),
+        LocationKind::Direct => format!("the address {sum}"),
+        LocationKind::Indirect => format!("in memory at {sum}"),
+        LocationKind::Constant => format!("the constant {constant}"),
+        LocationKind::ConstIndex => format!("the constant {constant} of the pool"),
+    };
+    format!("{value}, {} bytes", location.size)
+}
+
+/// What the record with this address says, line by line.
+fn describe(section: &[u8], address: u64) -> Result<String, Refusal> {
+    let found = treskibben::find(section, address)?;
+    let bytes = treskibben::record(section, found.record)?;
+    let sharing = match found.sharing {
+        1 => "no other record has the address".to_string(),
+        sharing => format!("the first of {sharing} with the address"),
+    };
+    let mut text = format!(
+        "record {} of function {}, {} bytes; {sharing}",
+        found.record,
+        found.function,
+        bytes.len()
+    );
+    let locations = all(|number| treskibben::location(section, found.record, number));
+    for (number, location) in locations.enumerate() {
+        text += &format!("\n  location {number}: {}", words(&location));
+    }
+    let live_outs = all(|number| treskibben::live_out(section, found.record, number));
+    for (number, out) in live_outs.enumerate() {
+        let (register, size) = (out.register, out.size);
+        text += &format!("\n  live-out {number}: {size} bytes of register {register}");
+    }
+    Ok(text)
+}
 
 /// What there is to say of a file, or why it cannot be read.
-fn report(path: &Path) -> Result<String, std::io::Error> {
+fn report(task: &Task, path: &Path) -> Result<String, std::io::Error> {
     let section = fs::read(path)?;
-    let found = match treskibben::check(&section) {
-        Ok(()) => "accepted".to_string(),
-        Err(refusal) => refusal.to_string(),
-    };
-    Ok(format!("{} bytes, {found}", section.len()))
+    Ok(match task {
+        Task::Check => {
+            let verdict = treskibben::check(&section).map(|()| "accepted".to_string());
+            let verdict = verdict.unwrap_or_else(|refusal| refusal.to_string());
+            format!(": {} bytes, {verdict}", section.len())
+        }
+        Task::Find(address) => {
+            let answer = describe(&section, *address);
+            let answer = answer.unwrap_or_else(|refusal| refusal.to_string());
+            format!(" at {address:#x}: {answer}")
+        }
+    })
 }
 
 fn main() -> ExitCode {
-    let files: Vec<_> = env::args_os().skip(1).collect();
-    if files.is_empty() {
-        eprintln!("usage: demo FILE.. (each the bytes of one stack map section)");
+    let Some(tasks) = tasks(env::args_os().skip(1)) else {
+        eprintln!("usage: demo [--at ADDRESS] FILE ..");
+        eprintln!("Each file has the bytes of one stack map section. It is checked, or asked for");
+        eprintln!("the record at the address that stands before it.");
         return ExitCode::from(2);
-    }
+    };
     let mut code = ExitCode::SUCCESS;
-    for file in files.iter().map(Path::new) {
+    for (task, file) in &tasks {
+        let file = Path::new(file);
         let name = file
             .file_name()
             .unwrap_or(file.as_os_str())
             .to_string_lossy();
-        match report(file) {
-            Ok(text) => println!("{name}: {text}"),
+        match report(task, file) {
+            Ok(text) => println!("{name}{text}"),
             Err(error) => {
                 eprintln!("{name}: cannot be read: {error}");
                 code = ExitCode::FAILURE;

@@ -3,3 +3,4 @@ pub mod Listing
 pub mod Numbers
 pub mod Writes
 pub mod RoundTrip
+pub mod Short

@@ -19,11 +19,11 @@ use Rattle.stackmap.specs.declared.Verdict.the-variants.{Valid}
 use Rattle.listing.specs.Listing.{functionItem, constantItem, recordItem, locationItem, liveOutItem, endItem, recordItems, listingFields, encodeListing, stands, run, listedFunction, listedConstant, listedLocation, listedLiveOut, listedLocations, listedLiveOuts, listedRecord, recordStop, listedRecords, recordsStop, functionsListed, constantsListed, recordsBegin, readListing, itemsStop, listingCheck}
 use Rattle.listing.proofs.Fits.{and-true, AllSmall, small-whole, whole-small, listing-to-section}
 
-function-size : (f : Function) → size (functionItem f) ≡ 25
+pub function-size : (f : Function) → size (functionItem f) ≡ 25
 unfolding size functionItem
 function-size f = refl
 
-constant-size : (v : ℕ) → size (constantItem v) ≡ 9
+pub constant-size : (v : ℕ) → size (constantItem v) ≡ 9
 unfolding size constantItem
 constant-size v = refl
 
