@@ -1,0 +1,3 @@
+// Listing to section.
+mod count;
+mod grammar;
