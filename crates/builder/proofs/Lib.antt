@@ -1,3 +1,6 @@
 pub mod Bound
 pub mod Records
 pub mod Ends
+pub mod Faults
+pub mod Turns
+pub mod Walking

@@ -1,3 +1,4 @@
 pub mod Count
 pub mod Survey
 pub mod Grammar
+pub mod Walk

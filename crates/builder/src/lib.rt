@@ -1,3 +1,5 @@
 // Listing to section.
 mod count;
+mod fault;
 mod grammar;
+mod walk;
