@@ -4,3 +4,4 @@ pub mod Ends
 pub mod Faults
 pub mod Turns
 pub mod Walking
+pub mod Plans

@@ -8,8 +8,9 @@ use Rattle.stackmap.specs.declared.Verdict.the-variants.{Refused}
 use Rattle.stackmap.specs.Layout.{recordHeadSize, locationSize, locationsPadding, liveOutsHeadSize, liveOutSize, liveOutsPadding}
 use Rattle.stackmap.specs.Fields.{size, all}
 use Rattle.stackmap.specs.Section.{Record, recordFields}
-use Rattle.listing.specs.Layout.{recordKind, recordItemSize}
+use Rattle.listing.specs.Layout.{functionItemSize, constantItemSize, recordKind, recordItemSize}
 use Rattle.listing.specs.Listing.{stands, listedRecords, recordsStop, notTooMany}
+use Rattle.builder.specs.Count.{Tabled}
 
 -- the bytes of a record with n locations and m live-outs
 abbrev pub recordSize : ℕ → ℕ → ℕ
@@ -37,3 +38,15 @@ module _ (l : List ℕ) where
   abbrev pub Ends : ℕ → Bool → Type 0
   Ends at true = notTooMany (recordsFrom at) at ≡ Refused 23 at
   Ends at false = stands recordKind recordItemSize l at ≡ false
+
+  -- where the records of this many functions and constants begin
+  abbrev pub recordsAfter : ℕ → ℕ → ℕ
+  recordsAfter functions constants = functionItemSize * functions + constantItemSize * constants
+
+  -- what is known of a listing before its section is written: how many functions, constants and records, and the bytes of
+  -- the records in the section
+  pub record Planned (functions constants records bytes : ℕ) : Type 0 where
+    pub tables : Tabled l functions constants
+    pub counted : length (recordsFrom (recordsAfter functions constants)) ≡ records
+    pub sized : size (all recordFields (recordsFrom (recordsAfter functions constants))) ≡ bytes
+    pub short : bytes ≤ 3 * length l

@@ -30,6 +30,12 @@ const ITEMS_MOST: usize = 65535;
 
 pub const RECORD_HEAD_SIZE: usize = 16;
 
+pub const HEADER_SIZE: usize = 16;
+
+pub const FUNCTION_SIZE: usize = 24;
+
+pub const CONSTANT_SIZE: usize = 8;
+
 pub const LOCATION_SIZE: usize = 12;
 
 pub const LIVE_OUTS_HEAD_SIZE: usize = 4;
@@ -168,4 +174,13 @@ pub fn survey_records(l: &[u8], from: usize) -> Survey
         stop,
         crowded: false,
     }
+}
+
+// What is known of a listing before its section is written.
+pub struct Plan {
+    pub functions: usize,
+    pub constants: usize,
+    pub records: usize,
+    // The bytes of the records in the section.
+    pub bytes: usize,
 }

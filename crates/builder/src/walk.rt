@@ -6,11 +6,17 @@ ghost use lib.Dec.{eqb};
 ghost use Rattle.stackmap.specs.Section.{owners, counted, entriesFrom};
 ghost use Rattle.stackmap.specs.Fault.{entriesFault, sectionFault};
 ghost use Rattle.listing.specs.Layout.{functionItemSize, listingMost};
-ghost use Rattle.builder.specs.Survey.{recordsFrom};
+ghost use Rattle.listing.specs.Listing.{readListing};
+ghost use Rattle.builder.specs.Survey.{recordsFrom, Planned};
 ghost use Rattle.builder.specs.Walk.{functionsOf, ahead, Turning, Walkable};
 use crate::count;
 use crate::fault;
 use stackmap::Verdict;
+
+const SECTION_MOST: usize = 16777216;
+
+// Where the number of records stands in the section.
+const NUM_RECORDS_AT: usize = 12;
 
 // Where a function's record count stands in its item.
 const RECORD_COUNT_AT: usize = 17;
@@ -55,24 +61,17 @@ fn owner(l: &[u8], functions: usize, turn: Turn) -> Turn
     Turn { next, left }
 }
 
-// The `records` records from the item at `from` on; the first is to stand at `place`.
-fn records(
-    l: &[u8],
-    tables: count::Tables,
-    from: usize,
-    records: usize,
-    place: usize,
-    end: usize,
-) -> Verdict
-    requires { ⌜ Walkable (now l) (tables .functions) from records place end × (length (now l) ≤ listingMost) ⌝ }
-    ensures { λ r. ⌜ r ≡ entriesFault (tables .constants) (entriesFrom 0 place (owners 0 (functionsOf (now (l .entry)) (tables .functions))) (recordsFrom (now (l .entry)) from)) end ⌝ }
+// The records from the item at `from` on; the first is to stand at `place`, and the section ends at `end`.
+fn records(l: &[u8], plan: count::Plan, from: usize, place: usize, end: usize) -> Verdict
+    requires { ⌜ Walkable (now l) (plan .functions) from (plan .records) place end × (length (now l) ≤ listingMost) ⌝ }
+    ensures { λ r. ⌜ r ≡ entriesFault (plan .constants) (entriesFrom 0 place (owners 0 (functionsOf (now (l .entry)) (plan .functions))) (recordsFrom (now (l .entry)) from)) end ⌝ }
 {
-    let functions = tables.functions;
-    let constants = tables.constants;
+    let functions = plan.functions;
+    let constants = plan.constants;
     let mut turn = Turn { next: 0, left: 0 };
     let mut at = from;
     let mut to = place;
-    let mut remaining = records;
+    let mut remaining = plan.records;
     while remaining > 0 {
         let t = owner(l, functions, turn);
         let next = t.next;
@@ -92,4 +91,26 @@ fn records(
         remaining -= 1;
     }
     Verdict::Valid(to)
+}
+
+// The refusal of the section that is to be built, or its length.
+pub fn section(l: &[u8], plan: count::Plan) -> Verdict
+    requires { ⌜ Planned (now l) (plan .functions) (plan .constants) (plan .records) (plan .bytes) × (length (now l) ≤ listingMost) ⌝ }
+    ensures { λ r. ⌜ r ≡ sectionFault (readListing (now (l .entry))) ⌝ }
+{
+    let functions = plan.functions;
+    let constants = plan.constants;
+    let place = count::HEADER_SIZE
+        + count::FUNCTION_SIZE * functions
+        + count::CONSTANT_SIZE * constants;
+    let end = place + plan.bytes;
+    if end > SECTION_MOST {
+        return Verdict::Refused(1, 0);
+    }
+    let from = count::FUNCTION_ITEM_SIZE * functions + count::CONSTANT_ITEM_SIZE * constants;
+    if counts_add_up(l, functions, plan.records) {
+        records(l, plan, from, place, end)
+    } else {
+        Verdict::Refused(5, NUM_RECORDS_AT)
+    }
 }

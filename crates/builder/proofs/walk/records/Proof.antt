@@ -7,10 +7,10 @@ use Rattle.builder.proofs.walk.records.Statement.{statement}
 use Rattle.builder.proofs.walk.records.Tie as tie
 
 abbrev Inv-loop : tie.InvT-loop
-Inv-loop l from records place end functions constants turn₀ at₀ to₀ remaining₀ turn at to remaining = Walking l functions constants from place end (turn .next) (turn .left) remaining at to
+Inv-loop l from place end functions constants turn₀ at₀ to₀ remaining₀ turn at to remaining = Walking l functions constants from place end (turn .next) (turn .left) remaining at to
 
 abbrev μ-loop : tie.MeasureT-loop
-μ-loop l from records place end functions constants turn₀ at₀ to₀ remaining₀ turn at to remaining = remaining
+μ-loop l from place end functions constants turn₀ at₀ to₀ remaining₀ turn at to remaining = remaining
 
 loop-holds : tie.Need-loop-holds Inv-loop μ-loop
 loop-holds c = walk-start (c .before .pre .0)
@@ -53,8 +53,8 @@ returns c =
 enum-known-stop : tie.Need-enum-known-stop Inv-loop μ-loop
 enum-known-stop c = search needs
 
-sub-t23 : tie.Need-sub-t23 Inv-loop μ-loop
-sub-t23 c = let o = c .before .before .before .before .before .owner .ensures .1 in omega arith
+sub-t22 : tie.Need-sub-t22 Inv-loop μ-loop
+sub-t22 c = let o = c .before .before .before .before .before .owner .ensures .1 in omega arith
 
 sub-remaining : tie.Need-sub-remaining Inv-loop μ-loop
 sub-remaining c = search needs
@@ -87,7 +87,7 @@ records-spec =
     enum-known-number
     returns
     enum-known-stop
-    sub-t23
+    sub-t22
     sub-remaining
     loop-less
     loop-again
