@@ -5,3 +5,4 @@ pub mod Faults
 pub mod Turns
 pub mod Walking
 pub mod Plans
+pub mod Puts

@@ -2,4 +2,5 @@
 mod count;
 mod fault;
 mod grammar;
+mod item;
 mod walk;
