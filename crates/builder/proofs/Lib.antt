@@ -6,3 +6,4 @@ pub mod Turns
 pub mod Walking
 pub mod Plans
 pub mod Puts
+pub mod RecordPut

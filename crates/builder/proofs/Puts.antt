@@ -1,18 +1,20 @@
 -- Fields put one after the other into an output.
-use Prim.Native.Nat.{ℕ, zero, suc, _+_, _*_, _%_, _-_, _<_, _^_}
-use mathlib.Core.Path.{_≡_, refl}
+use Prim.Native.Nat.{ℕ, zero, suc, _+_, _*_, _%_, _-_, _≤_, _<_, _^_}
+use mathlib.Core.Path.{_≡_, refl, sym, _∙_, ap}
 use mathlib.Core.List.{List, [], _∷_, _++_, append-assoc}
 use native.Mathlib.Omega.{arith}
-use native.Mathlib.Nat.{add-zero, add-assoc}
+use native.Mathlib.Nat.{add-zero, add-assoc, mul-suc}
 use native.Mathlib.Numerals.{add-one}
-use lib.ListN.{getD, set}
-use lib.Seq.{sets}
+use lib.ListN.{length, getD, set}
+use lib.Seq.{sets, length-sets}
 use Rattle.wire.specs.Word.{Bytes, word, bytes}
 use Rattle.wire.proofs.Laws.{word-add, word-bound, bytes-split, length-bytes, sets-append}
-use Rattle.stackmap.specs.Fields.{Field, _of_, bytesOf, size}
+use Rattle.stackmap.specs.Fields.{Field, _of_, bytesOf, size, all, many}
 use Rattle.stackmap.specs.Section.{functionFields, constantFields, locationFields, liveOutFields}
 use Rattle.stackmap.proofs.Fields.{length-bytesOf}
 use Rattle.stackmap.proofs.Items.{byte-word}
+use Rattle.stackmap.proofs.Steps.{many-step}
+use Rattle.builder.specs.Put.{headFields}
 use Rattle.listing.specs.Listing.{listedFunction, listedConstant, listedLocation, listedLiveOut}
 
 -- Fields.
@@ -92,3 +94,47 @@ module _ (l : List ℕ) (at : ℕ) (out : List ℕ) (to : ℕ) where
         let h = w .below (at + 3) in
         let z : word 1 l (at + 3) % 256 ≡ getD l (at + 3) 0 = rw byte-word (omega arith) in
         rw (add-zero, z) at (puts-all (liveOutFields (listedLiveOut l at)) out to)
+
+pub head-put : (l : List ℕ) (at n : ℕ) (out : List ℕ) (to : ℕ)
+    → sets (sets (sets (sets out to (bytes 8 (word 8 l (at + 1)))) (to + 8) (bytes 4 (word 4 l (at + 9)))) (to + 12) (bytes 2 0)) (to + 14) (bytes 2 n)
+    ≡ sets out to (bytesOf (headFields l at n))
+head-put l at n out to = rw add-zero at (puts-all (headFields l at n) out to)
+
+-- Items of one size, one after the other.
+
+module _ {A : Type 0} (fields : A → List Field) (read : List ℕ → ℕ → A) (k step : ℕ) where
+  -- of n items from `at` on, `left` are still to be put: from p on, to q
+  pub record Putting (l : List ℕ) (at n : ℕ) (out₀ : List ℕ) (to : ℕ) (out : List ℕ) (p q left : ℕ) : Type 0 where
+    pub inside : p + step * left ≤ length l
+    pub room : q + k * left ≤ length out
+    pub long : length out ≡ length out₀
+    pub same : sets out₀ to (bytesOf (all fields (many read step n l at))) ≡ sets out q (bytesOf (all fields (many read step left l p)))
+
+module _ {A : Type 0} {fields : A → List Field} {read : List ℕ → ℕ → A} {k step : ℕ} {l : List ℕ} {at n : ℕ} {out₀ : List ℕ} {to : ℕ} where
+  pub put-start : at + step * n ≤ length l → to + k * n ≤ length out₀ → Putting fields read k step l at n out₀ to out₀ at to n
+  put-start i r = record { inside = i; room = r; long = refl; same = refl }
+
+  -- one item is put
+  pub put-on : {out : List ℕ} {p q left : ℕ} (out′ : List ℕ) → ((x : A) → size (fields x) ≡ k) → Putting fields read k step l at n out₀ to out p q left → 0 < left
+      → out′ ≡ sets out q (bytesOf (fields (read l p))) → Putting fields read k step l at n out₀ to out′ (p + step) (q + k) (left - 1)
+  put-on {out} {p} {q} {left} out′ even w h e =
+      let b : left ≡ suc (left - 1) = omega arith in
+      let s : step * left ≡ step * (left - 1) + step = ap (λ (m : ℕ). step * m) b ∙ mul-suc step (left - 1) in
+      let t : k * left ≡ k * (left - 1) + k = ap (λ (m : ℕ). k * m) b ∙ mul-suc k (left - 1) in
+      let i = w .inside in
+      let r = w .room in
+      let g = w .long in
+      let z : length out′ ≡ length out = rw (e, length-sets) in
+      record {
+        inside = omega arith;
+        room = omega arith;
+        long = omega arith;
+        same = w .same ∙ rw (many-step read step left l p h, e)
+            (unfold all in sym (then-put (fields (read l p)) (all fields (many read step (left - 1) l (p + step))) out q (q + k) (rw (even (read l p)))));
+      }
+
+  -- all are put
+  pub put-end : {out : List ℕ} {p q : ℕ} → Putting fields read k step l at n out₀ to out p q 0
+      → out ≡ sets out₀ to (bytesOf (all fields (many read step n l at)))
+  unfolding many all bytesOf
+  put-end w = sym (w .same)

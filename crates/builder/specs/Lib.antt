@@ -2,3 +2,4 @@ pub mod Count
 pub mod Survey
 pub mod Grammar
 pub mod Walk
+pub mod Put

@@ -3,4 +3,5 @@ mod count;
 mod fault;
 mod grammar;
 mod item;
+mod put;
 mod walk;
