@@ -7,3 +7,4 @@ pub mod Walking
 pub mod Plans
 pub mod Puts
 pub mod RecordPut
+pub mod SectionPut

@@ -51,7 +51,7 @@ module _ {l : List ℕ} {at n m stop : ℕ} (h : Shaped l at n m stop) where
     pub stops-here : stopFrom l at ≡ stopFrom l stop
     stops-here = rw (← shape-stop) (records-on l at e .1)
 
-    check-here : notTooMany (recordsFrom l at) at ≡ must (leb n itemsMost && leb m itemsMost) 23 at (notTooMany (recordsFrom l stop) stop)
+    pub check-here : notTooMany (recordsFrom l at) at ≡ must (leb n itemsMost && leb m itemsMost) 23 at (notTooMany (recordsFrom l stop) stop)
     unfolding notTooMany
     check-here = rw (records-here, shape-lengths .0, shape-lengths .1, shape-items)
 

@@ -49,4 +49,5 @@ module _ (l : List ℕ) where
     pub tables : Tabled l functions constants
     pub counted : length (recordsFrom (recordsAfter functions constants)) ≡ records
     pub sized : size (all recordFields (recordsFrom (recordsAfter functions constants))) ≡ bytes
+    pub few : records ≤ length l
     pub short : bytes ≤ 3 * length l
