@@ -8,3 +8,5 @@ pub mod Plans
 pub mod Puts
 pub mod RecordPut
 pub mod SectionPut
+pub mod Outcomes
+pub mod Converted

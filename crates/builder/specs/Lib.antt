@@ -3,3 +3,4 @@ pub mod Survey
 pub mod Grammar
 pub mod Walk
 pub mod Put
+pub mod Outcome
