@@ -1,0 +1,48 @@
+use Rattle.builder.proofs.SectionPut.{header-put}
+use borrow.Author.Needs.{needs}
+use Rattle.builder.proofs.put.header.Statement.{statement}
+use Rattle.builder.proofs.put.header.Tie as tie
+
+put-u32-requires : tie.Need-put-u32-requires
+put-u32-requires c κs = search needs
+
+cast-put-u32 : tie.Need-cast-put-u32
+cast-put-u32 c = search needs
+
+put-u32-requires-2 : tie.Need-put-u32-requires-2
+put-u32-requires-2 c κs = search needs
+
+cast-put-u32-2 : tie.Need-cast-put-u32-2
+cast-put-u32-2 c = search needs
+
+put-u32-requires-3 : tie.Need-put-u32-requires-3
+put-u32-requires-3 c κs = search needs
+
+cast-put-u32-3 : tie.Need-cast-put-u32-3
+cast-put-u32-3 c = search needs
+
+put-u32-requires-4 : tie.Need-put-u32-requires-4
+put-u32-requires-4 c κs = search needs
+
+same-length : tie.Need-same-length
+same-length c = search needs
+
+returns : tie.Need-returns
+returns c =
+    let a = c .before .before .before .before .before .before .before .before .before .before .before .before .before .before .before .before .before .before .before .before .args in
+    rw (c .before .before .put-u324 .ensures, c .before .before .before .before .before .before .before .put-u323 .ensures, c .before .before .before .before .before .before .before .before .before .before .before .before .put-u322 .ensures, c .before .before .before .before .before .before .before .before .before .before .before .before .before .before .before .before .before .put-u32 .ensures)
+    (header-put (a .plan .functions) (a .plan .constants) (a .plan .records) (a .out .now))
+
+pub header-spec : {M : Type 1} → statement M
+header-spec =
+    tie.close
+    (tie.spec
+    put-u32-requires
+    cast-put-u32
+    put-u32-requires-2
+    cast-put-u32-2
+    put-u32-requires-3
+    cast-put-u32-3
+    put-u32-requires-4
+    same-length
+    returns)

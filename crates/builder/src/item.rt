@@ -1,0 +1,64 @@
+// Items of a listing, written as items of a section. Each function writes its item's bytes and nothing else.
+ghost use mathlib.Core.Path.{_≡_};
+ghost use Prim.Native.Nat.{_+_, _≤_, _<_};
+ghost use lib.ListN.{length};
+ghost use lib.Seq.{sets};
+ghost use Rattle.wire.specs.Word.{bytes};
+ghost use Rattle.stackmap.specs.Layout.{functionSize, constantSize, locationSize, liveOutSize};
+ghost use Rattle.stackmap.specs.Fields.{bytesOf};
+ghost use Rattle.stackmap.specs.Section.{functionFields, constantFields, locationFields, liveOutFields};
+ghost use Rattle.listing.specs.Layout.{functionItemSize, constantItemSize, locationItemSize, liveOutItemSize};
+ghost use Rattle.listing.specs.Listing.{listedFunction, listedConstant, listedLocation, listedLiveOut};
+
+// `n` zero bytes at `to`.
+pub fn zeros(out: &mut [u8], to: usize, n: usize)
+    requires { ⌜ to + n ≤ length (now out) ⌝ }
+    ensures { λ _. ⌜ now (out .exit) ≡ sets (now (out .entry)) to (bytes n 0) ⌝ }
+{
+    let mut p = to;
+    let mut left = n;
+    while left > 0 {
+        out[p] = 0;
+        p += 1;
+        left -= 1;
+    }
+}
+
+// The function item at `at`: address, stack size, record count.
+pub fn function(l: &[u8], at: usize, out: &mut [u8], to: usize)
+    requires { ⌜ (at + functionItemSize ≤ length (now l)) × (to + functionSize ≤ length (now out)) ⌝ }
+    ensures { λ _. ⌜ now (out .exit) ≡ sets (now (out .entry)) to (bytesOf (functionFields (listedFunction (now (l .entry)) at))) ⌝ }
+{
+    wire::put_u64(out, to, wire::u64_at(l, at + 1));
+    wire::put_u64(out, to + 8, wire::u64_at(l, at + 9));
+    wire::put_u64(out, to + 16, wire::u64_at(l, at + 17));
+}
+
+// The constant item at `at`.
+pub fn constant(l: &[u8], at: usize, out: &mut [u8], to: usize)
+    requires { ⌜ (at + constantItemSize ≤ length (now l)) × (to + constantSize ≤ length (now out)) ⌝ }
+    ensures { λ _. ⌜ now (out .exit) ≡ sets (now (out .entry)) to (bytesOf (constantFields (listedConstant (now (l .entry)) at))) ⌝ }
+{
+    wire::put_u64(out, to, wire::u64_at(l, at + 1));
+}
+
+// The location item at `at`: kind and a zero, size and register, two zeros, offset.
+pub fn location(l: &[u8], at: usize, out: &mut [u8], to: usize)
+    requires { ⌜ (at + locationItemSize ≤ length (now l)) × (to + locationSize ≤ length (now out)) ⌝ }
+    ensures { λ _. ⌜ now (out .exit) ≡ sets (now (out .entry)) to (bytesOf (locationFields (listedLocation (now (l .entry)) at))) ⌝ }
+{
+    wire::put_u16(out, to, l[at + 1] as u16);
+    wire::put_u32(out, to + 2, wire::u32_at(l, at + 2));
+    wire::put_u16(out, to + 6, 0);
+    wire::put_u32(out, to + 8, wire::u32_at(l, at + 6));
+}
+
+// The live-out item at `at`: register, a zero, size.
+pub fn live_out(l: &[u8], at: usize, out: &mut [u8], to: usize)
+    requires { ⌜ (at + liveOutItemSize ≤ length (now l)) × (to + liveOutSize ≤ length (now out)) ⌝ }
+    ensures { λ _. ⌜ now (out .exit) ≡ sets (now (out .entry)) to (bytesOf (liveOutFields (listedLiveOut (now (l .entry)) at))) ⌝ }
+{
+    wire::put_u16(out, to, wire::u16_at(l, at + 1));
+    out[to + 2] = 0;
+    out[to + 3] = l[at + 3];
+}
