@@ -6,6 +6,7 @@ use Rattle.questions.specs.declared.Found.{Found}
 use Rattle.questions.specs.declared.Located.{Located}
 use Rattle.questions.specs.declared.LocationAnswer.{LocationAnswer}
 use Rattle.questions.specs.declared.LiveOutAnswer.{LiveOutAnswer}
+use Rattle.listing.specs.Listing.{Converted}
 use Rattle.treskibben.specs.declared.Answer.{Answer}
 use Rattle.treskibben.specs.declared.Found
 use Rattle.treskibben.specs.declared.Stands.{Stands}
@@ -16,6 +17,10 @@ use Rattle.treskibben.specs.declared.LiveOut.{LiveOut}
 abbrev pub answer : Verdict → ℕ → Answer
 answer (Valid e) v = record { number = 0; place = 0; value = v }
 answer (Refused n p) v = record { number = n; place = p; value = 0 }
+
+-- the answer of a conversion; its value is the length written
+abbrev pub converted : Converted → Answer
+converted c = record { number = c .number; place = c .place; value = c .written }
 
 -- The answers of the questions, field by field.
 

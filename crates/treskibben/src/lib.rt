@@ -2,7 +2,8 @@
 ghost use mathlib.Core.Path.{_≡_};
 ghost use Rattle.stackmap.specs.Check.{sectionCheck};
 ghost use Rattle.questions.specs.Questions.{byAddress, recordPlace, locationAnswer, liveOutAnswer};
-ghost use Rattle.treskibben.specs.Answer.{answer, foundAt, standsAt, placed, passed};
+ghost use Rattle.listing.specs.Listing.{toListing, toSection};
+ghost use Rattle.treskibben.specs.Answer.{answer, converted, foundAt, standsAt, placed, passed};
 use stackmap::Verdict;
 
 // A refusal's number and place, or 0 and 0 and the value that the call is for.
@@ -129,5 +130,32 @@ pub extern "C" fn treskibben_live_out(section: &[u8], record: u64, live_out: u64
         place: l.place as u64,
         register: l.register,
         size: l.size,
+    }
+}
+
+// Section to listing: the section's refusal, 24, or the listing in the output and its length. A refusal writes nothing, and
+// nothing is written beyond the length.
+#[no_mangle]
+pub extern "C" fn treskibben_to_listing(section: &[u8], output: &mut [u8]) -> Answer
+    ensures { λ r. ⌜ (r ≡ converted (toListing (now (section .entry)) (now (output .entry)))) × (now (output .exit) ≡ toListing (now (section .entry)) (now (output .entry)) .output) ⌝ }
+{
+    let c = lister::to_listing(section, output);
+    Answer {
+        number: c.number as u64,
+        place: c.place as u64,
+        value: c.written as u64,
+    }
+}
+
+// Listing to section: the listing's refusal, the built section's, 24, or the section in the output and its length.
+#[no_mangle]
+pub extern "C" fn treskibben_to_section(listing: &[u8], output: &mut [u8]) -> Answer
+    ensures { λ r. ⌜ (r ≡ converted (toSection (now (listing .entry)) (now (output .entry)))) × (now (output .exit) ≡ toSection (now (listing .entry)) (now (output .entry)) .output) ⌝ }
+{
+    let c = builder::to_section(listing, output);
+    Answer {
+        number: c.number as u64,
+        place: c.place as u64,
+        value: c.written as u64,
     }
 }
