@@ -3,11 +3,13 @@ use mathlib.Core.Path.{refl}
 use Rattle.wire.specs.Word.{word, bytes}
 use Rattle.stackmap.specs.Verdict.{must, chain, bind, pick, shift}
 use Rattle.stackmap.specs.Fields.{bytesOf, size, all, many}
-use Rattle.stackmap.specs.Section.{functionFields, constantFields, locationFields, liveOutFields, recordFields, sectionFields, encodeSection, readFunction, recordLength, readFunctions, owners, counted}
+use Rattle.stackmap.specs.Section.{functionFields, constantFields, locationFields, liveOutFields, recordFields, sectionFields, encodeSection, readFunction, readConstant, readLocation, readLiveOut, recordLength, readRecord, readRecords, readFunctions, readSection, owners, counted}
 use Rattle.stackmap.specs.Record.{zeros, locationCheck, locations, liveOuts, recordInside, recordBytes, recordCheck}
 use Rattle.stackmap.specs.Check.{headerCheck, tablesCheck, recordsCheck, walkCheck, sectionCheck}
-use Rattle.promises.specs.Worked.{got, header, table, WorkedTable}
+use Rattle.listing.specs.Listing.{functionItem, constantItem, recordItem, locationItem, liveOutItem, recordItems, listingFields, encodeListing, stands, run, listedFunction, listedConstant, listedLocation, listedLiveOut, listedRecord, recordStop, listedRecords, recordsStop, readListing, itemsStop, notTooMany, listingCheck, toListing, toSection}
+use Rattle.listing.specs.RoundTrip.{result}
+use Rattle.promises.specs.Worked.{got, header, listingH, table, WorkedTable}
 
 pub worked : WorkedTable
-unfolding word bytes must chain bind pick shift bytesOf size all many functionFields constantFields locationFields liveOutFields recordFields sectionFields encodeSection readFunction recordLength readFunctions owners counted zeros locationCheck locations liveOuts recordInside recordBytes recordCheck headerCheck tablesCheck recordsCheck walkCheck sectionCheck got header table
+unfolding word bytes must chain bind pick shift bytesOf size all many functionFields constantFields locationFields liveOutFields recordFields sectionFields encodeSection readFunction readConstant readLocation readLiveOut recordLength readRecord readRecords readFunctions readSection owners counted zeros locationCheck locations liveOuts recordInside recordBytes recordCheck headerCheck tablesCheck recordsCheck walkCheck sectionCheck functionItem constantItem recordItem locationItem liveOutItem recordItems listingFields encodeListing stands run listedFunction listedConstant listedLocation listedLiveOut listedRecord recordStop listedRecords recordsStop readListing itemsStop notTooMany listingCheck toListing toSection result got header listingH table
 worked = refl

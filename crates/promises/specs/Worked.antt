@@ -1,5 +1,5 @@
 -- Document 01's worked table: what is asked, and what is answered.
-use Prim.Native.Nat.{ℕ}
+use Prim.Native.Nat.{ℕ, zero, suc}
 use mathlib.Core.Path.{_≡_}
 use mathlib.Core.List.{List, [], _∷_, _++_, map}
 use lib.ListN.{replicate}
@@ -8,22 +8,37 @@ use Rattle.stackmap.specs.declared.Verdict.{Verdict}
 use Rattle.stackmap.specs.declared.Verdict.the-variants.{Valid, Refused}
 use Rattle.stackmap.specs.Section.{Location, Section, encodeSection}
 use Rattle.stackmap.specs.Check.{sectionCheck}
+use Rattle.listing.specs.Listing.{Converted, toListing, toSection}
+use Rattle.listing.specs.RoundTrip.{result}
 
--- what is asked: the check of a section
+-- what is asked: the check of a section, a section's listing, or a listing's section
 pub data Asked : Type 0 where
   check : List ℕ → Asked
+  listingOf : List ℕ → Asked
+  sectionOf : List ℕ → Asked
 
--- a refusal's number and place, or a section's length
+-- a refusal's number and place; a section's length; or the length and the bytes that are written
 pub data Got : Type 0 where
   refused : ℕ → ℕ → Got
   accepted : ℕ → Got
+  gives : ℕ → List ℕ → Got
 
 abbrev pub checked : Verdict → Got
 checked (Valid e) = accepted e
 checked (Refused n p) = refused n p
 
+abbrev pub converted : ℕ → Converted → Got
+converted zero c = gives (c .written) (result c)
+converted (suc n) c = refused (suc n) (c .place)
+
+-- an output with room enough
+abbrev pub room : List ℕ
+room = replicate 200 0
+
 unfoldable pub got : Asked → Got
 got (check s) = checked (sectionCheck s)
+got (listingOf s) = let c = toListing s room in converted (c .number) c
+got (sectionOf l) = let c = toSection l room in converted (c .number) c
 
 -- a header of version v with three counts
 unfoldable pub header : ℕ → ℕ → ℕ → ℕ → List ℕ
@@ -48,6 +63,19 @@ withPairs ls =
 abbrev pub H : Section
 H = withPairs (atRSP 8 ∷ atRSP 8 ∷ atRSP 8 ∷ atRSP 16 ∷ [])
 
+unfoldable pub listingH : List ℕ
+listingH =
+    0x01 ∷ 0x00 ∷ 0x10 ∷ 0x00 ∷ 0x00 ∷ 0x00 ∷ 0x00 ∷ 0x00 ∷ 0x00 ∷ 0x18 ∷ 0x00 ∷ 0x00 ∷ 0x00 ∷ 0x00 ∷ 0x00 ∷ 0x00 ∷ 0x00 ∷ 0x01 ∷ 0x00 ∷ 0x00 ∷ 0x00 ∷ 0x00 ∷ 0x00 ∷ 0x00 ∷ 0x00 ∷
+    0x03 ∷ 0x07 ∷ 0x00 ∷ 0x00 ∷ 0x00 ∷ 0x00 ∷ 0x00 ∷ 0x00 ∷ 0x00 ∷ 0x20 ∷ 0x00 ∷ 0x00 ∷ 0x00 ∷
+    0x04 ∷ 0x04 ∷ 0x08 ∷ 0x00 ∷ 0x00 ∷ 0x00 ∷ 0x00 ∷ 0x00 ∷ 0x00 ∷ 0x00 ∷
+    0x04 ∷ 0x04 ∷ 0x08 ∷ 0x00 ∷ 0x00 ∷ 0x00 ∷ 0x00 ∷ 0x00 ∷ 0x00 ∷ 0x00 ∷
+    0x04 ∷ 0x04 ∷ 0x08 ∷ 0x00 ∷ 0x00 ∷ 0x00 ∷ 0x00 ∷ 0x00 ∷ 0x00 ∷ 0x00 ∷
+    0x04 ∷ 0x03 ∷ 0x08 ∷ 0x00 ∷ 0x07 ∷ 0x00 ∷ 0x08 ∷ 0x00 ∷ 0x00 ∷ 0x00 ∷
+    0x04 ∷ 0x03 ∷ 0x08 ∷ 0x00 ∷ 0x07 ∷ 0x00 ∷ 0x08 ∷ 0x00 ∷ 0x00 ∷ 0x00 ∷
+    0x04 ∷ 0x03 ∷ 0x08 ∷ 0x00 ∷ 0x07 ∷ 0x00 ∷ 0x08 ∷ 0x00 ∷ 0x00 ∷ 0x00 ∷
+    0x04 ∷ 0x03 ∷ 0x08 ∷ 0x00 ∷ 0x07 ∷ 0x00 ∷ 0x10 ∷ 0x00 ∷ 0x00 ∷ 0x00 ∷
+    0x06 ∷ []
+
 infix 30 _⇒_
 pub record Row : Type 0 where
   pub asked : Asked
@@ -64,6 +92,7 @@ table =
     (check (replicate 15 0) ⇒ refused 1 0) ∷
     {- C -}
     (check (header 3 0 0 0) ⇒ accepted 16) ∷
+    {- C -} (listingOf (header 3 0 0 0) ⇒ gives 1 (0x06 ∷ [])) ∷
     {- D -}
     (check (header 1 0 0 0) ⇒ refused 2 0) ∷
     {- E -}
