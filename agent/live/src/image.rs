@@ -1,0 +1,58 @@
+//! A copy of the bytes of a stack, on which the frames are moved.
+
+/// The bytes of a stack from an address on.
+#[derive(Clone, Debug, PartialEq, Eq)]
+pub struct Image {
+    /// The address of the first byte.
+    pub first: u64,
+    /// The bytes.
+    pub bytes: Vec<u8>,
+}
+
+impl Image {
+    /// A copy of the stack from `first` up to, not including, `end`.
+    ///
+    /// # Safety
+    ///
+    /// The bytes belong to frames of this thread that wait for a call to return.
+    pub unsafe fn take(first: u64, end: u64) -> Image {
+        let length = usize::try_from(end - first).expect("the end is above the first byte");
+        let mut bytes = vec![0; length];
+        let stack: *const u8 = std::ptr::with_exposed_provenance(first as usize);
+        // SAFETY: the caller says that the bytes are of frames that wait; the vector is new, so
+        // that it is elsewhere.
+        unsafe { stack.copy_to_nonoverlapping(bytes.as_mut_ptr(), length) };
+        Image { first, bytes }
+    }
+
+    /// Writes the image back to the stack it was taken from.
+    ///
+    /// # Safety
+    ///
+    /// As for [`Image::take`]; and the image differs from the stack only in slots that the
+    /// compiler expects to change during the calls that the frames wait for.
+    pub unsafe fn put_back(&self) {
+        let stack: *mut u8 = std::ptr::with_exposed_provenance_mut(self.first as usize);
+        // SAFETY: as in `take`.
+        unsafe { stack.copy_from_nonoverlapping(self.bytes.as_ptr(), self.bytes.len()) };
+    }
+
+    /// The word at an address.
+    pub fn word(&self, address: u64) -> u64 {
+        let at = self.place(address);
+        u64::from_le_bytes(self.bytes[at..at + 8].try_into().expect("eight bytes"))
+    }
+
+    /// Sets the word at an address.
+    pub fn set(&mut self, address: u64, word: u64) {
+        let at = self.place(address);
+        self.bytes[at..at + 8].copy_from_slice(&word.to_le_bytes());
+    }
+
+    fn place(&self, address: u64) -> usize {
+        let at = address
+            .checked_sub(self.first)
+            .expect("the address is in the image");
+        at as usize
+    }
+}

@@ -1,0 +1,106 @@
+//! All that is asked of the library, and nothing else.
+//!
+//! The check is the proved one. The crate `treskibben` has no questions and no move yet: the
+//! functions marked SWITCH give the answers of the second implementation instead, and will call
+//! the library as soon as it has them. Nothing outside this file changes then.
+
+use crate::heap::Table;
+
+/// A stopped frame: its address, RBP and RSP.
+pub use reference::Frame;
+
+/// A refusal: its number and its place.
+pub type Refusal = (u64, u64);
+
+/// The record that has an address, and its function.
+#[derive(Clone, Copy, Debug)]
+pub struct Found {
+    /// The record's number in its map.
+    pub record: u64,
+    /// The function's number in its map.
+    pub function: u64,
+    /// How many records have the address.
+    pub sharing: u64,
+}
+
+/// A location of a record.
+#[derive(Clone, Copy, Debug)]
+pub struct Location {
+    /// The kind, 1 to 5.
+    pub kind: u8,
+    /// The size in bytes.
+    pub size: u16,
+    /// The register's DWARF number.
+    pub register: u16,
+    /// The offset.
+    pub offset: i32,
+    /// The constant of kinds 4 and 5, else 0.
+    pub constant: u64,
+}
+
+/// The check of a map. The second implementation has to say the same.
+pub fn check(map: &[u8]) -> Result<(), Refusal> {
+    let proved = treskibben::check(map).map_err(|refusal| (refusal.number(), refusal.place()));
+    assert_eq!(
+        proved,
+        reference::check(map).map_err(plain),
+        "the two checks"
+    );
+    proved
+}
+
+/// The question by address. SWITCH to `treskibben::find`.
+pub fn find(map: &[u8], address: u64) -> Result<Found, Refusal> {
+    let found = reference::by_address(map, address).map_err(plain)?;
+    Ok(Found {
+        record: found.record,
+        function: found.function,
+        sharing: found.sharing,
+    })
+}
+
+/// The question by record number: the record's bytes. SWITCH to `treskibben::record`.
+pub fn record(map: &[u8], number: u64) -> Result<&[u8], Refusal> {
+    reference::record(map, number).map_err(plain)
+}
+
+/// The question by record and location number. SWITCH to `treskibben::location`.
+pub fn location(map: &[u8], record: u64, number: u64) -> Result<Location, Refusal> {
+    let answer = reference::location(map, record, number).map_err(plain)?;
+    Ok(Location {
+        kind: answer.kind,
+        size: answer.size,
+        register: answer.register,
+        offset: answer.offset,
+        constant: answer.constant,
+    })
+}
+
+/// The library's move of one frame: its number of pairs.
+///
+/// SWITCH: this is the one function to change when the library has its move. Until then it is the
+/// second implementation's, and the mover `library` is the mover `second`.
+pub fn relocate(
+    map: &[u8],
+    image: &mut [u8],
+    first: u64,
+    table: &Table,
+    frame: Frame,
+) -> Result<u64, Refusal> {
+    second_relocate(map, image, first, table, frame)
+}
+
+/// The second implementation's move of one frame.
+pub fn second_relocate(
+    map: &[u8],
+    image: &mut [u8],
+    first: u64,
+    table: &Table,
+    frame: Frame,
+) -> Result<u64, Refusal> {
+    reference::relocate(map, image, first, &table.old, &table.new, frame).map_err(plain)
+}
+
+fn plain(refusal: reference::Refusal) -> Refusal {
+    (refusal.number, refusal.place)
+}

@@ -1,0 +1,69 @@
+//! Shows a live restore to people, or does one run for the tests.
+//!
+//! `live [PROGRAM]` stops a program (O0, O0-fp, O2, O2-fp), moves its heap and its frames, and
+//! prints what it does.
+//!
+//! `live run PROGRAM MOVER STOPS` does one run and prints its counts. STOPS is `all`, or the
+//! number of one stop. Exit status: 0 where the checksum is that of a run without any stop, 1 where
+//! it is another, 2 where the call is wrong, 3 where nothing was moved at some stop.
+
+mod report;
+
+use live::mover::Mover;
+use live::program::Program;
+use live::run::{maps, run, Stops};
+use live::shapes::Shapes;
+use live::system;
+use std::process::ExitCode;
+
+fn main() -> ExitCode {
+    system::note_faults();
+    let arguments: Vec<String> = std::env::args().skip(1).collect();
+    let arguments: Vec<&str> = arguments.iter().map(String::as_str).collect();
+    let done = match arguments[..] {
+        [] => report::show("O2"),
+        [program] => report::show(program),
+        ["run", program, mover, stops] => one_run(program, mover, stops),
+        _ => None,
+    };
+    done.unwrap_or_else(|| {
+        eprintln!("usage: live [PROGRAM], or live run PROGRAM MOVER STOPS");
+        ExitCode::from(2)
+    })
+}
+
+/// One run, after one without any stop for the checksum; nothing where a name is not known.
+fn one_run(program: &str, mover: &str, stops: &str) -> Option<ExitCode> {
+    let program = Program::named(program)?;
+    let mover = Mover::named(mover)?;
+    let stops = match stops {
+        "all" => Stops::All,
+        number => Stops::Only(number.parse().ok()?),
+    };
+    let maps = maps();
+    let plain = run(&maps, program, mover, Stops::None);
+    let moved = run(&maps, program, mover, stops);
+    println!("maps {}", maps.count());
+    println!("stops {}", plain.passed);
+    println!("moved {}", moved.stops.iter().flatten().count());
+    println!("checksum {}", moved.checksum);
+    let shapes = Shapes::of(moved.stops.iter().flatten());
+    for (name, count) in shapes.counts() {
+        println!("{name} {count}");
+    }
+    if moved.checksum != plain.checksum {
+        println!("expected {}", plain.checksum);
+        return Some(ExitCode::from(1));
+    }
+    if let Some(Err(trouble)) = moved.stops.iter().find(|stop| stop.is_err()) {
+        println!("{}", report::trouble(*trouble));
+        return Some(ExitCode::from(3));
+    }
+    let kept = moved
+        .stops
+        .iter()
+        .flatten()
+        .all(|stop| stop.keeps_the_rule());
+    assert!(kept, "the checksum is right, but a slot is not");
+    Some(ExitCode::SUCCESS)
+}

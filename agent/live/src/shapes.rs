@@ -1,0 +1,120 @@
+//! What the frames at the stops of a run were like. The tests ask for each shape, so that they
+//! cannot become empty unseen.
+
+use crate::frames::Stopped;
+use crate::heap::Object;
+use crate::maps::Place;
+use crate::program::function;
+use crate::run::Stop;
+use std::collections::BTreeSet;
+
+/// How often each shape occurs, by name.
+#[derive(Default)]
+pub struct Shapes {
+    counts: Vec<(&'static str, u64)>,
+}
+
+impl Shapes {
+    /// The shapes of some stops.
+    pub fn of<'a>(stops: impl Iterator<Item = &'a Stop>) -> Shapes {
+        let mut shapes = Shapes::default();
+        for stop in stops {
+            shapes.add_stop(stop);
+        }
+        shapes
+    }
+
+    /// The names and the counts; a shape that never occurs is not there.
+    pub fn counts(&self) -> &[(&'static str, u64)] {
+        &self.counts
+    }
+
+    fn add(&mut self, name: &'static str, count: usize) {
+        let more = count as u64;
+        match self.counts.iter_mut().find(|(known, _)| *known == name) {
+            _ if more == 0 => {}
+            Some((_, total)) => *total += more,
+            None => self.counts.push((name, more)),
+        }
+    }
+
+    fn add_stop(&mut self, stop: &Stop) {
+        let names: BTreeSet<_> = stop.frames.iter().map(|at| function(at.site.id)).collect();
+        let maps: BTreeSet<_> = stop.frames.iter().map(|at| at.site.map).collect();
+        self.add("frames", stop.frames.len());
+        self.add("functions", names.len());
+        self.add("frames-of-recursion", stop.frames.len() - names.len());
+        self.add("maps", maps.len());
+        for stopped in &stop.frames {
+            self.add_frame(stopped);
+            for &pair in &stopped.site.pairs {
+                self.add_pair(stop, stopped, pair);
+            }
+        }
+    }
+
+    fn add_frame(&mut self, stopped: &Stopped) {
+        let slots: Vec<_> = stopped.all_slots().collect();
+        let sharing = |base| slots.iter().filter(|[other, _]| *other == base).count();
+        let alone = |base| slots.iter().all(|[_, derived]| *derived != base);
+        self.add("pairs", stopped.site.pairs.len());
+        self.add(
+            "base-of-three-or-more",
+            slots.iter().filter(|[base, _]| sharing(*base) > 2).count(),
+        );
+        self.add(
+            "base-not-listed-itself",
+            slots.iter().filter(|[base, _]| alone(*base)).count(),
+        );
+        self.add("frames-with-rbp-slots", usize::from(stopped.uses_rbp()));
+        self.add("deopt-values", stopped.site.deopt as usize);
+        self.add("saved-registers", saved_registers(stopped.site.function));
+    }
+
+    fn add_pair(&mut self, stop: &Stop, stopped: &Stopped, pair: [Place; 2]) {
+        let Some([base, derived]) = stopped.slots(pair) else {
+            let null = pair == [Place::Constant(0); 2];
+            self.add(if null { "null-pair" } else { "other-pair" }, 1);
+            return;
+        };
+        let (old_base, old) = (stop.before.word(base), stop.before.word(derived));
+        let object = stop.objects.iter().find(|object| object.start == old_base);
+        self.add(shape_of(object, old_base, old), 1);
+        let moved = stop.after.word(derived).wrapping_sub(old);
+        self.add("slots-moved", usize::from(moved != 0));
+    }
+}
+
+/// What a derived pointer is to its object.
+fn shape_of(object: Option<&Object>, base: u64, derived: u64) -> &'static str {
+    match object {
+        None if base == 0 && derived == 0 => "null-base",
+        None if base == 0 => "derived-from-null",
+        None => "base-of-no-object",
+        Some(_) if derived == base => "object-itself",
+        Some(object) if derived == base + object.length => "one-past-the-end",
+        Some(_) if derived < base => "before-the-start",
+        Some(object) if derived < base + object.length => "inside",
+        Some(_) => "far-behind",
+    }
+}
+
+/// How many registers other than RBP a function pushes first of all.
+fn saved_registers(function: u64) -> usize {
+    let code: *const u8 = std::ptr::with_exposed_provenance(function as usize);
+    // SAFETY: the address is that of a function of ours, and every one has more than 16 bytes.
+    let code = unsafe { std::slice::from_raw_parts(code, 16) };
+    let mut saved = 0;
+    let mut rest = code;
+    loop {
+        rest = match rest {
+            [0x55, rest @ ..] => rest,             // push rbp
+            [0x48, 0x89, 0xe5, rest @ ..] => rest, // mov rbp, rsp
+            [0x53, rest @ ..] | [0x41, 0x54..=0x57, rest @ ..] => {
+                saved += 1; // push rbx, r12 to r15
+                rest
+            }
+            _ => return saved,
+        };
+    }
+}

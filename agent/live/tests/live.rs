@@ -1,0 +1,200 @@
+//! Every program, stopped at each of its stops and at all, moved by every mover, each in a process
+//! of its own: right movers lead to the right checksum, and wrong ones to death.
+
+use live::maps::Maps;
+use live::mover::{Mover, FATAL, REFUSED, RIGHT, WRONG};
+use live::program::{self, Program, MAPS, PROGRAMS, PUSHED};
+use live::system::RETIRED_FAULT;
+use std::collections::BTreeMap;
+use std::fmt;
+use std::os::unix::process::ExitStatusExt;
+use std::process::{Command, ExitStatus};
+
+const SIGSEGV: i32 = 11;
+
+/// What a process did.
+struct Ended {
+    /// Its program, its mover and its stops.
+    run: String,
+    status: ExitStatus,
+    /// The last line that it printed.
+    last: String,
+    errors: String,
+    /// The lines of a word and a number that it printed.
+    counts: BTreeMap<String, u64>,
+}
+
+impl Ended {
+    fn count(&self, name: &str) -> u64 {
+        self.counts.get(name).copied().unwrap_or(0)
+    }
+
+    fn assert_right(&self, moved: u64) {
+        assert_eq!(self.count("moved"), moved, "{self}");
+        assert!(self.status.success(), "{self}");
+        assert_eq!(self.errors, "", "{self}");
+    }
+
+    fn assert_killed(&self) {
+        assert_eq!(self.status.signal(), Some(SIGSEGV), "{self}");
+        assert_eq!(self.errors, RETIRED_FAULT, "{self}");
+    }
+
+    /// Nothing was moved, and the checksum is right all the same.
+    fn assert_unmoved(&self) {
+        assert_eq!(self.count("moved"), 0, "{self}");
+        assert_eq!(self.status.code(), Some(3), "{self}");
+    }
+}
+
+impl fmt::Display for Ended {
+    fn fmt(&self, to: &mut fmt::Formatter<'_>) -> fmt::Result {
+        let Ended {
+            run,
+            status,
+            last,
+            errors,
+            ..
+        } = self;
+        write!(to, "{run}: {status}, {last:?}, {errors:?}")
+    }
+}
+
+fn run(program: &Program, mover: Mover, stops: &str) -> Ended {
+    let arguments = ["run", program.name, mover.name(), stops];
+    let ran = Command::new(env!("CARGO_BIN_EXE_live"))
+        .args(arguments)
+        .output();
+    let ran = ran.expect("the program can be started");
+    let printed = String::from_utf8(ran.stdout).unwrap();
+    let pair = |line: &str| {
+        let (name, count) = line.split_once(' ')?;
+        Some((name.to_string(), count.parse().ok()?))
+    };
+    Ended {
+        run: arguments[1..].join(" "),
+        status: ran.status,
+        last: printed.lines().last().unwrap_or("").to_string(),
+        errors: String::from_utf8(ran.stderr).unwrap(),
+        counts: printed.lines().filter_map(pair).collect(),
+    }
+}
+
+/// The stops of a program, by number.
+fn stops(program: &Program) -> impl Iterator<Item = String> {
+    let all = run(program, Mover::Second, "all");
+    assert!(all.count("stops") > 1, "{all}");
+    all.assert_right(all.count("stops"));
+    (0..all.count("stops")).map(|stop| stop.to_string())
+}
+
+#[test]
+fn a_linked_section_is_cut_into_its_maps() {
+    let maps = Maps::cut(program::section());
+    assert_eq!(maps.count(), MAPS);
+    assert!(maps.find(0).is_none());
+}
+
+#[test]
+fn moved_programs_come_to_the_right_checksum() {
+    for program in &PROGRAMS {
+        for mover in RIGHT {
+            let all = run(program, mover, "all");
+            all.assert_right(all.count("stops"));
+            for stop in stops(program) {
+                run(program, mover, &stop).assert_right(1);
+            }
+        }
+    }
+}
+
+/// A base that the table lacks is found in an upper frame only: the frames below it are accepted,
+/// but nothing of them is written, the heap stays, and the program runs on unharmed.
+#[test]
+fn a_refused_restore_leaves_all_as_it_was() {
+    for program in &PROGRAMS {
+        let ended = run(program, REFUSED, "0");
+        ended.assert_unmoved();
+        assert!(ended.last.starts_with("refused 21 at "), "{ended}");
+        assert!(ended.last.ends_with(", frame 6"), "{ended}");
+    }
+}
+
+/// However it was compiled, the program computes the same, so that the checksum of a run without
+/// a stop is not by chance as wrong as the one of a moved run.
+#[test]
+fn all_programs_have_one_checksum() {
+    let checksum = |program| run(program, Mover::Second, "all").count("checksum");
+    let first = checksum(&PROGRAMS[0]);
+    assert_ne!(first, 0);
+    for program in &PROGRAMS {
+        assert_eq!(checksum(program), first, "{}", program.name);
+    }
+}
+
+#[test]
+fn programs_with_old_pointers_die() {
+    for program in &PROGRAMS {
+        for stop in stops(program) {
+            for mover in FATAL {
+                run(program, mover, &stop).assert_killed();
+            }
+        }
+    }
+}
+
+#[test]
+fn programs_with_wrong_pointers_die_or_miscount() {
+    for program in &PROGRAMS {
+        for stop in stops(program) {
+            let ended = run(program, WRONG, &stop);
+            let killed = ended.status.signal() == Some(SIGSEGV);
+            assert!(killed || ended.status.code() == Some(1), "{ended}");
+        }
+    }
+}
+
+/// The shapes that every program has to show at its stops.
+const EVERYWHERE: [&str; 13] = [
+    "frames-of-recursion",
+    "null-pair",
+    "null-base",
+    "derived-from-null",
+    "object-itself",
+    "inside",
+    "one-past-the-end",
+    "before-the-start",
+    "base-of-three-or-more",
+    "base-not-listed-itself",
+    "deopt-values",
+    "saved-registers",
+    "slots-moved",
+];
+
+#[test]
+fn every_shape_is_there() {
+    for program in &PROGRAMS {
+        let name = program.name;
+        let deepest = run(program, Mover::Second, "0");
+        assert!(deepest.count("functions") > 4, "{name}");
+        assert_eq!(deepest.count("maps"), 2, "{name}");
+        for shape in EVERYWHERE {
+            assert!(deepest.count(shape) > 0, "{name} has no {shape}");
+        }
+        for shape in ["other-pair", "base-of-no-object", "far-behind"] {
+            assert_eq!(deepest.count(shape), 0, "{name} has {shape}");
+        }
+        let by_rbp = deepest.count("frames-with-rbp-slots");
+        assert_eq!(by_rbp > 0, name == "O2-fp", "{name}");
+    }
+}
+
+/// Where a call pushes its arguments, the stack size leaves them out, and the walk misses the
+/// frames above: the harness sees it, moves nothing, and the program runs on unharmed.
+#[test]
+fn pushed_arguments_hide_the_frames_above() {
+    let ended = run(&PUSHED, Mover::Library, "0");
+    ended.assert_unmoved();
+    assert!(ended.last.starts_with("lost after 3 frames: "), "{ended}");
+    run(&PUSHED, Mover::Library, "1").assert_right(1);
+}
