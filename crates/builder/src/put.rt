@@ -8,11 +8,12 @@ ghost use Rattle.stackmap.specs.Fields.{bytesOf, size, all, many};
 ghost use Rattle.stackmap.specs.Section.{functionFields, constantFields, locationFields, liveOutFields, recordFields, encodeSection};
 ghost use Rattle.listing.specs.Layout.{functionItemSize, constantItemSize, recordItemSize, locationItemSize, liveOutItemSize, itemsMost, listingMost};
 ghost use Rattle.listing.specs.Listing.{listedFunction, listedConstant, listedLocation, listedLiveOut, listedRecord, readListing};
-ghost use Rattle.builder.specs.Count.{Shaped};
-ghost use Rattle.builder.specs.Survey.{recordSize, recordsFrom, recordsAfter, Planned};
-ghost use Rattle.builder.specs.Put.{headFields, headerFields, sectionEnd, Ready};
-use crate::count;
+ghost use Rattle.parser.specs.Count.{Shaped};
+ghost use Rattle.parser.specs.Survey.{recordSize, recordsFrom, recordsAfter, Planned};
+ghost use Rattle.parser.specs.Outcome.{sectionEnd, Ready};
+ghost use Rattle.builder.specs.Put.{headFields, headerFields};
 use crate::item;
+use parser::count;
 
 const VERSION: u32 = 3;
 
