@@ -11,51 +11,33 @@ ghost use Rattle.listing.specs.Listing.{listedLocation};
 ghost use Rattle.parser.specs.Count.{Shaped};
 ghost use Rattle.parser.specs.Survey.{recordSize};
 ghost use Rattle.parser.specs.Walk.{entryAt};
-use crate::count;
+use crate::layout;
+use crate::shape;
 use stackmap::Verdict;
-
-const KIND_LEAST: u8 = 1;
-
-const KIND_MOST: u8 = 5;
-
-const KIND_CONST_INDEX: u8 = 5;
-
-const NEGATIVE_FROM: u32 = 2147483648;
-
-const ADDRESS_MOST: u64 = 18446744073709551615;
-
-// Where the fields stand in an item.
-const ADDRESS_AT: usize = 1;
-
-const INSTRUCTION_OFFSET_AT: usize = 9;
-
-const LOCATION_KIND_AT: usize = 1;
-
-const LOCATION_OFFSET_AT: usize = 6;
 
 // The location item at `at`, in a listing of `constants` constants; it is to stand at `place`.
 fn location(l: &[u8], at: usize, place: usize, constants: usize) -> Verdict
     requires { ⌜ (at + locationItemSize ≤ length (now l)) × (place + locationSize ≤ sectionMost) ⌝ }
     ensures { λ r. ⌜ r ≡ locationFault constants (listedLocation (now (l .entry)) at) place ⌝ }
 {
-    let kind = l[at + LOCATION_KIND_AT];
-    if kind < KIND_LEAST {
+    let kind = l[at + layout::LISTED_LOCATION_KIND_AT];
+    if kind < layout::KIND_LEAST {
         return Verdict::Refused(6, place);
     }
-    if kind > KIND_MOST {
+    if kind > layout::KIND_MOST {
         return Verdict::Refused(6, place);
     }
-    if kind != KIND_CONST_INDEX {
-        return Verdict::Valid(place + count::LOCATION_SIZE);
+    if kind != layout::KIND_CONST_INDEX {
+        return Verdict::Valid(place + layout::LOCATION_SIZE);
     }
-    let index = wire::u32_at(l, at + LOCATION_OFFSET_AT);
-    if index >= NEGATIVE_FROM {
+    let index = wire::u32_at(l, at + layout::LISTED_LOCATION_OFFSET_AT);
+    if index >= layout::NEGATIVE_FROM {
         return Verdict::Refused(7, place);
     }
     if index as usize >= constants {
         return Verdict::Refused(7, place);
     }
-    Verdict::Valid(place + count::LOCATION_SIZE)
+    Verdict::Valid(place + layout::LOCATION_SIZE)
 }
 
 // The `n` location items from `at`; the first is to stand at `place`.
@@ -70,8 +52,8 @@ fn locations(l: &[u8], at: usize, n: usize, place: usize, constants: usize) -> V
         if let Verdict::Refused(number, refused) = location(l, p, q, constants) {
             return Verdict::Refused(number, refused);
         }
-        p += count::LOCATION_ITEM_SIZE;
-        q += count::LOCATION_SIZE;
+        p += layout::LOCATION_ITEM_SIZE;
+        q += layout::LOCATION_SIZE;
         left -= 1;
     }
     Verdict::Valid(q)
@@ -81,7 +63,7 @@ fn locations(l: &[u8], at: usize, n: usize, place: usize, constants: usize) -> V
 pub fn entry(
     l: &[u8],
     at: usize,
-    shape: count::Shape,
+    shape: shape::Shape,
     function: usize,
     place: usize,
     constants: usize,
@@ -89,21 +71,24 @@ pub fn entry(
     requires { ⌜ Shaped (now l) at (shape .locations) (shape .outs) (shape .stop) × (functionItemSize * function + functionItemSize ≤ length (now l)) × (length (now l) ≤ listingMost) × (place + recordSize (shape .locations) (shape .outs) ≤ sectionMost) ⌝ }
     ensures { λ r. ⌜ r ≡ shift place (entryFault constants (entryAt (now (l .entry)) function at place)) ⌝ }
 {
-    let address = wire::u64_at(l, count::FUNCTION_ITEM_SIZE * function + ADDRESS_AT);
-    let offset = wire::u32_at(l, at + INSTRUCTION_OFFSET_AT) as u64;
-    if offset > ADDRESS_MOST - address {
+    let address = wire::u64_at(
+        l,
+        layout::FUNCTION_ITEM_SIZE * function + layout::LISTED_ADDRESS_AT,
+    );
+    let offset = wire::u32_at(l, at + layout::LISTED_INSTRUCTION_OFFSET_AT) as u64;
+    if offset > layout::ADDRESS_MOST - address {
         return Verdict::Refused(8, place);
     }
-    let first = at + count::RECORD_ITEM_SIZE;
+    let first = at + layout::RECORD_ITEM_SIZE;
     let n = shape.locations;
     if let Verdict::Refused(number, refused) = locations(
         l,
         first,
         n,
-        place + count::RECORD_HEAD_SIZE,
+        place + layout::RECORD_HEAD_SIZE,
         constants,
     ) {
         return Verdict::Refused(number, refused);
     }
-    Verdict::Valid(place + count::record_size(shape))
+    Verdict::Valid(place + shape::record_size(shape))
 }

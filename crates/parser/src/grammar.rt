@@ -5,11 +5,9 @@ ghost use lib.ListN.{length};
 ghost use Rattle.parser.specs.Survey.{stopFrom, Passed, Ends};
 ghost use Rattle.parser.specs.Grammar.{endCheck, itemsCheck};
 use crate::count;
+use crate::layout;
+use crate::shape;
 use stackmap::Verdict;
-
-const END_KIND: u8 = 6;
-
-const END_ITEM_SIZE: usize = 1;
 
 // Where the records from `from` on stop.
 fn records_stop(l: &[u8], from: usize) -> usize
@@ -17,11 +15,11 @@ fn records_stop(l: &[u8], from: usize) -> usize
     ensures { λ r. ⌜ (r ≡ stopFrom (now (l .entry)) from) × (r ≤ length (now (l .entry))) ⌝ }
 {
     let mut at = from;
-    while l.len() - at >= count::RECORD_ITEM_SIZE {
-        if l[at] != count::RECORD_KIND {
+    while l.len() - at >= layout::RECORD_ITEM_SIZE {
+        if l[at] != layout::RECORD_KIND {
             return at;
         }
-        let shape = count::record_shape(l, at);
+        let shape = shape::record_shape(l, at);
         at = shape.stop;
     }
     at
@@ -32,14 +30,14 @@ fn end(l: &[u8], stop: usize) -> Verdict
     requires { ⌜ stop ≤ length (now l) ⌝ }
     ensures { λ r. ⌜ r ≡ endCheck (now (l .entry)) stop ⌝ }
 {
-    if l.len() - stop < END_ITEM_SIZE {
+    if l.len() - stop < layout::END_ITEM_SIZE {
         return Verdict::Refused(22, stop);
     }
-    if l[stop] != END_KIND {
+    if l[stop] != layout::END_KIND {
         return Verdict::Refused(22, stop);
     }
-    if stop + END_ITEM_SIZE != l.len() {
-        return Verdict::Refused(22, stop + END_ITEM_SIZE);
+    if stop + layout::END_ITEM_SIZE != l.len() {
+        return Verdict::Refused(22, stop + layout::END_ITEM_SIZE);
     }
     Verdict::Valid(l.len())
 }

@@ -3,39 +3,48 @@
 ghost use Rattle.parser.specs.Outcome.{Found};
 use stackmap::Verdict;
 
-pub mod count;
+mod count;
 mod fault;
 mod grammar;
+pub mod layout;
+pub mod shape;
 mod walk;
 
-const LISTING_MOST: usize = 33554432;
+// What is known of a listing before its section is written.
+pub struct Plan {
+    pub functions: usize,
+    pub constants: usize,
+    pub records: usize,
+    // The bytes of the records in the section.
+    pub bytes: usize,
+}
 
 // What the listing comes to.
 pub enum Outcome {
     // The number of a refusal, and its place.
     Refused(u8, usize),
     // What there is to write, and the length of the section.
-    Section(count::Plan, usize),
+    Section(Plan, usize),
 }
 
 // The refusals of the listing, and then of the section that it is to become.
 pub fn parse(l: &[u8]) -> Outcome
     ensures { λ r. ⌜ Found (now (l .entry)) r ⌝ }
 {
-    if l.len() > LISTING_MOST {
+    if l.len() > layout::LISTING_MOST {
         return Outcome::Refused(1, 0);
     }
     let tables = count::listed_tables(l);
     let functions = tables.functions;
     let constants = tables.constants;
-    let from = count::FUNCTION_ITEM_SIZE * functions + count::CONSTANT_ITEM_SIZE * constants;
+    let from = layout::FUNCTION_ITEM_SIZE * functions + layout::CONSTANT_ITEM_SIZE * constants;
     let survey = count::survey_records(l, from);
     let records = survey.records;
     let bytes = survey.size;
     if let Verdict::Refused(n, p) = grammar::items(l, from, survey) {
         return Outcome::Refused(n, p);
     }
-    let plan = count::Plan {
+    let plan = Plan {
         functions,
         constants,
         records,

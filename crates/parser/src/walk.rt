@@ -9,17 +9,11 @@ ghost use Rattle.listing.specs.Layout.{functionItemSize, listingMost};
 ghost use Rattle.listing.specs.Listing.{readListing};
 ghost use Rattle.parser.specs.Survey.{recordsFrom, Planned};
 ghost use Rattle.parser.specs.Walk.{functionsOf, ahead, Turning, Walkable};
-use crate::count;
+use crate::Plan;
 use crate::fault;
+use crate::layout;
+use crate::shape;
 use stackmap::Verdict;
-
-const SECTION_MOST: usize = 16777216;
-
-// Where the number of records stands in the section.
-const NUM_RECORDS_AT: usize = 12;
-
-// Where a function's record count stands in its item.
-const RECORD_COUNT_AT: usize = 17;
 
 // Whether the record counts of the first `functions` functions add up to `total`, exactly.
 fn counts_add_up(l: &[u8], functions: usize, total: usize) -> bool
@@ -30,12 +24,12 @@ fn counts_add_up(l: &[u8], functions: usize, total: usize) -> bool
     let mut left = functions;
     let mut rest = total as u64;
     while left > 0 {
-        let count = wire::u64_at(l, f + RECORD_COUNT_AT);
+        let count = wire::u64_at(l, f + layout::LISTED_RECORD_COUNT_AT);
         if count > rest {
             return false;
         }
         rest -= count;
-        f += count::FUNCTION_ITEM_SIZE;
+        f += layout::FUNCTION_ITEM_SIZE;
         left -= 1;
     }
     rest == 0
@@ -55,14 +49,17 @@ fn owner(l: &[u8], functions: usize, turn: Turn) -> Turn
     let mut next = turn.next;
     let mut left = turn.left;
     while left == 0 {
-        left = wire::u64_at(l, count::FUNCTION_ITEM_SIZE * next + RECORD_COUNT_AT);
+        left = wire::u64_at(
+            l,
+            layout::FUNCTION_ITEM_SIZE * next + layout::LISTED_RECORD_COUNT_AT,
+        );
         next += 1;
     }
     Turn { next, left }
 }
 
 // The records from the item at `from` on; the first is to stand at `place`, and the section ends at `end`.
-fn records(l: &[u8], plan: count::Plan, from: usize, place: usize, end: usize) -> Verdict
+fn records(l: &[u8], plan: Plan, from: usize, place: usize, end: usize) -> Verdict
     requires { ⌜ Walkable (now l) (plan .functions) from (plan .records) place end × (length (now l) ≤ listingMost) ⌝ }
     ensures { λ r. ⌜ r ≡ entriesFault (plan .constants) (entriesFrom 0 place (owners 0 (functionsOf (now (l .entry)) (plan .functions))) (recordsFrom (now (l .entry)) from)) end ⌝ }
 {
@@ -76,7 +73,7 @@ fn records(l: &[u8], plan: count::Plan, from: usize, place: usize, end: usize) -
         let t = owner(l, functions, turn);
         let next = t.next;
         let left = t.left;
-        let shape = count::record_shape(l, at);
+        let shape = shape::record_shape(l, at);
         match fault::entry(l, at, shape, next - 1, to, constants) {
             Verdict::Refused(number, refused) => return Verdict::Refused(number, refused),
             Verdict::Valid(stop) => {
@@ -94,23 +91,23 @@ fn records(l: &[u8], plan: count::Plan, from: usize, place: usize, end: usize) -
 }
 
 // The refusal of the section that is to be built, or its length.
-pub fn section(l: &[u8], plan: count::Plan) -> Verdict
+pub fn section(l: &[u8], plan: Plan) -> Verdict
     requires { ⌜ Planned (now l) (plan .functions) (plan .constants) (plan .records) (plan .bytes) × (length (now l) ≤ listingMost) ⌝ }
     ensures { λ r. ⌜ r ≡ sectionFault (readListing (now (l .entry))) ⌝ }
 {
     let functions = plan.functions;
     let constants = plan.constants;
-    let place = count::HEADER_SIZE
-        + count::FUNCTION_SIZE * functions
-        + count::CONSTANT_SIZE * constants;
+    let place = layout::HEADER_SIZE
+        + layout::FUNCTION_SIZE * functions
+        + layout::CONSTANT_SIZE * constants;
     let end = place + plan.bytes;
-    if end > SECTION_MOST {
+    if end > layout::SECTION_MOST {
         return Verdict::Refused(1, 0);
     }
-    let from = count::FUNCTION_ITEM_SIZE * functions + count::CONSTANT_ITEM_SIZE * constants;
+    let from = layout::FUNCTION_ITEM_SIZE * functions + layout::CONSTANT_ITEM_SIZE * constants;
     if counts_add_up(l, functions, plan.records) {
         records(l, plan, from, place, end)
     } else {
-        Verdict::Refused(5, NUM_RECORDS_AT)
+        Verdict::Refused(5, layout::NUM_RECORDS_AT)
     }
 }

@@ -1,7 +1,7 @@
 use mathlib.Core.Path.{refl}
 use borrow.Author.Needs.{needs}
-use Rattle.parser.proofs.count.record_shape.Statement.{statement}
-use Rattle.parser.proofs.count.record_shape.Tie as tie
+use Rattle.parser.proofs.shape.record_shape.Statement.{statement}
+use Rattle.parser.proofs.shape.record_shape.Tie as tie
 
 add-first : tie.Need-add-first
 add-first c = search needs
