@@ -19,7 +19,7 @@ returns : tie.Need-returns
 returns c =
     let a = c .before .before .before .before .before .before .before .args in
     let w : Bytes (a .listing .now) = record { below = λ i. omega (arith, c .before .before .before .before .before .before .shared-slice-known .given i) } in
-    rw (converted-short (a .listing .now) w (a .out .now) (rw (c .before .before .plan .given .1) at (c .before .before .before .before .parse .ensures)) (c .if1 .taken))
+    rw (converted-short (a .listing .now) w (a .out .now) (rw (c .before .before .plan .given .1) at (c .before .before .before .before .parse .ensures)) (omega arith))
     (record { number = refl; place = refl; written = refl; output = refl })
 
 section-requires : tie.Need-section-requires
