@@ -252,7 +252,7 @@ fn address(rng: &mut Rng, section: &Section, built: &mut Built) -> Option<usize>
 
 /// The function that a record belongs to, and the first record of that function.
 pub(crate) fn owner(section: &Section, record: usize) -> Option<(usize, usize)> {
-    let mut first = 0;
+    let mut first: usize = 0;
     for (nth, function) in section.functions.iter().enumerate() {
         let next = first.saturating_add(function.record_count as usize);
         if record < next {

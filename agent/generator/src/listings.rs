@@ -46,7 +46,8 @@ impl Listed {
 
     /// The kind of the item before the nth, and 0 where there is none.
     pub fn before(&self, nth: usize) -> u8 {
-        nth.checked_sub(1).map_or(0, |nth| self.bytes[self.items[nth]])
+        nth.checked_sub(1)
+            .map_or(0, |nth| self.bytes[self.items[nth]])
     }
 
     /// An item: its kind, then numbers of these widths.
@@ -54,7 +55,8 @@ impl Listed {
         self.items.push(self.bytes.len());
         self.bytes.push(kind);
         for (width, number) in numbers {
-            self.bytes.extend_from_slice(&number.to_le_bytes()[..*width]);
+            self.bytes
+                .extend_from_slice(&number.to_le_bytes()[..*width]);
         }
     }
 
@@ -64,7 +66,10 @@ impl Listed {
             stack_size,
             record_count,
         } = *function;
-        self.item(FUNCTION, &[(8, address), (8, stack_size), (8, record_count)]);
+        self.item(
+            FUNCTION,
+            &[(8, address), (8, stack_size), (8, record_count)],
+        );
     }
 
     fn constant(&mut self, constant: u64) {
@@ -81,7 +86,10 @@ impl Listed {
                 offset,
             } = *location;
             let numbers = [(1, kind.into()), (2, size.into()), (2, register.into())];
-            self.item(LOCATION, &[numbers[0], numbers[1], numbers[2], (4, offset.into())]);
+            self.item(
+                LOCATION,
+                &[numbers[0], numbers[1], numbers[2], (4, offset.into())],
+            );
         }
         for LiveOut { register, size } in &record.live_outs {
             self.item(LIVE_OUT, &[(2, (*register).into()), (1, (*size).into())]);
@@ -92,7 +100,9 @@ impl Listed {
     fn split(&self) -> Vec<Vec<u8>> {
         let ends = self.items[1..].iter().copied().chain([self.bytes.len()]);
         let items = self.items.iter().zip(ends);
-        items.map(|(start, end)| self.bytes[*start..end].to_vec()).collect()
+        items
+            .map(|(start, end)| self.bytes[*start..end].to_vec())
+            .collect()
     }
 }
 
@@ -204,7 +214,11 @@ fn any_item(rng: &mut Rng, kind: u8) -> Vec<u8> {
     let mut item = vec![kind];
     let small = rng.one_in(2);
     for _ in 1..item_length(kind) {
-        item.push(if small { rng.below(7) as u8 } else { rng.byte() });
+        item.push(if small {
+            rng.below(7) as u8
+        } else {
+            rng.byte()
+        });
     }
     item
 }

@@ -9,7 +9,8 @@ ghost use Rattle.stackmap.specs.Fields.{bytesOf};
 ghost use Rattle.stackmap.specs.Section.{functionFields, constantFields, locationFields, liveOutFields};
 ghost use Rattle.listing.specs.Layout.{functionItemSize, constantItemSize, locationItemSize, liveOutItemSize};
 ghost use Rattle.listing.specs.Listing.{listedFunction, listedConstant, listedLocation, listedLiveOut};
-use parser::layout;
+use listing::numbers;
+use stackmap::layout;
 
 // `n` zero bytes at `to`.
 pub fn zeros(out: &mut [u8], to: usize, n: usize)
@@ -30,9 +31,9 @@ pub fn function(l: &[u8], at: usize, out: &mut [u8], to: usize)
     requires { ⌜ (at + functionItemSize ≤ length (now l)) × (to + functionSize ≤ length (now out)) ⌝ }
     ensures { λ _. ⌜ now (out .exit) ≡ sets (now (out .entry)) to (bytesOf (functionFields (listedFunction (now (l .entry)) at))) ⌝ }
 {
-    let address = wire::u64_at(l, at + layout::LISTED_ADDRESS_AT);
-    let stack_size = wire::u64_at(l, at + layout::LISTED_STACK_SIZE_AT);
-    let records = wire::u64_at(l, at + layout::LISTED_RECORD_COUNT_AT);
+    let address = wire::u64_at(l, at + numbers::LISTED_ADDRESS_AT);
+    let stack_size = wire::u64_at(l, at + numbers::LISTED_STACK_SIZE_AT);
+    let records = wire::u64_at(l, at + numbers::LISTED_RECORD_COUNT_AT);
     wire::put_u64(out, to, address);
     wire::put_u64(out, to + layout::STACK_SIZE_AT, stack_size);
     wire::put_u64(out, to + layout::RECORD_COUNT_AT, records);
@@ -43,7 +44,7 @@ pub fn constant(l: &[u8], at: usize, out: &mut [u8], to: usize)
     requires { ⌜ (at + constantItemSize ≤ length (now l)) × (to + constantSize ≤ length (now out)) ⌝ }
     ensures { λ _. ⌜ now (out .exit) ≡ sets (now (out .entry)) to (bytesOf (constantFields (listedConstant (now (l .entry)) at))) ⌝ }
 {
-    wire::put_u64(out, to, wire::u64_at(l, at + layout::LISTED_CONSTANT_AT));
+    wire::put_u64(out, to, wire::u64_at(l, at + numbers::LISTED_CONSTANT_AT));
 }
 
 // The location item at `at`: kind and a zero, size and register, two zeros, offset.
@@ -51,9 +52,9 @@ pub fn location(l: &[u8], at: usize, out: &mut [u8], to: usize)
     requires { ⌜ (at + locationItemSize ≤ length (now l)) × (to + locationSize ≤ length (now out)) ⌝ }
     ensures { λ _. ⌜ now (out .exit) ≡ sets (now (out .entry)) to (bytesOf (locationFields (listedLocation (now (l .entry)) at))) ⌝ }
 {
-    let kind = l[at + layout::LISTED_LOCATION_KIND_AT] as u16;
-    let size_and_register = wire::u32_at(l, at + layout::LISTED_LOCATION_SIZE_AT);
-    let offset = wire::u32_at(l, at + layout::LISTED_LOCATION_OFFSET_AT);
+    let kind = l[at + numbers::LISTED_LOCATION_KIND_AT] as u16;
+    let size_and_register = wire::u32_at(l, at + numbers::LISTED_LOCATION_SIZE_AT);
+    let offset = wire::u32_at(l, at + numbers::LISTED_LOCATION_OFFSET_AT);
     wire::put_u16(out, to, kind);
     wire::put_u32(out, to + layout::LOCATION_SIZE_AT, size_and_register);
     wire::put_u16(out, to + layout::LOCATION_ZEROS_AT, 0);
@@ -68,8 +69,8 @@ pub fn live_out(l: &[u8], at: usize, out: &mut [u8], to: usize)
     wire::put_u16(
         out,
         to,
-        wire::u16_at(l, at + layout::LISTED_LIVE_OUT_REGISTER_AT),
+        wire::u16_at(l, at + numbers::LISTED_LIVE_OUT_REGISTER_AT),
     );
     out[to + layout::LIVE_OUT_ZERO_AT] = 0;
-    out[to + layout::LIVE_OUT_SIZE_AT] = l[at + layout::LISTED_LIVE_OUT_SIZE_AT];
+    out[to + layout::LIVE_OUT_SIZE_AT] = l[at + numbers::LISTED_LIVE_OUT_SIZE_AT];
 }

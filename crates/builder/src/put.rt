@@ -13,8 +13,13 @@ ghost use Rattle.parser.specs.Survey.{recordSize, recordsFrom, recordsAfter, Pl
 ghost use Rattle.parser.specs.Outcome.{sectionEnd, Ready};
 ghost use Rattle.builder.specs.Put.{headFields, headerFields};
 use crate::item;
+use listing::numbers;
 use parser::Plan;
-use parser::layout;
+use stackmap::layout;
+
+// The version in one byte and three zero bytes, as one number.
+const VERSION_WORD: u32 = 3;
+
 use parser::shape;
 
 // The `n` function items from `at`.
@@ -27,7 +32,7 @@ pub fn functions(l: &[u8], at: usize, n: usize, out: &mut [u8], to: usize)
     let mut left = n;
     while left > 0 {
         item::function(l, p, out, q);
-        p += layout::FUNCTION_ITEM_SIZE;
+        p += numbers::FUNCTION_ITEM_SIZE;
         q += layout::FUNCTION_SIZE;
         left -= 1;
     }
@@ -43,7 +48,7 @@ pub fn constants(l: &[u8], at: usize, n: usize, out: &mut [u8], to: usize)
     let mut left = n;
     while left > 0 {
         item::constant(l, p, out, q);
-        p += layout::CONSTANT_ITEM_SIZE;
+        p += numbers::CONSTANT_ITEM_SIZE;
         q += layout::CONSTANT_SIZE;
         left -= 1;
     }
@@ -59,7 +64,7 @@ fn locations(l: &[u8], at: usize, n: usize, out: &mut [u8], to: usize)
     let mut left = n;
     while left > 0 {
         item::location(l, p, out, q);
-        p += layout::LOCATION_ITEM_SIZE;
+        p += numbers::LOCATION_ITEM_SIZE;
         q += layout::LOCATION_SIZE;
         left -= 1;
     }
@@ -75,7 +80,7 @@ fn live_outs(l: &[u8], at: usize, n: usize, out: &mut [u8], to: usize)
     let mut left = n;
     while left > 0 {
         item::live_out(l, p, out, q);
-        p += layout::LIVE_OUT_ITEM_SIZE;
+        p += numbers::LIVE_OUT_ITEM_SIZE;
         q += layout::LIVE_OUT_SIZE;
         left -= 1;
     }
@@ -86,8 +91,8 @@ fn head(l: &[u8], at: usize, n: usize, out: &mut [u8], to: usize)
     requires { ⌜ (at + recordItemSize ≤ length (now l)) × (n ≤ itemsMost) × (to + recordHeadSize ≤ length (now out)) ⌝ }
     ensures { λ _. ⌜ now (out .exit) ≡ sets (now (out .entry)) to (bytesOf (headFields (now (l .entry)) at n)) ⌝ }
 {
-    let id = wire::u64_at(l, at + layout::LISTED_ID_AT);
-    let offset = wire::u32_at(l, at + layout::LISTED_INSTRUCTION_OFFSET_AT);
+    let id = wire::u64_at(l, at + numbers::LISTED_ID_AT);
+    let offset = wire::u32_at(l, at + numbers::LISTED_INSTRUCTION_OFFSET_AT);
     wire::put_u64(out, to, id);
     wire::put_u32(out, to + layout::INSTRUCTION_OFFSET_AT, offset);
     wire::put_u16(out, to + layout::FLAGS_AT, 0);
@@ -101,8 +106,8 @@ fn whole_record(l: &[u8], at: usize, shape: shape::Shape, out: &mut [u8], to: us
 {
     let n = shape.locations;
     let m = shape.outs;
-    let first = at + layout::RECORD_ITEM_SIZE;
-    let next = first + layout::LOCATION_ITEM_SIZE * n;
+    let first = at + numbers::RECORD_ITEM_SIZE;
+    let next = first + numbers::LOCATION_ITEM_SIZE * n;
     let pad = to + layout::RECORD_HEAD_SIZE + layout::LOCATION_SIZE * n;
     let end = pad + n % 2 * 4;
     let outs = end + layout::LIVE_OUTS_HEAD_SIZE;
@@ -136,7 +141,7 @@ fn header(plan: Plan, out: &mut [u8])
     requires { ⌜ (plan .functions ≤ listingMost) × (plan .constants ≤ listingMost) × (plan .records ≤ listingMost) × (headerSize ≤ length (now out)) ⌝ }
     ensures { λ _. ⌜ now (out .exit) ≡ sets (now (out .entry)) 0 (bytesOf (headerFields (plan .functions) (plan .constants) (plan .records))) ⌝ }
 {
-    wire::put_u32(out, 0, layout::VERSION);
+    wire::put_u32(out, 0, VERSION_WORD);
     wire::put_u32(out, layout::NUM_FUNCTIONS_AT, plan.functions as u32);
     wire::put_u32(out, layout::NUM_CONSTANTS_AT, plan.constants as u32);
     wire::put_u32(out, layout::NUM_RECORDS_AT, plan.records as u32);
@@ -150,8 +155,8 @@ pub fn section(l: &[u8], plan: Plan, out: &mut [u8])
     let f = plan.functions;
     let c = plan.constants;
     let n = plan.records;
-    let first = layout::FUNCTION_ITEM_SIZE * f;
-    let from = first + layout::CONSTANT_ITEM_SIZE * c;
+    let first = numbers::FUNCTION_ITEM_SIZE * f;
+    let from = first + numbers::CONSTANT_ITEM_SIZE * c;
     let next = layout::HEADER_SIZE + layout::FUNCTION_SIZE * f;
     let to = next + layout::CONSTANT_SIZE * c;
     header(plan, out);

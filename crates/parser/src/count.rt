@@ -5,8 +5,8 @@ ghost use lib.ListN.{length};
 ghost use Rattle.listing.specs.Layout.{listingMost};
 ghost use Rattle.parser.specs.Count.{Ran, Tabled};
 ghost use Rattle.parser.specs.Survey.{Passed, Ends};
-use crate::layout;
 use crate::shape;
+use listing::numbers;
 
 // How many items of one kind, of `size` bytes each, stand one after the other from `from`.
 pub fn items(l: &[u8], kind: u8, size: usize, from: usize) -> usize
@@ -35,12 +35,12 @@ pub struct Tables {
 pub fn listed_tables(l: &[u8]) -> Tables
     ensures { λ r. ⌜ Tabled (now (l .entry)) (r .functions) (r .constants) ⌝ }
 {
-    let functions = items(l, layout::FUNCTION_KIND, layout::FUNCTION_ITEM_SIZE, 0);
+    let functions = items(l, numbers::FUNCTION_KIND, numbers::FUNCTION_ITEM_SIZE, 0);
     let constants = items(
         l,
-        layout::CONSTANT_KIND,
-        layout::CONSTANT_ITEM_SIZE,
-        layout::FUNCTION_ITEM_SIZE * functions,
+        numbers::CONSTANT_KIND,
+        numbers::CONSTANT_ITEM_SIZE,
+        numbers::FUNCTION_ITEM_SIZE * functions,
     );
     Tables {
         functions,
@@ -67,8 +67,8 @@ pub fn survey_records(l: &[u8], from: usize) -> Survey
     let mut stop = from;
     let mut records = 0;
     let mut size = 0;
-    while l.len() - stop >= layout::RECORD_ITEM_SIZE {
-        if l[stop] != layout::RECORD_KIND {
+    while l.len() - stop >= numbers::RECORD_ITEM_SIZE {
+        if l[stop] != numbers::RECORD_KIND {
             return Survey {
                 records,
                 size,
@@ -79,7 +79,7 @@ pub fn survey_records(l: &[u8], from: usize) -> Survey
         let shape = shape::record_shape(l, stop);
         let locations = shape.locations;
         let outs = shape.outs;
-        if locations > layout::ITEMS_MOST {
+        if locations > numbers::ITEMS_MOST {
             return Survey {
                 records,
                 size,
@@ -87,7 +87,7 @@ pub fn survey_records(l: &[u8], from: usize) -> Survey
                 crowded: true,
             };
         }
-        if outs > layout::ITEMS_MOST {
+        if outs > numbers::ITEMS_MOST {
             return Survey {
                 records,
                 size,

@@ -11,16 +11,17 @@ ghost use Rattle.listing.specs.Listing.{listedLocation};
 ghost use Rattle.parser.specs.Count.{Shaped};
 ghost use Rattle.parser.specs.Survey.{recordSize};
 ghost use Rattle.parser.specs.Walk.{entryAt};
-use crate::layout;
 use crate::shape;
+use listing::numbers;
 use stackmap::Verdict;
+use stackmap::layout;
 
 // The location item at `at`, in a listing of `constants` constants; it is to stand at `place`.
 fn location(l: &[u8], at: usize, place: usize, constants: usize) -> Verdict
     requires { ⌜ (at + locationItemSize ≤ length (now l)) × (place + locationSize ≤ sectionMost) ⌝ }
     ensures { λ r. ⌜ r ≡ locationFault constants (listedLocation (now (l .entry)) at) place ⌝ }
 {
-    let kind = l[at + layout::LISTED_LOCATION_KIND_AT];
+    let kind = l[at + numbers::LISTED_LOCATION_KIND_AT];
     if kind < layout::KIND_LEAST {
         return Verdict::Refused(6, place);
     }
@@ -30,7 +31,7 @@ fn location(l: &[u8], at: usize, place: usize, constants: usize) -> Verdict
     if kind != layout::KIND_CONST_INDEX {
         return Verdict::Valid(place + layout::LOCATION_SIZE);
     }
-    let index = wire::u32_at(l, at + layout::LISTED_LOCATION_OFFSET_AT);
+    let index = wire::u32_at(l, at + numbers::LISTED_LOCATION_OFFSET_AT);
     if index >= layout::NEGATIVE_FROM {
         return Verdict::Refused(7, place);
     }
@@ -52,7 +53,7 @@ fn locations(l: &[u8], at: usize, n: usize, place: usize, constants: usize) -> V
         if let Verdict::Refused(number, refused) = location(l, p, q, constants) {
             return Verdict::Refused(number, refused);
         }
-        p += layout::LOCATION_ITEM_SIZE;
+        p += numbers::LOCATION_ITEM_SIZE;
         q += layout::LOCATION_SIZE;
         left -= 1;
     }
@@ -73,13 +74,13 @@ pub fn entry(
 {
     let address = wire::u64_at(
         l,
-        layout::FUNCTION_ITEM_SIZE * function + layout::LISTED_ADDRESS_AT,
+        numbers::FUNCTION_ITEM_SIZE * function + numbers::LISTED_ADDRESS_AT,
     );
-    let offset = wire::u32_at(l, at + layout::LISTED_INSTRUCTION_OFFSET_AT) as u64;
+    let offset = wire::u32_at(l, at + numbers::LISTED_INSTRUCTION_OFFSET_AT) as u64;
     if offset > layout::ADDRESS_MOST - address {
         return Verdict::Refused(8, place);
     }
-    let first = at + layout::RECORD_ITEM_SIZE;
+    let first = at + numbers::RECORD_ITEM_SIZE;
     let n = shape.locations;
     if let Verdict::Refused(number, refused) = locations(
         l,

@@ -5,8 +5,8 @@ ghost use lib.ListN.{length};
 ghost use Rattle.parser.specs.Survey.{stopFrom, Passed, Ends};
 ghost use Rattle.parser.specs.Grammar.{endCheck, itemsCheck};
 use crate::count;
-use crate::layout;
 use crate::shape;
+use listing::numbers;
 use stackmap::Verdict;
 
 // Where the records from `from` on stop.
@@ -15,8 +15,8 @@ fn records_stop(l: &[u8], from: usize) -> usize
     ensures { λ r. ⌜ (r ≡ stopFrom (now (l .entry)) from) × (r ≤ length (now (l .entry))) ⌝ }
 {
     let mut at = from;
-    while l.len() - at >= layout::RECORD_ITEM_SIZE {
-        if l[at] != layout::RECORD_KIND {
+    while l.len() - at >= numbers::RECORD_ITEM_SIZE {
+        if l[at] != numbers::RECORD_KIND {
             return at;
         }
         let shape = shape::record_shape(l, at);
@@ -30,14 +30,14 @@ fn end(l: &[u8], stop: usize) -> Verdict
     requires { ⌜ stop ≤ length (now l) ⌝ }
     ensures { λ r. ⌜ r ≡ endCheck (now (l .entry)) stop ⌝ }
 {
-    if l.len() - stop < layout::END_ITEM_SIZE {
+    if l.len() - stop < numbers::END_ITEM_SIZE {
         return Verdict::Refused(22, stop);
     }
-    if l[stop] != layout::END_KIND {
+    if l[stop] != numbers::END_KIND {
         return Verdict::Refused(22, stop);
     }
-    if stop + layout::END_ITEM_SIZE != l.len() {
-        return Verdict::Refused(22, stop + layout::END_ITEM_SIZE);
+    if stop + numbers::END_ITEM_SIZE != l.len() {
+        return Verdict::Refused(22, stop + numbers::END_ITEM_SIZE);
     }
     Verdict::Valid(l.len())
 }

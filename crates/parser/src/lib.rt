@@ -1,12 +1,12 @@
 // What a listing comes to: refused, or the section that is to be built of it. Both are found over the listing's items alone:
 // the built section's refusals are said of the items, with places in the section.
 ghost use Rattle.parser.specs.Outcome.{Found};
+use listing::numbers;
 use stackmap::Verdict;
 
 mod count;
 mod fault;
 mod grammar;
-pub mod layout;
 pub mod shape;
 mod walk;
 
@@ -31,13 +31,13 @@ pub enum Outcome {
 pub fn parse(l: &[u8]) -> Outcome
     ensures { λ r. ⌜ Found (now (l .entry)) r ⌝ }
 {
-    if l.len() > layout::LISTING_MOST {
+    if l.len() > numbers::LISTING_MOST {
         return Outcome::Refused(1, 0);
     }
     let tables = count::listed_tables(l);
     let functions = tables.functions;
     let constants = tables.constants;
-    let from = layout::FUNCTION_ITEM_SIZE * functions + layout::CONSTANT_ITEM_SIZE * constants;
+    let from = numbers::FUNCTION_ITEM_SIZE * functions + numbers::CONSTANT_ITEM_SIZE * constants;
     let survey = count::survey_records(l, from);
     let records = survey.records;
     let bytes = survey.size;

@@ -6,7 +6,8 @@ ghost use Rattle.listing.specs.Layout.{recordItemSize, listingMost};
 ghost use Rattle.parser.specs.Count.{Shaped};
 ghost use Rattle.parser.specs.Survey.{recordSize};
 use crate::count;
-use crate::layout;
+use listing::numbers;
+use stackmap::layout;
 
 // How many locations and live-outs a record has, and where its items stop.
 pub struct Shape {
@@ -20,11 +21,16 @@ pub fn record_shape(l: &[u8], at: usize) -> Shape
     requires { ⌜ at + recordItemSize ≤ length (now l) ⌝ }
     ensures { λ r. ⌜ Shaped (now (l .entry)) at (r .locations) (r .outs) (r .stop) ⌝ }
 {
-    let first = at + layout::RECORD_ITEM_SIZE;
-    let locations = count::items(l, layout::LOCATION_KIND, layout::LOCATION_ITEM_SIZE, first);
-    let next = first + layout::LOCATION_ITEM_SIZE * locations;
-    let outs = count::items(l, layout::LIVE_OUT_KIND, layout::LIVE_OUT_ITEM_SIZE, next);
-    let stop = next + layout::LIVE_OUT_ITEM_SIZE * outs;
+    let first = at + numbers::RECORD_ITEM_SIZE;
+    let locations = count::items(
+        l,
+        numbers::LOCATION_KIND,
+        numbers::LOCATION_ITEM_SIZE,
+        first,
+    );
+    let next = first + numbers::LOCATION_ITEM_SIZE * locations;
+    let outs = count::items(l, numbers::LIVE_OUT_KIND, numbers::LIVE_OUT_ITEM_SIZE, next);
+    let stop = next + numbers::LIVE_OUT_ITEM_SIZE * outs;
     Shape {
         locations,
         outs,

@@ -11,9 +11,10 @@ ghost use Rattle.parser.specs.Survey.{recordsFrom, Planned};
 ghost use Rattle.parser.specs.Walk.{functionsOf, ahead, Turning, Walkable};
 use crate::Plan;
 use crate::fault;
-use crate::layout;
 use crate::shape;
+use listing::numbers;
 use stackmap::Verdict;
+use stackmap::layout;
 
 // Whether the record counts of the first `functions` functions add up to `total`, exactly.
 fn counts_add_up(l: &[u8], functions: usize, total: usize) -> bool
@@ -24,12 +25,12 @@ fn counts_add_up(l: &[u8], functions: usize, total: usize) -> bool
     let mut left = functions;
     let mut rest = total as u64;
     while left > 0 {
-        let count = wire::u64_at(l, f + layout::LISTED_RECORD_COUNT_AT);
+        let count = wire::u64_at(l, f + numbers::LISTED_RECORD_COUNT_AT);
         if count > rest {
             return false;
         }
         rest -= count;
-        f += layout::FUNCTION_ITEM_SIZE;
+        f += numbers::FUNCTION_ITEM_SIZE;
         left -= 1;
     }
     rest == 0
@@ -51,7 +52,7 @@ fn owner(l: &[u8], functions: usize, turn: Turn) -> Turn
     while left == 0 {
         left = wire::u64_at(
             l,
-            layout::FUNCTION_ITEM_SIZE * next + layout::LISTED_RECORD_COUNT_AT,
+            numbers::FUNCTION_ITEM_SIZE * next + numbers::LISTED_RECORD_COUNT_AT,
         );
         next += 1;
     }
@@ -104,7 +105,7 @@ pub fn section(l: &[u8], plan: Plan) -> Verdict
     if end > layout::SECTION_MOST {
         return Verdict::Refused(1, 0);
     }
-    let from = layout::FUNCTION_ITEM_SIZE * functions + layout::CONSTANT_ITEM_SIZE * constants;
+    let from = numbers::FUNCTION_ITEM_SIZE * functions + numbers::CONSTANT_ITEM_SIZE * constants;
     if counts_add_up(l, functions, plan.records) {
         records(l, plan, from, place, end)
     } else {

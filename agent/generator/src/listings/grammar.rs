@@ -101,7 +101,9 @@ fn cut_item(rng: &mut Rng, listed: &mut Listed) -> Option<usize> {
     }
     let nth = rng.below(end);
     let (place, next) = (listed.items[nth], listed.items[nth + 1]);
-    listed.bytes.truncate(place + 1 + rng.below(next - place - 1));
+    listed
+        .bytes
+        .truncate(place + 1 + rng.below(next - place - 1));
     Some(place)
 }
 
