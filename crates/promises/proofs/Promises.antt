@@ -12,5 +12,5 @@ promises =
       listing-one-to-one = RoundTrip.listing-one-to-one;
       built-refusal = WellFormed.built;
       round-trips = RoundTrip.round-trips;
-      worked = Worked.worked
+      worked = Worked.worked;
     }

@@ -92,7 +92,8 @@ table =
     (check (replicate 15 0) ⇒ refused 1 0) ∷
     {- C -}
     (check (header 3 0 0 0) ⇒ accepted 16) ∷
-    {- C -} (listingOf (header 3 0 0 0) ⇒ gives 1 (0x06 ∷ [])) ∷
+    {- C -}
+    (listingOf (header 3 0 0 0) ⇒ gives 1 (0x06 ∷ [])) ∷
     {- D -}
     (check (header 1 0 0 0) ⇒ refused 2 0) ∷
     {- E -}
