@@ -102,6 +102,9 @@ fn pictures_are_well_formed() {
     let figures = Path::new(env!("CARGO_MANIFEST_DIR")).join("../../docs/figures");
     for file in std::fs::read_dir(figures).expect("docs/figures") {
         let file = file.expect("a file of docs/figures").path();
+        if file.extension().is_none_or(|extension| extension != "svg") {
+            continue;
+        }
         let picture = std::fs::read_to_string(&file).expect("a picture is text");
         well_formed(&picture).unwrap_or_else(|fault| panic!("{}: {fault}", file.display()));
     }
