@@ -131,6 +131,13 @@ impl Large {
         }
     }
 
+    /// The functions, and then ends until the listing has so many bytes.
+    pub fn longer(mut self, length: usize) -> Vec<u8> {
+        self.bytes.truncate(self.base);
+        self.bytes.resize(length, END);
+        self.bytes
+    }
+
     /// What a section's parts take, its header not counted.
     fn length(&self, section: &Section) -> usize {
         section.length() - HEADER
