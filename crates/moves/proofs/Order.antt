@@ -14,7 +14,7 @@ use Rattle.moves.specs.declared.Move.{Move}
 use Rattle.moves.specs.Window.{In}
 use Rattle.wire.specs.Word.{word, bytes}
 use Rattle.moves.specs.Pointers.{Pointer, null, slots, overlap, anyOverlap, clash, slotsClash, unknown, newContent}
-use Rattle.moves.specs.Settle.{first20, first21, write, answerFor, answerBy, bytesFor, bytesBy, settled, settle}
+use Rattle.moves.specs.Settle.{acceptedMove, first20, first21, write, answerFor, answerBy, bytesFor, bytesBy, settled, settle}
 use Rattle.moves.proofs.Searches.{or-no, perm-mem, perm-length, pairwise-no, pairwise-perm, each-perm}
 use Rattle.moves.proofs.Writes.{Agree, Inside, Hits, hits?, write-length, write-hit, write-miss}
 
@@ -173,6 +173,23 @@ module _ (table : ℕ → Option ℕ) where
   settle-accepted ps w e =
       let o : (length ps ≤ first20 ps w) × (length ps ≤ first21 table ps w) = answer-0 (first20 ps w) (first21 table ps w) (length ps) e in
       (rw (le-ltb _ _ (o .0), le-ltb _ _ (o .1)), first20-agree ps w (o .0))
+
+  -- the whole of an accepted answer, and the count of a refused one
+  pub accepted-whole : (ps : List Pointer) (w : List ℕ) → settled table ps w .number ≡ 0 → settled table ps w ≡ acceptedMove (length ps)
+  unfolding settled answerFor
+  accepted-whole ps w e =
+      let o : (length ps ≤ first20 ps w) × (length ps ≤ first21 table ps w) = answer-0 (first20 ps w) (first21 table ps w) (length ps) e in
+      rw (le-ltb _ _ (o .0), le-ltb _ _ (o .1))
+
+  pub refused-count : (ps : List Pointer) (w : List ℕ) → (settled table ps w .number ≡ 0 → ⊥) → settled table ps w .count ≡ 0
+  unfolding settled answerFor
+  refused-count ps w = go (ltb (first20 ps w) (length ps)) (ltb (first21 table ps w) (length ps))
+    where
+      go : (s t : Bool) → (answerBy s t (first20 ps w) (first21 table ps w) (length ps) .number ≡ 0 → ⊥)
+          → answerBy s t (first20 ps w) (first21 table ps w) (length ps) .count ≡ 0
+      go true t n = refl
+      go false true n = refl
+      go false false n = absurd (n refl)
 
   pub settle-hit : (ps : List Pointer) (w : List ℕ) → settled table ps w .number ≡ 0 → Inside (length w) ps
       → (i b d : ℕ) → List·Memᴰ (slots b d) ps → In d 8 i → getD (settle table ps w) i 0 ≡ getD (bytes 8 (newContent table w b d)) (i - d) 0

@@ -1,0 +1,64 @@
+-- What a frame is before any byte of the image is read: a refusal, or its extent in the image with its pointers. The order for
+-- a frame: 1 to 9, 13, 14, 10, 15, 12, 16, 17, then 18, 19, each over all pairs before the next.
+use Prim.Native.Nat.{ℕ, suc, _+_, _-_}
+use mathlib.Core.Bool.{Bool, true, false, not, _&&_}
+use mathlib.Core.List.{List, [], _∷_, map}
+use lib.ListN.{length}
+use lib.Dec.{eqb, leb}
+use Rattle.stackmap.specs.Layout.{addressMost, stackSizeUnknown}
+use Rattle.stackmap.specs.Section.{Entry, entries, readSection}
+use Rattle.stackmap.specs.Check.{sectionCheck}
+use Rattle.moves.specs.Limits.{pairsMost}
+use Rattle.moves.specs.Table.{tableRight}
+use Rattle.moves.specs.Plan.{Plan, refuse, window}
+use Rattle.relocate.specs.declared.Frame.{Frame}
+use Rattle.relocate.specs.Limits.{imageMost}
+use Rattle.relocate.specs.Lookup.{ask, withAddress}
+use Rattle.relocate.specs.Statepoint.{isStatepoint, Pair, pairs, rightForm, inside, pointerOf}
+
+-- go on where the test holds, and else this refusal, at place 0
+unfoldable pub need : Bool → ℕ → Plan → Plan
+need true n k = k
+need false n k = refuse n 0
+
+-- exactly one record: 10 if none, 15 if more
+unfoldable pub only : List Entry → (Entry → Plan) → Plan
+only [] k = refuse 10 0
+only (e ∷ []) k = k e
+only (e ∷ e′ ∷ es) k = refuse 15 0
+
+-- go on where the test holds of every pair, and else this refusal, at the lowest pair of which it doesn't; the first has number i
+unfoldable pub every : (Pair → Bool) → ℕ → ℕ → List Pair → Plan → Plan
+every good n i [] k = k
+every good n i (p ∷ ps) k = elim (good p) [ true ↦ every good n (suc i) ps k | false ↦ refuse n i ]
+
+-- 13: image over 1,048,576 bytes, or first address + length over 2^64 - 1
+unfoldable pub imageRight : ℕ → ℕ → Bool
+imageRight first n = leb n imageMost && leb (first + n) addressMost
+
+abbrev pub stackSize : Entry → ℕ
+stackSize e = e .owner .function .stackSize
+
+-- 16: stack size unknown, or extent not inside the image of n bytes from `first`
+unfoldable pub extentRight : ℕ → ℕ → Frame → Entry → Bool
+extentRight first n f e =
+    not (eqb (stackSize e) stackSizeUnknown) && (leb first (f .rsp) && leb (f .rsp + stackSize e) (first + n))
+
+-- 12, 16, 17, 18, 19, of a frame's one record
+unfoldable pub planEntry : List ℕ → ℕ → ℕ → Frame → Entry → Plan
+planEntry pool first n f e =
+    need (isStatepoint (e .body)) 12
+    (need (extentRight first n f e) 16
+    (need (leb (length (pairs (e .body))) pairsMost) 17
+    (every (rightForm pool) 18 0 (pairs (e .body))
+    (every (inside pool f (stackSize e)) 19 0 (pairs (e .body))
+    (window (f .rsp - first) (stackSize e) (map (pointerOf pool f) (pairs (e .body))))))))
+
+-- of a frame in an image of n bytes from `first`
+unfoldable pub plan : List ℕ → List ℕ → List ℕ → ℕ → ℕ → Frame → Plan
+plan s olds news first n f =
+    ask refuse
+    (need (imageRight first n) 13
+    (need (tableRight olds news) 14
+    (only (withAddress (f .address) (entries s)) (planEntry (readSection s .constants) first n f))))
+    (sectionCheck s)
