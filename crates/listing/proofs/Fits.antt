@@ -1,19 +1,17 @@
 -- Numbers that fit the section's fields fit the listing's, and the other way where no list is too long.
-use Prim.Native.Nat.{ℕ, zero, suc, _+_, _*_, _-_, _%_, _^_, _≤_, _<_}
-use mathlib.Core.Path.{_≡_, refl, sym, _∙_, ap}
+use Prim.Native.Nat.{ℕ, _+_, _*_, _-_, _%_, _^_, _≤_, _<_}
+use mathlib.Core.Path.{_≡_, refl, ap}
 use mathlib.Core.List.{List, [], _∷_, _++_, List·Memᴰ, List·Memᴰ·head, List·Memᴰ·tail}
 use mathlib.Core.Bool.{Bool, true, false, _&&_}
 use native.Mathlib.Omega.{arith}
 use native.Mathlib.Nat.{one-le-pow}
 use borrow.Author.Tests.{le-leb, leb-true}
 use lib.ListN.{length}
-use lib.Dec.{leb}
-use Rattle.stackmap.specs.declared.Verdict.{Verdict}
-use Rattle.stackmap.specs.declared.Verdict.the-variants.{Valid, Refused}
+use Rattle.stackmap.specs.declared.Verdict.the-variants.{Valid}
 use Rattle.stackmap.specs.Fields.{size, Field, Fit, _of_, all}
 use Rattle.stackmap.specs.Section.{Encodable, Function, LiveOut, Location, Record, Section, constantFields, functionFields, liveOutFields, locationFields, recordFields, sectionFields}
 use Rattle.stackmap.specs.Verdict.{must}
-use Rattle.stackmap.proofs.Fields.{size-all, size-append}
+use Rattle.stackmap.proofs.Fields.{size-append}
 use Rattle.stackmap.proofs.Verdicts.{must-held, must-rest}
 use Rattle.listing.specs.Listing.{functionItem, constantItem, recordItem, locationItem, liveOutItem, endItem, recordItems, listingFields, notTooMany}
 

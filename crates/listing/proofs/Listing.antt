@@ -1,24 +1,23 @@
 -- The listing's two laws.
-use Prim.Native.Nat.{ℕ, zero, suc, _+_, _*_, _-_, _%_, _^_, _≤_, _<_}
+use Prim.Native.Nat.{ℕ, zero, suc, _+_, _*_, _-_, _≤_, _<_}
 use mathlib.Core.Path.{_≡_, refl, sym, _∙_, ap, subst}
 use mathlib.Core.List.{List, [], _∷_, _++_, append-nil, append-assoc}
-use mathlib.Core.Bool.{Bool, true, false, _&&_, and-false}
+use mathlib.Core.Bool.{Bool, true, false, and-false}
 use native.Mathlib.Omega.{arith}
 use native.Mathlib.Nat.{add-zero, zero-add, add-assoc, mul-suc}
 use borrow.Author.Tests.{le-leb, lt-leb, leb-true, eq-eqb, ne-eqb, eqb-true}
-use lib.ListN.{length, getD, drop}
+use lib.ListN.{length, getD}
 use lib.Seq.{drop-length}
-use lib.Dec.{leb, eqb}
+use lib.Dec.{leb}
 use Rattle.wire.specs.Word.{Bytes, word}
-use Rattle.stackmap.specs.Fields.{size, Field, Fit, _of_, all, bytesOf, many}
+use Rattle.stackmap.specs.Fields.{size, Field, Fit, _of_, all, many}
 use Rattle.stackmap.specs.Section.{Encodable, Function, LiveOut, Location, Record, Section}
 use Rattle.stackmap.specs.Verdict.{chain, must}
-use Rattle.stackmap.proofs.Fields.{Has, HasFrom, fields-back, has-bytes, has-fit, join, length-bytesOf, length-many, many-back, size-all, size-append, split}
+use Rattle.stackmap.proofs.Fields.{Has, fields-back, has-bytes, has-fit, join, length-bytesOf, length-many, many-back, size-all, size-append, split}
 use Rattle.stackmap.proofs.Verdicts.{chain-first, chain-rest, must-held, must-rest}
-use Rattle.stackmap.specs.declared.Verdict.{Verdict}
-use Rattle.stackmap.specs.declared.Verdict.the-variants.{Valid, Refused}
-use Rattle.listing.specs.Listing.{functionItem, constantItem, recordItem, locationItem, liveOutItem, endItem, recordItems, listingFields, encodeListing, stands, run, listedFunction, listedConstant, listedLocation, listedLiveOut, listedLocations, listedLiveOuts, listedRecord, recordStop, listedRecords, recordsStop, functionsListed, constantsListed, recordsBegin, readListing, itemsStop, notTooMany, listingCheck}
-use Rattle.listing.proofs.Fits.{and-true, AllSmall, small-whole, whole-small, section-to-listing, listing-to-section}
+use Rattle.stackmap.specs.declared.Verdict.the-variants.{Valid}
+use Rattle.listing.specs.Listing.{functionItem, constantItem, recordItem, locationItem, liveOutItem, endItem, recordItems, listingFields, encodeListing, stands, run, listedFunction, listedConstant, listedLocation, listedLiveOut, listedLocations, listedLiveOuts, listedRecord, recordStop, listedRecords, recordsStop, functionsListed, constantsListed, recordsBegin, readListing, itemsStop, listingCheck}
+use Rattle.listing.proofs.Fits.{and-true, AllSmall, small-whole, whole-small, listing-to-section}
 
 function-size : (f : Function) → size (functionItem f) ≡ 25
 unfolding size functionItem
@@ -136,9 +135,10 @@ module _ {A : Type 0} (item : A → List Field) (k n : ℕ) (even : (x : A) → 
           let a = is-item k n l at e in
           let z = mul-suc n (run k n m l (at + n)) in
           let r = ih (a .0) in
-          rw (run-yes k n m l at e)
-          (join l at (at + n) (item (read l at)) (all item (many read n (run k n m l (at + n)) l (at + n))) (rw (even (read l at))) (has at (a .1)) (r .0),
-            omega arith)
+          rw (run-yes k n m l at e) (
+            join l at (at + n) (item (read l at)) (all item (many read n (run k n m l (at + n)) l (at + n))) (rw (even (read l at))) (has at (a .1)) (r .0),
+            omega arith,
+          )
       go ih false e = rw (run-no k n (suc m) l at e) (tt, omega arith)
 
 -- what stands after the items of a kind is another kind
@@ -226,17 +226,23 @@ module _ (l : List ℕ) where
         let k₃ = split l (at + 13 + 10 * n) (at + size (recordItems r)) O rest (omega (arith, sizes)) (k₂ .1) in
         let p : at + 13 + 10 * n + 4 * m ≡ at + size (recordItems r) = omega arith in
         let e₁ : listedLocations l at ≡ n =
-            run-back locationItem 4 10 location-size l location-kind (r .locations) (at + 13) (length l) (omega arith) (k₂ .0) (omega arith)
-              (no-item 4 10 l _ (O ++ rest) (leads-outs (r .liveOuts) rs) (k₂ .1)) in
+        run-back locationItem 4 10 location-size l location-kind (r .locations) (at + 13) (length l) (omega arith) (k₂ .0) (omega arith)
+        (no-item 4 10 l _ (O ++ rest) (leads-outs (r .liveOuts) rs) (k₂ .1)) in
         let e₂ : run 5 4 (length l) l (at + 13 + 10 * n) ≡ m =
-            run-back liveOutItem 5 4 live-out-size l live-out-kind (r .liveOuts) (at + 13 + 10 * n) (length l) (omega arith) (k₃ .0) (omega arith)
-              (rw p (no-item 5 4 l _ rest (leads-records 5 rs (omega arith) (omega arith)) (k₃ .1))) in
-        (yes-item 3 13 l at (omega arith) (kind-byte l at 3 (k₁ .0 .0)),
-          rw (e₁, e₂, k₁ .0 .1 .0, k₁ .0 .1 .1 .0,
+        run-back liveOutItem 5 4 live-out-size l live-out-kind (r .liveOuts) (at + 13 + 10 * n) (length l) (omega arith) (k₃ .0) (omega arith)
+        (rw p (no-item 5 4 l _ rest (leads-records 5 rs (omega arith) (omega arith)) (k₃ .1))) in (
+          yes-item 3 13 l at (omega arith) (kind-byte l at 3 (k₁ .0 .0)),
+          rw (
+            e₁,
+            e₂,
+            k₁ .0 .1 .0,
+            k₁ .0 .1 .1 .0,
             many-back locationItem listedLocation 10 location-size l (location-back l) (r .locations) _ (k₂ .0),
-            many-back liveOutItem listedLiveOut 4 live-out-size l (live-out-back l) (r .liveOuts) _ (k₃ .0)),
+            many-back liveOutItem listedLiveOut 4 live-out-size l (live-out-back l) (r .liveOuts) _ (k₃ .0),
+          ),
           rw (e₁, e₂) p,
-          k₃ .1)
+          k₃ .1,
+        )
 
   records-back : (rs : List Record) (at m : ℕ) → length rs ≤ m → Has l at (all recordItems rs ++ endItem) → at + size (all recordItems rs) ≤ length l
       → (listedRecords l m at ≡ rs) × (recordsStop l m at ≡ at + size (all recordItems rs))
@@ -290,7 +296,7 @@ module _ (t : Section) (fit : Fit (listingFields t)) where
     records-are : listedRecords l (length l) (25 * nf + 9 * nc) ≡ t .records
     stop-is : recordsStop l (length l) (25 * nf + 9 * nc) ≡ 25 * nf + 9 * nc + size R
     end-in : Has l (25 * nf + 9 * nc + size R) endItem
-  
+
   count-le : (rs : List Record) → length rs ≤ size (all recordItems rs)
   unfolding all size recordItems recordItem
   count-le [] = omega arith
@@ -313,7 +319,7 @@ module _ (t : Section) (fit : Fit (listingFields t)) where
         constants-in = k₂ .0;
         records-are = r .0;
         stop-is = r .1;
-        end-in = k₃ .1
+        end-in = k₃ .1;
       }
 
   -- the listing of a section is read as the section
@@ -321,9 +327,13 @@ module _ (t : Section) (fit : Fit (listingFields t)) where
   unfolding readListing
   listing-back =
       let w = listed in
-      rw (w .functions-num, w .constants-num, w .records-are,
+      rw (
+        w .functions-num,
+        w .constants-num,
+        w .records-are,
         many-back functionItem listedFunction 25 function-size l (function-back l) (t .functions) 0 (w .functions-in),
-        many-back constantItem listedConstant 9 constant-size l (constant-back l) (t .constants) _ (w .constants-in))
+        many-back constantItem listedConstant 9 constant-size l (constant-back l) (t .constants) _ (w .constants-in),
+      )
 
   -- and accepted
   pub listing-check : AllSmall (t .records) → length (encodeListing t) ≤ 33554432 → listingCheck (encodeListing t) ≡ Valid (length (encodeListing t))
@@ -372,10 +382,11 @@ module _ (l : List ℕ) where
       let h₂ = run-has liveOutItem 5 4 live-out-size l listedLiveOut (live-out-has l) (length l) (at + 13 + 10 * nl) (h₁ .1) in
       let z₁ : size L ≡ 10 * nl = size-many locationItem 10 location-size listedLocation nl (at + 13) in
       let z₂ : size O ≡ 4 * no = size-many liveOutItem 4 live-out-size listedLiveOut no (at + 13 + 10 * nl) in
-      let i : Has l at I = (rw add-zero (byte-word l at ∙ a .1), (refl, (refl, tt))) in
-      (join l at (at + 13) I (L ++ O) refl i (join l (at + 13) (at + 13 + 10 * nl) L O (rw z₁) (h₁ .0) (h₂ .0)),
+      let i : Has l at I = (rw add-zero (byte-word l at ∙ a .1), (refl, (refl, tt))) in (
+        join l at (at + 13) I (L ++ O) refl i (join l (at + 13) (at + 13 + 10 * nl) L O (rw z₁) (h₁ .0) (h₂ .0)),
         (let z : size (L ++ O) ≡ 10 * nl + 4 * no = rw (size-append, z₁, z₂) in omega arith),
-        h₂ .1)
+        h₂ .1,
+      )
 
   records-has : (m at : ℕ) → at ≤ length l
       → Has l at (all recordItems (listedRecords l m at)) × (recordsStop l m at ≡ at + size (all recordItems (listedRecords l m at))) × (recordsStop l m at ≤ length l)
@@ -393,9 +404,11 @@ module _ (l : List ℕ) where
           let r = record-has at e in
           let q = ih (r .2) in
           let z = size-append (recordItems (listedRecord l at)) (all recordItems (listedRecords l m (recordStop l at))) in
-          rw (y .0, y .1)
-          (join l at (recordStop l at) (recordItems (listedRecord l at)) (all recordItems (listedRecords l m (recordStop l at))) (r .1) (r .0) (q .0),
-            omega arith, q .2)
+          rw (y .0, y .1) (
+            join l at (recordStop l at) (recordItems (listedRecord l at)) (all recordItems (listedRecords l m (recordStop l at))) (r .1) (r .0) (q .0),
+            omega arith,
+            q .2,
+          )
       go ih false e = let y = records-no l (suc m) at e in rw (y .0, y .1) (tt, omega arith, i)
 
   abbrev F′ : List Field
@@ -438,7 +451,7 @@ module _ (l : List ℕ) where
           long = simp size-append (let q = h₃ .1 in omega arith);
           small = whole-small _ _ _ (chain-first _ _ _ k₃ .1);
           under = leb-true _ _ (must-held _ _ _ _ _ k);
-          ends-at = let q = chain-rest _ _ _ k₃ in cc
+          ends-at = let q = chain-rest _ _ _ k₃ in cc;
         }
 
     pub listing-accepted : (e ≡ length l) × (length l ≤ 33554432)

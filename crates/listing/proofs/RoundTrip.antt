@@ -1,11 +1,10 @@
 -- The round trips.
-use Prim.Native.Nat.{ℕ, zero, suc, _+_, _*_, _-_, _%_, _^_, _≤_, _<_}
-use mathlib.Core.Path.{_≡_, refl, sym, _∙_, ap}
-use mathlib.Core.List.{List, [], _∷_, _++_}
+use Prim.Native.Nat.{ℕ, _*_, _-_, _≤_}
+use mathlib.Core.Path.{_≡_, refl, ap}
+use mathlib.Core.List.{List, [], _∷_}
 use mathlib.Core.Bool.{Bool, true, false}
 use native.Mathlib.Omega.{arith}
-use borrow.Author.Tests.{le-leb, leb-true}
-use lib.ListN.{length, take, drop}
+use lib.ListN.{length, drop}
 use lib.Seq.{take-append-seam}
 use lib.Dec.{leb}
 use Rattle.stackmap.specs.declared.Verdict.{Verdict}
@@ -13,15 +12,15 @@ use Rattle.stackmap.specs.declared.Verdict.the-variants.{Valid, Refused}
 use Rattle.wire.specs.Word.{Bytes}
 use Rattle.stackmap.specs.Check.{sectionCheck}
 use Rattle.stackmap.specs.Fault.{sectionFault}
-use Rattle.stackmap.specs.Fields.{size, Field, all}
-use Rattle.stackmap.specs.Section.{Record, Section, encodeSection, readSection, recordFields, sectionFields}
+use Rattle.stackmap.specs.Fields.{size, all}
+use Rattle.stackmap.specs.Section.{Record, Section, encodeSection, readSection, recordFields}
 use Rattle.stackmap.specs.Verdict.{chain}
 use Rattle.stackmap.proofs.Back.{check-back, encoded-length, read-back, record-size, section-size}
 use Rattle.stackmap.proofs.Fields.{size-append}
 use Rattle.stackmap.proofs.Forth.{accepted-bytes, accepted-encodable, accepted-length}
 use Rattle.stackmap.proofs.Verdicts.{chain-first, chain-rest}
 use Rattle.stackmap.proofs.WellFormed.{bytes-of}
-use Rattle.listing.specs.Listing.{recordItems, listingFields, encodeListing, listingCheck, readListing, Converted, give, toListing, toSection}
+use Rattle.listing.specs.Listing.{recordItems, listingFields, encodeListing, listingCheck, readListing, give, toListing, toSection}
 use Rattle.listing.specs.RoundTrip.{result, gives, RoundTrips, OutputKept, ListingOneToOne}
 use Rattle.listing.proofs.Fits.{section-to-listing}
 use Rattle.listing.proofs.Listing.{items-size, listing-length, listing-back, listing-check, accepted-listing, listing-encodable}
@@ -60,12 +59,12 @@ section-first s out out′ w h =
     let b = accepted-bytes s _ k w in
     let f = section-to-listing t fit in
     let l : length (encodeListing t) ≤ 33554432 =
-        let z₁ = listing-length t (f .0) in
-        let z₂ = section-size t fit in
-        let z₃ = encoded-length t fit in
-        let z₄ = accepted-length s _ k in
-        let z₅ : length (encodeSection t) ≡ length s = ap length b in
-        omega (arith, records-twice (t .records)) in
+    let z₁ = listing-length t (f .0) in
+    let z₂ = section-size t fit in
+    let z₃ = encoded-length t fit in
+    let z₄ = accepted-length s _ k in
+    let z₅ : length (encodeSection t) ≡ length s = ap length b in
+    omega (arith, records-twice (t .records)) in
     rw (g .wrote, listing-check t (f .0) (f .1) l, listing-back t (f .0), b, k)
 
 listing-first : (l out out′ : List ℕ) → Bytes l → toSection l out .number ≡ 0 → toListing (result (toSection l out)) out′ ≡ gives l out′
@@ -90,8 +89,10 @@ kept (Valid e) r out h = go (leb (length r) (length out)) refl
 
 pub output-kept : OutputKept
 unfolding toListing toSection
-output-kept = (λ s out. kept (sectionCheck s) (encodeListing (readSection s)) out,
-    λ l out. kept (chain (listingCheck l) (sectionCheck (encodeSection (readListing l)))) (encodeSection (readListing l)) out)
+output-kept = (
+  λ s out. kept (sectionCheck s) (encodeListing (readSection s)) out,
+  λ l out. kept (chain (listingCheck l) (sectionCheck (encodeSection (readListing l)))) (encodeSection (readListing l)) out,
+)
 
 -- the built section's refusal needs no bytes
 pub built-refusal : (l : List ℕ) → Bytes l → chain (listingCheck l) (sectionCheck (encodeSection (readListing l))) ≡ chain (listingCheck l) (sectionFault (readListing l))
@@ -112,5 +113,5 @@ listing-one-to-one =
       encode-read = λ l w k. accepted-listing l (length l) k w;
       encode-bytes = listing-bytes;
       encode-accepted = λ t f n. let g = section-to-listing t f in listing-check t (g .0) (g .1) n;
-      read-encode = λ t f. listing-back t (section-to-listing t f .0)
+      read-encode = λ t f. listing-back t (section-to-listing t f .0);
     }

@@ -91,7 +91,7 @@ module _ (l : List ℕ) where
         id = word 8 l (at + 1);
         offset = word 4 l (at + 9);
         locations = many listedLocation locationItemSize (listedLocations at) l (at + recordItemSize);
-        liveOuts = many listedLiveOut liveOutItemSize (listedLiveOuts at) l (liveOutsBegin at)
+        liveOuts = many listedLiveOut liveOutItemSize (listedLiveOuts at) l (liveOutsBegin at);
       }
 
   unfoldable pub recordStop : ℕ → ℕ
@@ -120,7 +120,7 @@ module _ (l : List ℕ) where
       record {
         functions = many listedFunction functionItemSize functionsListed l 0;
         constants = many listedConstant constantItemSize constantsListed l (functionItemSize * functionsListed);
-        records = listedRecords (length l) recordsBegin
+        records = listedRecords (length l) recordsBegin;
       }
 
   -- the first item that no rule lets stand where it does
@@ -154,8 +154,8 @@ abbrev pub give : Verdict → List ℕ → List ℕ → Converted
 give (Refused n p) result out = record { number = n; place = p; written = 0; output = out }
 give (Valid e) result out =
     elim (leb (length result) (length out)) [
-      true ↦ record { number = 0; place = 0; written = length result; output = result ++ drop (length result) out }
-    | false ↦ record { number = 24; place = 0; written = 0; output = out }
+      | true ↦ record { number = 0; place = 0; written = length result; output = result ++ drop (length result) out }
+      | false ↦ record { number = 24; place = 0; written = 0; output = out }
     ]
 
 -- the section's refusal, then 24

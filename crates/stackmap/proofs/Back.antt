@@ -16,7 +16,7 @@ use Rattle.stackmap.specs.Verdict.{must, chain, bind, shift}
 use Rattle.stackmap.specs.Fields.{Field, _of_, size, all}
 use Rattle.stackmap.specs.Section.{Function, Record, Section, functionFields, constantFields, locationFields, liveOutFields, recordFields, sectionFields, encodeSection, Encodable, readFunction, readConstant, readLocation, readLiveOut, recordLength, readRecord, readRecords, readFunctions, readSection, Owner, owners, counted, Entry, address, entriesFrom, entriesOf}
 use Rattle.stackmap.specs.Record.{recordInside, recordBytes, recordCheck}
-use Rattle.stackmap.specs.Check.{headerCheck, tablesCheck, recordsCheck, sectionCheck}
+use Rattle.stackmap.specs.Check.{headerCheck, tablesCheck, recordsCheck, walkCheck, sectionCheck}
 use Rattle.stackmap.specs.Fault.{entryFault, entriesFault, sectionFault}
 use Rattle.stackmap.proofs.Verdicts.{must-rest, chain-rest}
 use Rattle.stackmap.proofs.Fields.{Has, HasFrom, split, many-back, fields-back, length-bytesOf, size-append, size-all}
@@ -286,7 +286,7 @@ module _ (t : Section) (fit : Encodable t) where
 
   -- and refused, or accepted, as the section is
   pub check-back : sectionCheck (encodeSection t) ≡ sectionFault t
-  unfolding sectionCheck headerCheck tablesCheck sectionFault chain must
+  unfolding sectionCheck headerCheck tablesCheck walkCheck sectionFault chain must
   check-back =
       let w = whats in
       let v : getD s 0 0 ≡ 3 = sym (byte-word s 0) ∙ w .version in

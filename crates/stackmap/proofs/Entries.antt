@@ -1,5 +1,5 @@
 -- The entries of a section, as a walk over its bytes finds them.
-use Prim.Native.Nat.{ℕ, zero, suc, _+_, _*_, _≤_, _<_}
+use Prim.Native.Nat.{ℕ, zero, suc, _+_, _*_, _≤_}
 use mathlib.Core.Path.{_≡_, refl, sym, _∙_, ap}
 use mathlib.Core.List.{List, [], _∷_, List·Memᴰ, List·Memᴰ·not-nil, List·Memᴰ·cases-cons}
 use mathlib.Core.Logic.{⊎-elim}
@@ -10,9 +10,8 @@ use lib.ListN.{length, drop, getElem?}
 use Rattle.wire.specs.Word.{Bytes}
 use Rattle.stackmap.specs.declared.Verdict.the-variants.{Valid}
 use Rattle.stackmap.specs.Fields.{size, all}
-use Rattle.stackmap.specs.Section.{Record, functionFields, constantFields, recordFields, sectionFields, numRecords, recordsAt, readFunction, readConstant, recordLength, readRecord, readRecords, readFunctions, readSection, Owner, owners, counted, Entry, entriesFrom, entriesOf, entries}
+use Rattle.stackmap.specs.Section.{Record, functionFields, constantFields, recordFields, numRecords, recordsAt, readFunction, readConstant, recordLength, readRecord, readRecords, readFunctions, readSection, Owner, owners, Entry, entriesFrom, entriesOf, entries}
 use Rattle.stackmap.specs.Check.{sectionCheck}
-use Rattle.stackmap.specs.Fault.{WellFormed}
 use Rattle.stackmap.proofs.Fields.{size-append, length-many}
 use Rattle.stackmap.proofs.Items.{function-size, constant-size}
 use Rattle.stackmap.proofs.Back.{section-size, length-owners}
@@ -22,8 +21,8 @@ use Rattle.stackmap.proofs.WellFormed.{accepted-well-formed}
 -- one step of the walk, by the bytes at `at`
 pub entries-step : (k at n : ℕ) (o : Owner) (os : List Owner) (s : List ℕ)
     → entriesFrom k at (o ∷ os) (readRecords (suc n) s at)
-      ≡ record { number = k; first = at; owner = o; body = readRecord (drop at s) }
-        ∷ entriesFrom (suc k) (at + recordLength (drop at s)) os (readRecords n s (at + recordLength (drop at s)))
+    ≡ record { number = k; first = at; owner = o; body = readRecord (drop at s) }
+    ∷ entriesFrom (suc k) (at + recordLength (drop at s)) os (readRecords n s (at + recordLength (drop at s)))
 unfolding entriesFrom readRecords
 entries-step k at n o os s = rw (read-size (drop at s))
 

@@ -13,7 +13,7 @@ use Rattle.stackmap.specs.declared.Verdict.the-variants.{Valid}
 use Rattle.stackmap.specs.Fields.{Field, _of_, size, all, many}
 use Rattle.stackmap.specs.Section.{functionFields, constantFields, locationFields, liveOutFields, recordFields, sectionFields, encodeSection, Encodable, numFunctions, numConstants, numRecords, constantsAt, recordsAt, readFunction, readConstant, readLocation, readLiveOut, numLocations, locationsEnd, numLiveOuts, recordLength, readRecord, readRecords, readFunctions, readSection, Owner, owners}
 use Rattle.stackmap.specs.Record.{zeros, locationCheck, locations, liveOuts, recordBytes, recordCheck}
-use Rattle.stackmap.specs.Check.{headerCheck, tablesCheck, recordsCheck, sectionCheck}
+use Rattle.stackmap.specs.Check.{headerCheck, tablesCheck, recordsCheck, walkCheck, sectionCheck}
 use Rattle.stackmap.specs.Fault.{sectionFault}
 use Rattle.stackmap.proofs.Verdicts.{must-held, must-rest, chain-first, chain-rest, bind-first, shift-valid}
 use Rattle.stackmap.proofs.Fields.{Has, HasFrom, join, many-has, length-many, has-bytes, has-fit, size-append, size-all}
@@ -215,7 +215,7 @@ module _ (s : List ℕ) (e : ℕ) (k : sectionCheck s ≡ Valid e) where
     small : length s ≤ 16777216
 
   held : Held
-  unfolding sectionCheck headerCheck tablesCheck
+  unfolding sectionCheck headerCheck tablesCheck walkCheck
   held =
       let h₁ = chain-first _ _ _ k .1 in
       let h₀ = must-rest _ _ _ _ _ h₁ in

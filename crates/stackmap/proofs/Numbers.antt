@@ -9,7 +9,7 @@ use Rattle.stackmap.specs.declared.Verdict.the-variants.{Valid, Refused}
 use Rattle.stackmap.specs.Verdict.{must, chain, pick, shift, bind}
 use Rattle.stackmap.specs.Section.{Owner}
 use Rattle.stackmap.specs.Record.{zeros, locationCheck, locations, liveOuts, recordInside, recordBytes, recordCheck}
-use Rattle.stackmap.specs.Check.{headerCheck, tablesCheck, recordsCheck, sectionCheck}
+use Rattle.stackmap.specs.Check.{headerCheck, tablesCheck, recordsCheck, walkCheck, sectionCheck}
 
 abbrev pub aboveOf : Verdict → ℕ
 aboveOf (Valid e) = 1
@@ -79,7 +79,7 @@ a-walk [] s c at = a-valid at
 a-walk (o ∷ os) s c at = a-bind _ _ (a-shift at _ (a-record (drop at s) c (o .function .address))) (λ e. a-walk os s c e)
 
 pub section-above : (s : List ℕ) → Above (sectionCheck s)
-unfolding sectionCheck headerCheck tablesCheck
+unfolding sectionCheck headerCheck tablesCheck walkCheck
 section-above s =
     a-chain _ _ (a-must _ 0 _ _ (a-must _ 0 _ _ (a-must _ 1 _ _ (a-zeros 3 s 1))))
     (a-chain _ _ (a-must _ 3 _ _ (a-must _ 3 _ _ (a-must _ 4 _ _ (a-valid _))))

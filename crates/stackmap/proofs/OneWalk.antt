@@ -1,19 +1,25 @@
 -- One walk over the bytes checks the section and folds its entries with any function.
-use Prim.Native.Nat.{ℕ, zero, suc, _+_, _-_, _≤_, _<_}
-use mathlib.Core.Path.{_≡_, refl, sym, _∙_, ap}
+use Prim.Native.Nat.{ℕ, suc, _+_, _-_, _≤_, _<_}
+use mathlib.Core.Path.{_≡_, refl, _∙_, ap}
 use mathlib.Core.List.{List, [], _∷_}
 use native.Mathlib.Omega.{arith}
 use native.Mathlib.Numerals.{add-one}
 use lib.ListN.{length, drop}
 use Rattle.stackmap.specs.declared.Verdict.the-variants.{Valid}
 use Rattle.stackmap.specs.Verdict.{shift}
-use Rattle.stackmap.specs.Section.{numFunctions, numRecords, recordsAt, recordLength, readRecord, readRecords, readFunctions, readSection, Owner, owners, Entry, entriesFrom, entriesOf, entries}
+use Rattle.stackmap.specs.Section.{numFunctions, numRecords, recordsAt, recordLength, readRecords, readFunctions, readSection, Owner, owners, Entry, entriesFrom, entriesOf, entries}
 use Rattle.stackmap.specs.Record.{recordCheck}
-use Rattle.stackmap.specs.Walk.{ownerAt, ahead, Walkable}
+use Rattle.stackmap.specs.Walk.{ownerAt, entryAt, ahead, Walkable}
 use Rattle.stackmap.proofs.Verdicts.{shift-valid}
 use Rattle.stackmap.proofs.Forth.{ends}
 use Rattle.stackmap.proofs.Entries.{entries-step, begins}
 use Rattle.stackmap.proofs.Turns.{Walking, walk-start, walk-on, ahead-start, ahead-one}
+
+-- a valid record that stands at p ends where its length says
+pub here-ends : (s : List ℕ) (c a p q : ℕ) → shift p (recordCheck (drop p s) c a) ≡ Valid q → q ≡ p + recordLength (drop p s)
+here-ends s c a p q v =
+    let x = shift-valid _ _ _ v in
+    x .2 ∙ ap (λ (n : ℕ). p + n) (ends (drop p s) c a _ (x .1))
 
 module _ {H : Type 0} (add : Entry → H → H) where
   -- what is kept, over a list of entries
@@ -26,10 +32,6 @@ module _ {H : Type 0} (add : Entry → H → H) where
     pub walking : Walking s c (recordsAt s) next left remaining p
     pub kept : fold (entries s) h₀ ≡ fold (entriesFrom number p (ahead s next left) (readRecords remaining s p)) h
 
-  -- the entry of the record at p, of function number i
-  abbrev pub entryAt : List ℕ → ℕ → ℕ → ℕ → Entry
-  entryAt s number i p = record { number = number; first = p; owner = ownerAt s i; body = readRecord (drop p s) }
-
   pub fold-start : {s : List ℕ} {c : ℕ} (h : H) → Walkable s → recordsAt s ≤ length s → Folding s c h 0 0 (numRecords s) 0 (recordsAt s) h
   fold-start {s} {c} h w i = record { walking = walk-start w i; kept = rw (ahead-start s) (ap (λ (es : List Entry). fold es h) same) }
     where
@@ -41,13 +43,12 @@ module _ {H : Type 0} (add : Entry → H → H) where
       → shift p (recordCheck (drop p s) c (ownerAt s (next′ - 1) .function .address)) ≡ Valid q
       → Folding s c h₀ next′ (left′ - 1) (remaining - 1) (number + 1) q (add (entryAt s number (next′ - 1) p) h)
   fold-on {s} {c} {next} {left} {remaining} {number} {p} {q} {h₀} {h} next′ left′ f e l b m r v =
-      let x = shift-valid _ _ _ v in
-      let d : q ≡ p + recordLength (drop p s) = x .2 ∙ ap (λ (n : ℕ). p + n) (ends (drop p s) c (ownerAt s (next′ - 1) .function .address) _ (x .1)) in
+      let d = here-ends s c (ownerAt s (next′ - 1) .function .address) p q v in
       let k : remaining ≡ suc (remaining - 1) = omega arith in
       let t : entriesFrom number p (ahead s next left) (readRecords remaining s p)
-          ≡ entryAt s number (next′ - 1) p ∷ entriesFrom (number + 1) q (ahead s next′ (left′ - 1)) (readRecords (remaining - 1) s q) =
-          ap (λ (n : ℕ). entriesFrom number p (ahead s next left) (readRecords n s p)) k
-          ∙ rw (← e, ahead-one s next′ left′ l, entries-step number p (remaining - 1) (ownerAt s (next′ - 1)) (ahead s next′ (left′ - 1)) s, d, add-one) in
+      ≡ entryAt s number (next′ - 1) p ∷ entriesFrom (number + 1) q (ahead s next′ (left′ - 1)) (readRecords (remaining - 1) s q) =
+      ap (λ (n : ℕ). entriesFrom number p (ahead s next left) (readRecords n s p)) k
+      ∙ rw (← e, ahead-one s next′ left′ l, entries-step number p (remaining - 1) (ownerAt s (next′ - 1)) (ahead s next′ (left′ - 1)) s, d, add-one) in
       record { walking = walk-on next′ left′ (f .walking) e l b m v; kept = f .kept ∙ ap (λ (es : List Entry). fold es h) t }
 
   pub fold-end : {s : List ℕ} {c next left number p : ℕ} {h₀ h : H} → Folding s c h₀ next left 0 number p h → fold (entries s) h₀ ≡ h

@@ -8,7 +8,7 @@ use native.Mathlib.Numerals.{add-one}
 use borrow.Author.Tests.{ltb-true, ltb-false}
 use lib.Dec.{ltb}
 use lib.ListN.{length, drop}
-use Rattle.stackmap.specs.declared.Verdict.the-variants.{Valid}
+use Rattle.stackmap.specs.declared.Verdict.the-variants.{Valid, Refused}
 use Rattle.stackmap.specs.Verdict.{bind, shift}
 use Rattle.stackmap.specs.Fields.{many}
 use Rattle.stackmap.specs.Section.{numFunctions, numRecords, readFunction, readFunctions, Owner, owners, counted}
@@ -79,6 +79,12 @@ module _ {s : List ℕ} {c at : ℕ} where
         ≡ bind (shift p (recordCheck (drop p s) c (ownerAt s (next′ - 1) .function .address))) (λ q. recordsCheck (ahead s next′ (left′ - 1)) s c q)
     unfolding recordsCheck
     walk-here = w .same ∙ rw (← e, ahead-one s next′ left′ h)
+
+    -- and the record is refused
+    pub walk-stop : {n q : ℕ} → shift p (recordCheck (drop p s) c (ownerAt s (next′ - 1) .function .address)) ≡ Refused n q
+        → recordsCheck (owners 0 (readFunctions s)) s c at ≡ Refused n q
+    unfolding bind
+    walk-stop v = walk-here ∙ rw v
 
     -- and the record is valid
     pub walk-on : {q : ℕ} → 0 < next′ → next′ ≤ numFunctions s → shift p (recordCheck (drop p s) c (ownerAt s (next′ - 1) .function .address)) ≡ Valid q

@@ -39,3 +39,8 @@ pub shift-valid : (p : ℕ) (r : Verdict) (e : ℕ) → shift p r ≡ Valid e �
 unfolding shift
 shift-valid p (Valid f) e h = (f, refl, cc)
 shift-valid p (Refused n q) e h = never h
+
+pub chain-chain : (a b k : Verdict) → chain a (chain b k) ≡ chain (chain a b) k
+unfolding chain
+chain-chain (Valid e) b k = refl
+chain-chain (Refused n p) b k = refl

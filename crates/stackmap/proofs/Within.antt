@@ -14,9 +14,9 @@ use Rattle.stackmap.specs.declared.Verdict.the-variants.{Valid, Refused}
 use Rattle.stackmap.specs.Verdict.{must, chain, bind, pick, shift}
 use Rattle.stackmap.specs.Section.{numLocations, locationsEnd, numLiveOuts, recordLength, recordsAt, Owner}
 use Rattle.stackmap.specs.Record.{zeros, locationCheck, locations, liveOuts, recordInside, recordBytes, recordCheck}
-use Rattle.stackmap.specs.Check.{headerCheck, tablesCheck, recordsCheck}
+use Rattle.stackmap.specs.Check.{headerCheck, tablesCheck, recordsCheck, walkCheck, sectionCheck}
 use Rattle.stackmap.specs.Walk.{Walkable}
-use Rattle.stackmap.proofs.Verdicts.{must-held, must-rest}
+use Rattle.stackmap.proofs.Verdicts.{must-held, must-rest, chain-first, chain-rest, chain-chain, shift-valid}
 
 -- a record that is inside
 pub is-inside : (s : List ℕ) (e : ℕ) → recordInside s ≡ Valid e → recordLength s ≤ length s
@@ -146,3 +146,21 @@ tables-held s e h =
       inside = leb-true _ _ (must-held _ _ _ _ _ h₁);
       walkable = record { inside = leb-true _ _ (must-held _ _ _ _ _ h); adds-up = eqb-true _ _ (must-held _ _ _ _ _ h₂) };
     }
+
+-- all before the records is valid
+pub begin-held : (s : List ℕ) (e : ℕ) → chain (headerCheck s) (tablesCheck s) ≡ Valid e → Tabled s e
+begin-held s e h = tables-held s e (chain-rest _ _ _ h)
+
+-- what comes before the records, and the records
+pub section-parts : (s : List ℕ) → sectionCheck s ≡ chain (chain (headerCheck s) (tablesCheck s)) (walkCheck s)
+unfolding sectionCheck
+section-parts s = chain-chain (headerCheck s) (tablesCheck s) (walkCheck s)
+
+-- a valid record that stands at p: its head is inside, and it ends where the verdict says
+pub here-inside : (s : List ℕ) (c a p q : ℕ) → p ≤ length s → shift p (recordCheck (drop p s) c a) ≡ Valid q → p + 16 ≤ length s
+unfolding recordCheck
+here-inside s c a p q i v =
+    let x = shift-valid _ _ _ v in
+    let l = length-drop p s in
+    let h = header-inside (drop p s) (is-inside (drop p s) _ (chain-first _ _ _ (x .1) .1)) in
+    omega arith

@@ -38,13 +38,14 @@ recordsCheck [] s c at = Valid at
 recordsCheck (o ∷ os) s c at =
     bind (shift at (recordCheck (drop at s) c (o .function .address))) (λ p. recordsCheck os s c p)
 
+-- all records, and 9: nothing follows the last one
+unfoldable pub walkCheck : List ℕ → Verdict
+walkCheck s =
+    bind (recordsCheck (owners 0 (readFunctions s)) s (numConstants s) (recordsAt s)) (λ p. must (eqb p (length s)) 9 p (Valid p))
+
 -- the whole section
 unfoldable pub sectionCheck : List ℕ → Verdict
-sectionCheck s =
-    chain (headerCheck s)
-    (chain (tablesCheck s)
-    (bind (recordsCheck (owners 0 (readFunctions s)) s (numConstants s) (recordsAt s))
-    (λ p. must (eqb p (length s)) 9 p (Valid p))))
+sectionCheck s = chain (headerCheck s) (chain (tablesCheck s) (walkCheck s))
 
 abbrev pub Accepted : List ℕ → Type 0
 Accepted s = sectionCheck s ≡ Valid (length s)

@@ -2,10 +2,10 @@
 use Prim.Native.Nat.{ℕ, _+_, _*_, _-_, _≤_, _<_}
 use mathlib.Core.Path.{_≡_}
 use mathlib.Core.List.{List, _++_}
-use lib.ListN.{length, replicate}
+use lib.ListN.{length, drop, replicate}
 use Rattle.stackmap.specs.Layout.{headerSize, functionSize}
 use Rattle.stackmap.specs.Fields.{many}
-use Rattle.stackmap.specs.Section.{numFunctions, numRecords, constantsAt, readFunction, readFunctions, Owner, owners, counted}
+use Rattle.stackmap.specs.Section.{numFunctions, numRecords, constantsAt, readFunction, readFunctions, readRecord, Owner, owners, counted, Entry}
 
 -- the first byte of function number i
 abbrev pub functionAt : ℕ → ℕ
@@ -13,6 +13,10 @@ functionAt i = headerSize + functionSize * i
 
 unfoldable pub ownerAt : List ℕ → ℕ → Owner
 ownerAt s i = record { number = i; function = readFunction s (functionAt i) }
+
+-- the entry of the record at p, of function number i
+abbrev pub entryAt : List ℕ → ℕ → ℕ → ℕ → Entry
+entryAt s number i p = record { number = number; first = p; owner = ownerAt s i; body = readRecord (drop p s) }
 
 -- the owners of the records still ahead: `left` records of the function before `next`, and those of all functions from `next` on
 unfoldable pub ahead : List ℕ → ℕ → ℕ → List Owner

@@ -1,10 +1,12 @@
-// Stack map sections: the check of a whole section.
+// Stack map sections: the check of a whole section. The modules are for the crates above: their functions require what
+// the ones before them have shown, and no entry point hands a caller's bytes to them unchecked.
 ghost use mathlib.Core.Path.{_≡_};
 ghost use Rattle.stackmap.specs.Check.{sectionCheck};
 
+pub mod layout;
 mod record;
-mod tables;
-mod walk;
+pub mod tables;
+pub mod walk;
 
 // A verdict on a section or a part of it.
 pub enum Verdict {
@@ -18,10 +20,7 @@ pub enum Verdict {
 pub fn check(s: &[u8]) -> Verdict
     ensures { λ r. ⌜ r ≡ sectionCheck (now (s .entry)) ⌝ }
 {
-    if let Verdict::Refused(n, p) = tables::header(s) {
-        return Verdict::Refused(n, p);
-    }
-    match tables::tables(s) {
+    match tables::begin(s) {
         Verdict::Refused(n, p) => Verdict::Refused(n, p),
         Verdict::Valid(at) => match walk::all_records(s, at) {
             Verdict::Refused(n, p) => Verdict::Refused(n, p),

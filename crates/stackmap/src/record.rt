@@ -6,38 +6,7 @@ ghost use Rattle.stackmap.specs.Layout.{locationSize, liveOutSize};
 ghost use Rattle.stackmap.specs.Section.{recordLength};
 ghost use Rattle.stackmap.specs.Record.{zeros, locationCheck, locations, liveOuts, recordInside, recordBytes, recordCheck};
 use crate::Verdict;
-
-pub const RECORD_HEAD_SIZE: usize = 16;
-
-const INSTRUCTION_OFFSET_AT: usize = 8;
-
-const FLAGS_AT: usize = 12;
-
-const FLAGS_SIZE: usize = 2;
-
-const NUM_LOCATIONS_AT: usize = 14;
-
-const LIVE_OUTS_HEAD_ZEROS: usize = 2;
-
-const LIVE_OUTS_HEAD_SIZE: usize = 4;
-
-const LOCATION_SIZE: usize = 12;
-
-const LOCATION_OFFSET_AT: usize = 8;
-
-const LIVE_OUT_SIZE: usize = 4;
-
-const LIVE_OUT_ZERO_AT: usize = 2;
-
-const KIND_LEAST: u8 = 1;
-
-const KIND_MOST: u8 = 5;
-
-const KIND_CONST_INDEX: u8 = 5;
-
-const NEGATIVE_FROM: u32 = 2147483648;
-
-const ADDRESS_MOST: u64 = 18446744073709551615;
+use crate::layout;
 
 // The `count` bytes from `at` are zero.
 pub fn zero_bytes(s: &[u8], at: usize, count: usize) -> Verdict
@@ -62,10 +31,10 @@ fn location(s: &[u8], at: usize, constants: u32) -> Verdict
     ensures { λ r. ⌜ r ≡ locationCheck (now (s .entry)) constants at ⌝ }
 {
     let kind = s[at];
-    if kind < KIND_LEAST {
+    if kind < layout::KIND_LEAST {
         return Verdict::Refused(6, at);
     }
-    if kind > KIND_MOST {
+    if kind > layout::KIND_MOST {
         return Verdict::Refused(6, at);
     }
     if s[at + 1] != 0 {
@@ -77,17 +46,17 @@ fn location(s: &[u8], at: usize, constants: u32) -> Verdict
     if s[at + 7] != 0 {
         return Verdict::Refused(3, at + 7);
     }
-    if kind != KIND_CONST_INDEX {
-        return Verdict::Valid(at + LOCATION_SIZE);
+    if kind != layout::KIND_CONST_INDEX {
+        return Verdict::Valid(at + layout::LOCATION_SIZE);
     }
-    let index = wire::u32_at(s, at + LOCATION_OFFSET_AT);
-    if index >= NEGATIVE_FROM {
+    let index = wire::u32_at(s, at + layout::LOCATION_OFFSET_AT);
+    if index >= layout::NEGATIVE_FROM {
         return Verdict::Refused(7, at);
     }
     if index >= constants {
         return Verdict::Refused(7, at);
     }
-    Verdict::Valid(at + LOCATION_SIZE)
+    Verdict::Valid(at + layout::LOCATION_SIZE)
 }
 
 // The `count` locations from `at`.
@@ -101,7 +70,7 @@ fn all_locations(s: &[u8], at: usize, count: usize, constants: u32) -> Verdict
         if let Verdict::Refused(n, q) = location(s, p, constants) {
             return Verdict::Refused(n, q);
         }
-        p += LOCATION_SIZE;
+        p += layout::LOCATION_SIZE;
         left -= 1;
     }
     Verdict::Valid(p)
@@ -115,10 +84,10 @@ fn all_live_outs(s: &[u8], at: usize, count: usize) -> Verdict
     let mut p = at;
     let mut left = count;
     while left > 0 {
-        if s[p + LIVE_OUT_ZERO_AT] != 0 {
-            return Verdict::Refused(3, p + LIVE_OUT_ZERO_AT);
+        if s[p + layout::LIVE_OUT_ZERO_AT] != 0 {
+            return Verdict::Refused(3, p + layout::LIVE_OUT_ZERO_AT);
         }
-        p += LIVE_OUT_SIZE;
+        p += layout::LIVE_OUT_SIZE;
         left -= 1;
     }
     Verdict::Valid(p)
@@ -128,16 +97,19 @@ fn all_live_outs(s: &[u8], at: usize, count: usize) -> Verdict
 fn record_inside(s: &[u8]) -> Verdict
     ensures { λ r. ⌜ r ≡ recordInside (now (s .entry)) ⌝ }
 {
-    if s.len() < RECORD_HEAD_SIZE {
+    if s.len() < layout::RECORD_HEAD_SIZE {
         return Verdict::Refused(4, 0);
     }
-    let locations = wire::u16_at(s, NUM_LOCATIONS_AT) as usize;
-    let end = RECORD_HEAD_SIZE + LOCATION_SIZE * locations + locations % 2 * 4;
-    if s.len() < end + LIVE_OUTS_HEAD_SIZE {
+    let locations = wire::u16_at(s, layout::NUM_LOCATIONS_AT) as usize;
+    let end = layout::RECORD_HEAD_SIZE + layout::LOCATION_SIZE * locations + locations % 2 * 4;
+    if s.len() < end + layout::LIVE_OUTS_HEAD_SIZE {
         return Verdict::Refused(4, 0);
     }
-    let outs = wire::u16_at(s, end + LIVE_OUTS_HEAD_ZEROS) as usize;
-    let next = end + LIVE_OUTS_HEAD_SIZE + LIVE_OUT_SIZE * outs + (outs + 1) % 2 * 4;
+    let outs = wire::u16_at(s, end + layout::LIVE_OUTS_HEAD_ZEROS) as usize;
+    let next = end
+        + layout::LIVE_OUTS_HEAD_SIZE
+        + layout::LIVE_OUT_SIZE * outs
+        + (outs + 1) % 2 * 4;
     if s.len() < next {
         return Verdict::Refused(4, 0);
     }
@@ -149,21 +121,30 @@ fn record_bytes(s: &[u8], constants: u32) -> Verdict
     requires { ⌜ recordLength (now s) ≤ length (now s) ⌝ }
     ensures { λ r. ⌜ r ≡ recordBytes (now (s .entry)) constants ⌝ }
 {
-    let locations = wire::u16_at(s, NUM_LOCATIONS_AT) as usize;
-    let pad = RECORD_HEAD_SIZE + LOCATION_SIZE * locations;
+    let locations = wire::u16_at(s, layout::NUM_LOCATIONS_AT) as usize;
+    let pad = layout::RECORD_HEAD_SIZE + layout::LOCATION_SIZE * locations;
     let end = pad + locations % 2 * 4;
-    let outs = wire::u16_at(s, end + LIVE_OUTS_HEAD_ZEROS) as usize;
-    let pad2 = end + LIVE_OUTS_HEAD_SIZE + LIVE_OUT_SIZE * outs;
-    if let Verdict::Refused(n, p) = zero_bytes(s, FLAGS_AT, FLAGS_SIZE) {
+    let outs = wire::u16_at(s, end + layout::LIVE_OUTS_HEAD_ZEROS) as usize;
+    let pad2 = end + layout::LIVE_OUTS_HEAD_SIZE + layout::LIVE_OUT_SIZE * outs;
+    if let Verdict::Refused(n, p) = zero_bytes(s, layout::FLAGS_AT, layout::FLAGS_SIZE) {
         return Verdict::Refused(n, p);
     }
-    if let Verdict::Refused(n, p) = all_locations(s, RECORD_HEAD_SIZE, locations, constants) {
+    if let Verdict::Refused(n, p) = all_locations(
+        s,
+        layout::RECORD_HEAD_SIZE,
+        locations,
+        constants,
+    ) {
         return Verdict::Refused(n, p);
     }
-    if let Verdict::Refused(n, p) = zero_bytes(s, pad, locations % 2 * 4 + LIVE_OUTS_HEAD_ZEROS) {
+    if let Verdict::Refused(n, p) = zero_bytes(
+        s,
+        pad,
+        locations % 2 * 4 + layout::LIVE_OUTS_HEAD_ZEROS,
+    ) {
         return Verdict::Refused(n, p);
     }
-    if let Verdict::Refused(n, p) = all_live_outs(s, end + LIVE_OUTS_HEAD_SIZE, outs) {
+    if let Verdict::Refused(n, p) = all_live_outs(s, end + layout::LIVE_OUTS_HEAD_SIZE, outs) {
         return Verdict::Refused(n, p);
     }
     if let Verdict::Refused(n, p) = zero_bytes(s, pad2, (outs + 1) % 2 * 4) {
@@ -179,8 +160,8 @@ pub fn check_record(s: &[u8], constants: u32, address: u64) -> Verdict
     if let Verdict::Refused(n, p) = record_inside(s) {
         return Verdict::Refused(n, p);
     }
-    let offset = wire::u32_at(s, INSTRUCTION_OFFSET_AT) as u64;
-    if offset > ADDRESS_MOST - address {
+    let offset = wire::u32_at(s, layout::INSTRUCTION_OFFSET_AT) as u64;
+    if offset > layout::ADDRESS_MOST - address {
         return Verdict::Refused(8, 0);
     }
     record_bytes(s, constants)

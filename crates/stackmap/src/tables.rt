@@ -6,38 +6,22 @@ ghost use lib.Dec.{eqb};
 ghost use Rattle.stackmap.specs.Layout.{headerSize, functionSize};
 ghost use Rattle.stackmap.specs.Fields.{many};
 ghost use Rattle.stackmap.specs.Section.{readFunction, counted};
+ghost use Rattle.stackmap.specs.Verdict.{chain};
 ghost use Rattle.stackmap.specs.Check.{headerCheck, tablesCheck};
 use crate::Verdict;
+use crate::layout;
 use crate::record;
 
-pub const HEADER_SIZE: usize = 16;
-
-pub const NUM_FUNCTIONS_AT: usize = 4;
-
-pub const NUM_CONSTANTS_AT: usize = 8;
-
-pub const NUM_RECORDS_AT: usize = 12;
-
-pub const FUNCTION_SIZE: usize = 24;
-
-pub const RECORD_COUNT_AT: usize = 16;
-
-const CONSTANT_SIZE: usize = 8;
-
-const VERSION: u8 = 3;
-
-const SECTION_MOST: usize = 16777216;
-
-pub fn header(s: &[u8]) -> Verdict
+fn header(s: &[u8]) -> Verdict
     ensures { λ r. ⌜ r ≡ headerCheck (now (s .entry)) ⌝ }
 {
-    if s.len() < HEADER_SIZE {
+    if s.len() < layout::HEADER_SIZE {
         return Verdict::Refused(1, 0);
     }
-    if s.len() > SECTION_MOST {
+    if s.len() > layout::SECTION_MOST {
         return Verdict::Refused(1, 0);
     }
-    if s[0] != VERSION {
+    if s[0] != layout::VERSION {
         return Verdict::Refused(2, 0);
     }
     record::zero_bytes(s, 1, 3)
@@ -48,45 +32,56 @@ fn counts_add_up(s: &[u8], functions: usize, total: u64) -> bool
     requires { ⌜ headerSize + functionSize * functions ≤ length (now s) ⌝ }
     ensures { λ r. ⌜ r ≡ eqb (counted (many readFunction functionSize functions (now (s .entry)) headerSize)) total ⌝ }
 {
-    let mut f: usize = HEADER_SIZE;
+    let mut f: usize = layout::HEADER_SIZE;
     let mut left = functions;
     let mut rest = total;
     while left > 0 {
-        let count = wire::u64_at(s, f + RECORD_COUNT_AT);
+        let count = wire::u64_at(s, f + layout::RECORD_COUNT_AT);
         if count > rest {
             return false;
         }
         rest -= count;
-        f += FUNCTION_SIZE;
+        f += layout::FUNCTION_SIZE;
         left -= 1;
     }
     rest == 0
 }
 
-pub fn tables(s: &[u8]) -> Verdict
+fn tables(s: &[u8]) -> Verdict
     requires { ⌜ headerSize ≤ length (now s) ⌝ }
     ensures { λ r. ⌜ r ≡ tablesCheck (now (s .entry)) ⌝ }
 {
-    let functions = wire::u32_at(s, NUM_FUNCTIONS_AT) as usize;
-    let constants = wire::u32_at(s, NUM_CONSTANTS_AT) as usize;
-    let records = wire::u32_at(s, NUM_RECORDS_AT) as u64;
-    let after = HEADER_SIZE + FUNCTION_SIZE * functions;
+    let functions = wire::u32_at(s, layout::NUM_FUNCTIONS_AT) as usize;
+    let constants = wire::u32_at(s, layout::NUM_CONSTANTS_AT) as usize;
+    let records = wire::u32_at(s, layout::NUM_RECORDS_AT) as u64;
+    let after = layout::HEADER_SIZE + layout::FUNCTION_SIZE * functions;
     if after > s.len() {
         return Verdict::Refused(
             4,
-            HEADER_SIZE + FUNCTION_SIZE * ((s.len() - HEADER_SIZE) / FUNCTION_SIZE),
+            layout::HEADER_SIZE
+                + layout::FUNCTION_SIZE * ((s.len() - layout::HEADER_SIZE) / layout::FUNCTION_SIZE),
         );
     }
-    let end = after + CONSTANT_SIZE * constants;
+    let end = after + layout::CONSTANT_SIZE * constants;
     if end > s.len() {
         return Verdict::Refused(
             4,
-            after + CONSTANT_SIZE * ((s.len() - after) / CONSTANT_SIZE),
+            after + layout::CONSTANT_SIZE * ((s.len() - after) / layout::CONSTANT_SIZE),
         );
     }
     if counts_add_up(s, functions, records) {
         Verdict::Valid(end)
     } else {
-        Verdict::Refused(5, NUM_RECORDS_AT)
+        Verdict::Refused(5, layout::NUM_RECORDS_AT)
     }
+}
+
+// All that comes before the records: valid up to the first record's byte.
+pub fn begin(s: &[u8]) -> Verdict
+    ensures { λ r. ⌜ r ≡ chain (headerCheck (now (s .entry))) (tablesCheck (now (s .entry))) ⌝ }
+{
+    if let Verdict::Refused(n, p) = header(s) {
+        return Verdict::Refused(n, p);
+    }
+    tables(s)
 }

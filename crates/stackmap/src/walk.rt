@@ -8,8 +8,8 @@ ghost use Rattle.stackmap.specs.Record.{recordCheck};
 ghost use Rattle.stackmap.specs.Check.{recordsCheck};
 ghost use Rattle.stackmap.specs.Walk.{ahead, ownerAt, Turning, Walkable};
 use crate::Verdict;
+use crate::layout;
 use crate::record;
-use crate::tables;
 
 // Which function owns the next record: the one before `next`, while `left` of its records are ahead.
 pub struct Turn {
@@ -27,7 +27,7 @@ pub fn owner(s: &[u8], turn: Turn) -> Turn
     while left == 0 {
         left = wire::u64_at(
             s,
-            tables::HEADER_SIZE + tables::FUNCTION_SIZE * next + tables::RECORD_COUNT_AT,
+            layout::HEADER_SIZE + layout::FUNCTION_SIZE * next + layout::RECORD_COUNT_AT,
         );
         next += 1;
     }
@@ -39,7 +39,7 @@ pub fn record_at(s: &[u8], constants: u32, function: usize, at: usize) -> Verdic
     requires { ⌜ (constantsAt (now s) ≤ length (now s)) × (function < numFunctions (now s)) × (at ≤ length (now s)) ⌝ }
     ensures { λ r. ⌜ r ≡ shift at (recordCheck (drop at (now (s .entry))) constants (ownerAt (now (s .entry)) function .function .address)) ⌝ }
 {
-    let address = wire::u64_at(s, tables::HEADER_SIZE + tables::FUNCTION_SIZE * function);
+    let address = wire::u64_at(s, layout::HEADER_SIZE + layout::FUNCTION_SIZE * function);
     match record::check_record(&s[at..], constants, address) {
         Verdict::Refused(n, p) => Verdict::Refused(n, at + p),
         Verdict::Valid(size) => Verdict::Valid(at + size),
@@ -51,8 +51,8 @@ pub fn all_records(s: &[u8], at: usize) -> Verdict
     requires { ⌜ Walkable (now s) × (at ≤ length (now s)) ⌝ }
     ensures { λ r. ⌜ r ≡ recordsCheck (owners 0 (readFunctions (now (s .entry)))) (now (s .entry)) (numConstants (now (s .entry))) at ⌝ }
 {
-    let constants = wire::u32_at(s, tables::NUM_CONSTANTS_AT);
-    let mut remaining = wire::u32_at(s, tables::NUM_RECORDS_AT);
+    let constants = wire::u32_at(s, layout::NUM_CONSTANTS_AT);
+    let mut remaining = wire::u32_at(s, layout::NUM_RECORDS_AT);
     let mut turn = Turn { next: 0, left: 0 };
     let mut p = at;
     while remaining > 0 {

@@ -2,9 +2,40 @@
 use Prim.Native.Nat.{ℕ}
 use Rattle.stackmap.specs.declared.Verdict.{Verdict}
 use Rattle.stackmap.specs.declared.Verdict.the-variants.{Valid, Refused}
+use Rattle.questions.specs.declared.Found.{Found}
+use Rattle.questions.specs.declared.Located.{Located}
+use Rattle.questions.specs.declared.LocationAnswer.{LocationAnswer}
+use Rattle.questions.specs.declared.LiveOutAnswer.{LiveOutAnswer}
 use Rattle.treskibben.specs.declared.Answer.{Answer}
+use Rattle.treskibben.specs.declared.Found
+use Rattle.treskibben.specs.declared.Stands.{Stands}
+use Rattle.treskibben.specs.declared.Location.{Location}
+use Rattle.treskibben.specs.declared.LiveOut.{LiveOut}
 
 -- accepted: number 0, place 0 and this value; refused: the number, its place and value 0
 abbrev pub answer : Verdict → ℕ → Answer
 answer (Valid e) v = record { number = 0; place = 0; value = v }
 answer (Refused n p) v = record { number = n; place = p; value = 0 }
+
+-- The answers of the questions, field by field.
+
+abbrev pub foundAt : Found → Found.Found
+foundAt f = record { number = f .number; place = f .place; index = f .index; function = f .function; sharing = f .sharing }
+
+abbrev pub standsAt : Located → Stands
+standsAt l = record { number = l .number; place = l .place; first = l .first; length = l .length }
+
+abbrev pub placed : LocationAnswer → Location
+placed l =
+    record {
+      number = l .number;
+      place = l .place;
+      constant = l .constant;
+      offset = l .offset;
+      size = l .size;
+      register = l .register;
+      kind = l .kind;
+    }
+
+abbrev pub passed : LiveOutAnswer → LiveOut
+passed l = record { number = l .number; place = l .place; register = l .register; size = l .size }

@@ -1,7 +1,8 @@
 // The exported functions, for C and Rust, and nothing else.
 ghost use mathlib.Core.Path.{_≡_};
 ghost use Rattle.stackmap.specs.Check.{sectionCheck};
-ghost use Rattle.treskibben.specs.Answer.{answer};
+ghost use Rattle.questions.specs.Questions.{byAddress, recordPlace, locationAnswer, liveOutAnswer};
+ghost use Rattle.treskibben.specs.Answer.{answer, foundAt, standsAt, placed, passed};
 use stackmap::Verdict;
 
 // A refusal's number and place, or 0 and 0 and the value that the call is for.
@@ -28,5 +29,105 @@ pub extern "C" fn treskibben_check(section: &[u8]) -> Answer
             place: p as u64,
             value: 0,
         },
+    }
+}
+
+// By address: the first record's number, its function's number, and how many records share the address.
+#[repr(C)]
+pub struct Found {
+    pub number: u64,
+    pub place: u64,
+    pub index: u64,
+    pub function: u64,
+    pub sharing: u64,
+}
+
+// The question by address: the section's refusal, 10 exactly if no record has the address, or the first that has.
+#[no_mangle]
+pub extern "C" fn treskibben_find(section: &[u8], address: u64) -> Found
+    ensures { λ r. ⌜ r ≡ foundAt (byAddress (now (section .entry)) address) ⌝ }
+{
+    let f = questions::find::find(section, address);
+    Found {
+        number: f.number as u64,
+        place: f.place as u64,
+        index: f.index as u64,
+        function: f.function as u64,
+        sharing: f.sharing as u64,
+    }
+}
+
+// By record number: the record's first byte in the section and its length.
+#[repr(C)]
+pub struct Stands {
+    pub number: u64,
+    pub place: u64,
+    pub first: u64,
+    pub length: u64,
+}
+
+// The question by record number: the section's refusal, 10 if there is no such record, or where it stands.
+#[no_mangle]
+pub extern "C" fn treskibben_record(section: &[u8], record: u64) -> Stands
+    ensures { λ r. ⌜ r ≡ standsAt (recordPlace (now (section .entry)) «record») ⌝ }
+{
+    let l = questions::locate::locate(section, record);
+    Stands {
+        number: l.number as u64,
+        place: l.place as u64,
+        first: l.first as u64,
+        length: l.length as u64,
+    }
+}
+
+// A location. The offset is its 32 bits, which C and Rust read as a signed number.
+#[repr(C)]
+pub struct Location {
+    pub number: u64,
+    pub place: u64,
+    pub constant: u64,
+    pub offset: u32,
+    pub size: u16,
+    pub register: u16,
+    pub kind: u8,
+}
+
+// The question by record and location number: the section's refusal, 10, 11, or the location.
+#[no_mangle]
+pub extern "C" fn treskibben_location(section: &[u8], record: u64, location: u64) -> Location
+    ensures { λ r. ⌜ r ≡ placed (locationAnswer (now (section .entry)) «record» location) ⌝ }
+{
+    let l = questions::read::location(section, record, location);
+    Location {
+        number: l.number as u64,
+        place: l.place as u64,
+        constant: l.constant,
+        offset: l.offset,
+        size: l.size,
+        register: l.register,
+        kind: l.kind,
+    }
+}
+
+// A live-out.
+#[repr(C)]
+pub struct LiveOut {
+    pub number: u64,
+    pub place: u64,
+    pub register: u16,
+    pub size: u8,
+}
+
+// The question by record and live-out number: the section's refusal, 10, 11, or the live-out.
+#[no_mangle]
+pub extern "C" fn treskibben_live_out(section: &[u8], record: u64, live_out: u64) -> LiveOut
+    ensures { λ r. ⌜ r ≡ passed (liveOutAnswer (now (section .entry)) «record» «live_out») ⌝ }
+{
+    let l = questions::read::live_out(section, record, live_out);
+    LiveOut {
+        number: l.number as u64,
+        place: l.place as u64,
+        register: l.register,
+        size: l.size,
     }
 }

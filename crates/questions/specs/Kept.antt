@@ -1,0 +1,27 @@
+-- What a walk keeps of the entries that it has passed, to answer a question in one pass.
+use Prim.Native.Nat.{ℕ, suc}
+use mathlib.Core.Bool.{cond}
+use lib.Dec.{eqb}
+use Rattle.stackmap.specs.Fields.{size}
+use Rattle.stackmap.specs.Section.{recordFields, Entry, address}
+use Rattle.questions.specs.declared.Hits.{Hits}
+use Rattle.questions.specs.declared.Stretch.{Stretch}
+
+-- the first entry with the address, and how many there were
+abbrev pub noHits : Hits
+noHits = record { index = 0; function = 0; sharing = 0; first = 0 }
+
+abbrev pub hit : Entry → Hits → Hits
+hit e h =
+    cond (eqb (h .sharing) 0) (record { index = e .number; function = e .owner .number; sharing = 1; first = e .first })
+    (record { index = h .index; function = h .function; sharing = suc (h .sharing); first = h .first })
+
+unfoldable pub noted : ℕ → Entry → Hits → Hits
+noted a e h = cond (eqb (address e) a) (hit e h) h
+
+-- where the entry with the number stands; its length is 0 while it has not been passed, for no record is empty
+abbrev pub noStretch : Stretch
+noStretch = record { first = 0; length = 0 }
+
+unfoldable pub picked : ℕ → Entry → Stretch → Stretch
+picked k e h = cond (eqb (e .number) k) (record { first = e .first; length = size (recordFields (e .body)) }) h

@@ -1,0 +1,112 @@
+-- Questions on a section, in the words and order of document 01. Each is a short function of the list of entries.
+use Prim.Native.Nat.{ℕ, zero, suc, _+_, _-_, _^_}
+use mathlib.Core.Bool.{Bool, true, false, cond}
+use mathlib.Core.Option.{Option, none, some}
+use mathlib.Core.List.{List, [], _∷_}
+use lib.ListN.{length, getD, take, drop, getElem?}
+use lib.Dec.{eqb, ltb}
+use Rattle.stackmap.specs.declared.Verdict.{Verdict}
+use Rattle.stackmap.specs.declared.Verdict.the-variants.{Valid, Refused}
+use Rattle.stackmap.specs.Layout.{negativeFrom}
+use Rattle.stackmap.specs.Fields.{size}
+use Rattle.stackmap.specs.Section.{Location, LiveOut, recordFields, readSection, Entry, address, entries}
+use Rattle.stackmap.specs.Check.{sectionCheck}
+use Rattle.questions.specs.declared.Found.{Found}
+use Rattle.questions.specs.declared.Located.{Located}
+use Rattle.questions.specs.declared.LocationAnswer.{LocationAnswer}
+use Rattle.questions.specs.declared.LiveOutAnswer.{LiveOutAnswer}
+
+-- Every question first gives the section's own refusal, if any.
+unfoldable pub ask : {A : Type 0} → (ℕ → ℕ → A) → A → Verdict → A
+ask refused answer (Refused n p) = refused n p
+ask refused answer (Valid e) = answer
+
+-- what is asked for, or else the refusal
+abbrev pub among : {A B : Type 0} → A → (B → A) → Option B → A
+among missing found none = missing
+among missing found (some x) = found x
+
+-- By address: the first record with that address in section order, its number, its function's number, and how many records
+-- share the address; 10 exactly if none does. (`first` is the record's first byte, for the layers above.)
+
+unfoldable pub withAddress : ℕ → List Entry → List Entry
+withAddress a [] = []
+withAddress a (e ∷ es) = cond (eqb (address e) a) (e ∷ withAddress a es) (withAddress a es)
+
+abbrev pub notFound : ℕ → ℕ → Found
+notFound n p = record { number = n; place = p; index = 0; function = 0; sharing = 0; first = 0 }
+
+abbrev pub firstOf : List Entry → Found
+firstOf [] = notFound 10 0
+firstOf (e ∷ es) =
+    record {
+      number = 0;
+      place = 0;
+      index = e .number;
+      function = e .owner .number;
+      sharing = length (e ∷ es);
+      first = e .first;
+    }
+
+unfoldable pub byAddress : List ℕ → ℕ → Found
+byAddress s a = ask notFound (firstOf (withAddress a (entries s))) (sectionCheck s)
+
+-- By record number: the record's bytes themselves, from the ID to the last padding byte; an empty part on any refusal, whose
+-- number and place are a question of their own.
+
+abbrev pub notLocated : ℕ → ℕ → Located
+notLocated n p = record { number = n; place = p; first = 0; length = 0 }
+
+abbrev pub located : Entry → Located
+located e = record { number = 0; place = 0; first = e .first; length = size (recordFields (e .body)) }
+
+unfoldable pub recordPlace : List ℕ → ℕ → Located
+recordPlace s k = ask notLocated (among (notLocated 10 0) located (getElem? (entries s) k)) (sectionCheck s)
+
+unfoldable pub recordPart : List ℕ → ℕ → List ℕ
+recordPart s k = take (recordPlace s k .length) (drop (recordPlace s k .first) s)
+
+-- By record and location number: kind, size, register, offset, and the 64-bit constant, 0 for kinds 1 to 3. 10 before 11.
+
+-- kind 4: the offset sign-extended; kind 5: pool entry number offset
+unfoldable pub constantOf : List ℕ → Location → ℕ
+constantOf pool l =
+    cond (eqb (l .kind) 4) (cond (ltb (l .offset) negativeFrom) (l .offset) (l .offset + (2 ^ 64 - 2 ^ 32)))
+    (cond (eqb (l .kind) 5) (getD pool (l .offset) 0) 0)
+
+abbrev pub noLocation : ℕ → ℕ → LocationAnswer
+noLocation n p = record { number = n; place = p; kind = 0; size = 0; register = 0; offset = 0; constant = 0 }
+
+abbrev pub thisLocation : List ℕ → Location → LocationAnswer
+thisLocation pool l =
+    record {
+      number = 0;
+      place = 0;
+      kind = l .kind;
+      size = l .size;
+      register = l .register;
+      offset = l .offset;
+      constant = constantOf pool l;
+    }
+
+unfoldable pub locationAnswer : List ℕ → ℕ → ℕ → LocationAnswer
+locationAnswer s k j =
+    ask noLocation
+    (among (noLocation 10 0)
+    (λ e. among (noLocation 11 0) (thisLocation (readSection s .constants)) (getElem? (e .body .locations) j))
+    (getElem? (entries s) k))
+    (sectionCheck s)
+
+-- Live-outs likewise.
+
+abbrev pub noLiveOut : ℕ → ℕ → LiveOutAnswer
+noLiveOut n p = record { number = n; place = p; register = 0; size = 0 }
+
+abbrev pub thisLiveOut : LiveOut → LiveOutAnswer
+thisLiveOut o = record { number = 0; place = 0; register = o .register; size = o .size }
+
+unfoldable pub liveOutAnswer : List ℕ → ℕ → ℕ → LiveOutAnswer
+liveOutAnswer s k j =
+    ask noLiveOut
+    (among (noLiveOut 10 0) (λ e. among (noLiveOut 11 0) thisLiveOut (getElem? (e .body .liveOuts) j)) (getElem? (entries s) k))
+    (sectionCheck s)

@@ -1,0 +1,119 @@
+// The question by address.
+ghost use mathlib.Core.Path.{_≡_};
+ghost use Prim.Native.Nat.{_+_, _*_, _^_, _≤_, _<_};
+ghost use lib.ListN.{length, drop};
+ghost use Rattle.stackmap.specs.Section.{numFunctions, constantsAt, recordsAt, readRecord, entries};
+ghost use Rattle.stackmap.specs.Check.{walkCheck};
+ghost use Rattle.stackmap.specs.Walk.{entryAt, Walkable};
+ghost use Rattle.questions.specs.Kept.{noted};
+ghost use Rattle.questions.specs.Questions.{ask, withAddress, notFound, firstOf, byAddress};
+use crate::Found;
+use crate::Hits;
+use stackmap::Verdict;
+use stackmap::layout;
+use stackmap::tables;
+use stackmap::walk;
+use stackmap::walk::Turn;
+
+// A refusal, with zeros in all other fields.
+fn refused(number: u8, place: usize) -> Found
+    ensures { λ r. ⌜ r ≡ notFound number place ⌝ }
+{
+    Found {
+        number,
+        place,
+        index: 0,
+        function: 0,
+        sharing: 0,
+        first: 0,
+    }
+}
+
+// Notes the record `index` at `at`, of function number `function`, if it has the address.
+fn note(s: &[u8], address: u64, index: usize, function: usize, at: usize, hits: Hits) -> Hits
+    requires { ⌜ (constantsAt (now s) ≤ length (now s)) × (function < numFunctions (now s)) × (at + 16 ≤ length (now s)) × (hits .sharing ≤ index) × (index < 2 ^ 32) ⌝ }
+    ensures { λ r. ⌜ (r ≡ noted address (entryAt (now (s .entry)) index function at) hits) × (r .sharing ≤ index + 1) ⌝ }
+{
+    let start = wire::u64_at(s, layout::HEADER_SIZE + layout::FUNCTION_SIZE * function);
+    let offset = wire::u32_at(s, at + layout::INSTRUCTION_OFFSET_AT) as u64;
+    if address < start {
+        return hits;
+    }
+    let gap = address - start;
+    if gap != offset {
+        return hits;
+    }
+    if hits.sharing < 1 {
+        return Hits {
+            index,
+            function,
+            sharing: 1,
+            first: at,
+        };
+    }
+    Hits {
+        index: hits.index,
+        function: hits.function,
+        sharing: hits.sharing + 1,
+        first: hits.first,
+    }
+}
+
+// The walk from the first record's byte: all records, with what the search keeps; then 9, then 10.
+fn search(s: &[u8], at: usize, address: u64) -> Found
+    requires { ⌜ Walkable (now s) × (at ≡ recordsAt (now s)) × (at ≤ length (now s)) ⌝ }
+    ensures { λ r. ⌜ r ≡ ask notFound (firstOf (withAddress address (entries (now (s .entry))))) (walkCheck (now (s .entry))) ⌝ }
+{
+    let constants = wire::u32_at(s, layout::NUM_CONSTANTS_AT);
+    let mut remaining = wire::u32_at(s, layout::NUM_RECORDS_AT);
+    let mut index: usize = 0;
+    let mut turn = Turn { next: 0, left: 0 };
+    let mut p = at;
+    let mut hits = Hits {
+        index: 0,
+        function: 0,
+        sharing: 0,
+        first: 0,
+    };
+    while remaining > 0 {
+        let t = walk::owner(s, turn);
+        let next = t.next;
+        match walk::record_at(s, constants, next - 1, p) {
+            Verdict::Refused(n, q) => return refused(n, q),
+            Verdict::Valid(end) => {
+                hits = note(s, address, index, next - 1, p, hits);
+                p = end;
+            }
+        }
+        turn = Turn {
+            next,
+            left: t.left - 1,
+        };
+        index += 1;
+        remaining -= 1;
+    }
+    if p != s.len() {
+        return refused(9, p);
+    }
+    if hits.sharing == 0 {
+        return refused(10, 0);
+    }
+    Found {
+        number: 0,
+        place: 0,
+        index: hits.index,
+        function: hits.function,
+        sharing: hits.sharing,
+        first: hits.first,
+    }
+}
+
+// The first record with the address, or 10 exactly if there is none.
+pub fn find(s: &[u8], address: u64) -> Found
+    ensures { λ r. ⌜ r ≡ byAddress (now (s .entry)) address ⌝ }
+{
+    match tables::begin(s) {
+        Verdict::Refused(n, p) => refused(n, p),
+        Verdict::Valid(at) => search(s, at, address),
+    }
+}

@@ -1,0 +1,107 @@
+// The question by record number.
+ghost use mathlib.Core.Path.{_≡_};
+ghost use Prim.Native.Nat.{ℕ, _+_, _≤_};
+ghost use lib.ListN.{length, drop, getElem?};
+ghost use Rattle.stackmap.specs.Section.{recordsAt, recordLength, entries};
+ghost use Rattle.stackmap.specs.Check.{walkCheck};
+ghost use Rattle.stackmap.specs.Walk.{entryAt, Walkable};
+ghost use Rattle.questions.specs.Kept.{picked};
+ghost use Rattle.questions.specs.Questions.{ask, among, notLocated, located, recordPlace, recordPart};
+use crate::Located;
+use crate::Stretch;
+use stackmap::Verdict;
+use stackmap::layout;
+use stackmap::tables;
+use stackmap::walk;
+use stackmap::walk::Turn;
+
+// A refusal, with zeros in all other fields.
+fn refused(number: u8, place: usize) -> Located
+    ensures { λ r. ⌜ r ≡ notLocated number place ⌝ }
+{
+    Located {
+        number,
+        place,
+        first: 0,
+        length: 0,
+    }
+}
+
+// Keeps where the record `index` stands, from `at` to `end`, if it is the wanted one.
+fn keep(s: &[u8], wanted: u64, index: u64, at: usize, end: usize, kept: Stretch) -> Stretch
+    requires { ⌜ (end ≡ at + recordLength (drop at (now s))) × (kept .first + kept .length ≤ at) ⌝ }
+    ensures { λ r. ⌜ ((i : ℕ) → r ≡ picked wanted (entryAt (now (s .entry)) index i at) kept) × (r .first + r .length ≤ end) ⌝ }
+{
+    if index == wanted {
+        return Stretch {
+            first: at,
+            length: end - at,
+        };
+    }
+    kept
+}
+
+// The walk from the first record's byte: all records, with where the wanted one stands; then 9, then 10.
+fn search(s: &[u8], at: usize, wanted: u64) -> Located
+    requires { ⌜ Walkable (now s) × (at ≡ recordsAt (now s)) × (at ≤ length (now s)) ⌝ }
+    ensures { λ r. ⌜ (r ≡ ask notLocated (among (notLocated 10 0) located (getElem? (entries (now (s .entry))) wanted)) (walkCheck (now (s .entry)))) × (r .first + r .length ≤ length (now (s .entry))) ⌝ }
+{
+    let constants = wire::u32_at(s, layout::NUM_CONSTANTS_AT);
+    let mut remaining = wire::u32_at(s, layout::NUM_RECORDS_AT);
+    let mut index: u64 = 0;
+    let mut turn = Turn { next: 0, left: 0 };
+    let mut p = at;
+    let mut kept = Stretch {
+        first: 0,
+        length: 0,
+    };
+    while remaining > 0 {
+        let t = walk::owner(s, turn);
+        let next = t.next;
+        match walk::record_at(s, constants, next - 1, p) {
+            Verdict::Refused(n, q) => return refused(n, q),
+            Verdict::Valid(end) => {
+                kept = keep(s, wanted, index, p, end, kept);
+                p = end;
+            }
+        }
+        turn = Turn {
+            next,
+            left: t.left - 1,
+        };
+        index += 1;
+        remaining -= 1;
+    }
+    if p != s.len() {
+        return refused(9, p);
+    }
+    if kept.length == 0 {
+        return refused(10, 0);
+    }
+    Located {
+        number: 0,
+        place: 0,
+        first: kept.first,
+        length: kept.length,
+    }
+}
+
+// Where the record of that number stands, or 10 if there is none.
+pub fn locate(s: &[u8], wanted: u64) -> Located
+    ensures { λ r. ⌜ (r ≡ recordPlace (now (s .entry)) wanted) × (r .first + r .length ≤ length (now (s .entry))) ⌝ }
+{
+    match tables::begin(s) {
+        Verdict::Refused(n, p) => refused(n, p),
+        Verdict::Valid(at) => search(s, at, wanted),
+    }
+}
+
+// The record's bytes themselves, a part of the section; the empty part on any refusal.
+pub fn record(s: &[u8], wanted: u64) -> &[u8]
+    ensures { λ r. ⌜ now r ≡ recordPart (now (s .entry)) wanted ⌝ }
+{
+    let l = locate(s, wanted);
+    let first = l.first;
+    let end = first + l.length;
+    &s[first..end]
+}
