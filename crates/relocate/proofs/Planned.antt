@@ -14,7 +14,7 @@ use Rattle.moves.specs.Pointers.{Pointer, null, slots}
 use Rattle.moves.specs.Plan.{Plan, refuse, window}
 use Rattle.moves.proofs.Lists.{Sound}
 use Rattle.relocate.specs.declared.Frame.{Frame}
-use Rattle.relocate.specs.Lookup.{withAddress}
+use Rattle.questions.specs.Questions.{ask, withAddress}
 use Rattle.relocate.specs.Statepoint.{Pair, pairs, isNull, slotInside, slotAt, registerOf, excess, inside, pointerOf}
 use Rattle.relocate.specs.Plan.{need, only, every, stackSize, extentRight, planEntry, plan}
 
@@ -149,7 +149,7 @@ module _ (s olds news : List ℕ) (first n : ℕ) (f : Frame) where
     pub insides : (p : Pair) → List·Memᴰ p (pairs (entry .body)) → inside pool f (stackSize entry) p ≡ true
 
   pub planned : (e : ℕ) → sectionCheck s ≡ Valid e → (off size : ℕ) (ws : List Pointer) → plan s olds news first n f ≡ window off size ws → Planned off size ws
-  unfolding plan planEntry extentRight
+  unfolding plan planEntry extentRight ask
   planned e k off size ws h =
       let h₀ = need-held _ _ _ (need-held _ _ _ (rw k at h) .1) in
       let o = only-held _ _ (h₀ .1) in
@@ -174,7 +174,7 @@ module _ (s olds news : List ℕ) (first n : ℕ) (f : Frame) where
       }
 
   pub plan-above : (e : ℕ) → sectionCheck s ≡ Valid e → Above (plan s olds news first n f)
-  unfolding plan planEntry
+  unfolding plan planEntry ask
   plan-above e k =
       rw k
       (need-above _ 12 _ (need-above _ 13 _ (only-above _ _ (λ x.

@@ -23,7 +23,7 @@ use Rattle.moves.proofs.Splice.{part-length}
 use Rattle.moves.proofs.Order.{Alike, settle-perm}
 use Rattle.moves.proofs.Lists.{Sound}
 use Rattle.relocate.specs.declared.Frame.{Frame}
-use Rattle.relocate.specs.Lookup.{withAddress}
+use Rattle.questions.specs.Questions.{ask, withAddress}
 use Rattle.relocate.specs.Statepoint.{Pair, pairs, rightForm, inside, pointerOf}
 use Rattle.relocate.specs.Plan.{need, only, every, stackSize, extentRight, planEntry, plan}
 use Rattle.relocate.specs.Relocation.{answer, moved}
@@ -128,7 +128,7 @@ module _ (s s′ : List ℕ) (w : Bytes s) (o : OtherOrder s s′) where
 
   module _ (olds news : List ℕ) (first : ℕ) (im : List ℕ) (f : Frame) where
     same-plan : SamePlan (plan s olds news first (length im) f) (plan s′ olds news first (length im) f)
-    unfolding plan entries
+    unfolding plan entries ask
     same-plan =
         rw (o .accepted, now-accepted, now-read)
         (same-need _ 13 _ _ (same-need _ 14 _ _

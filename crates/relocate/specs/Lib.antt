@@ -1,5 +1,4 @@
 pub mod Limits
-pub mod Lookup
 pub mod Statepoint
 pub mod Plan
 pub mod Relocation

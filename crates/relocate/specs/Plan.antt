@@ -13,7 +13,7 @@ use Rattle.moves.specs.Table.{tableRight}
 use Rattle.moves.specs.Plan.{Plan, refuse, window}
 use Rattle.relocate.specs.declared.Frame.{Frame}
 use Rattle.relocate.specs.Limits.{imageMost}
-use Rattle.relocate.specs.Lookup.{ask, withAddress}
+use Rattle.questions.specs.Questions.{ask, withAddress}
 use Rattle.relocate.specs.Statepoint.{isStatepoint, Pair, pairs, rightForm, inside, pointerOf}
 
 -- go on where the test holds, and else this refusal, at place 0

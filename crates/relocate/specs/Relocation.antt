@@ -13,7 +13,7 @@ use Rattle.moves.specs.Table.{lookUp}
 use Rattle.moves.specs.Pointers.{orZero}
 use Rattle.moves.specs.Plan.{says, leaves}
 use Rattle.relocate.specs.declared.Frame.{Frame}
-use Rattle.relocate.specs.Lookup.{withAddress}
+use Rattle.questions.specs.Questions.{withAddress}
 use Rattle.relocate.specs.Statepoint.{Pair, pairs, isNull, registerOf, excess}
 use Rattle.relocate.specs.Plan.{plan, stackSize}
 

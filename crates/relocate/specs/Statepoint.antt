@@ -10,7 +10,7 @@ use Rattle.moves.specs.Limits.{pointerSize}
 use Rattle.moves.specs.Pointers.{Pointer, null, slots}
 use Rattle.relocate.specs.declared.Frame.{Frame}
 use Rattle.relocate.specs.Limits.{RBP, RSP, kindIndirect, kindConstant, headLocations, deoptAt}
-use Rattle.relocate.specs.Lookup.{constantOf}
+use Rattle.questions.specs.Questions.{constantOf}
 
 -- what is read past the last location
 abbrev pub noLocation : Location
