@@ -1,3 +1,7 @@
+pub mod Pairing
+pub mod Places
+pub mod Records
+pub mod Forms
 pub mod Planned
 pub mod Demand
 pub mod Fits

@@ -1,25 +1,22 @@
 -- A reordered section is accepted, and its entries are like the first one's.
 use Prim.Native.Nat.{ℕ, suc, _+_, _-_, _*_, _%_, _≤_, _<_}
 use mathlib.Core.Path.{_≡_, refl, sym, ap, _∙_}
-use mathlib.Core.Bool.{true, _&&_}
+use mathlib.Core.Bool.{true}
 use mathlib.Core.Logic.{_⊎_, inl, inr, ⊎-elim}
 use mathlib.Core.List.{List, [], _∷_, _++_, List·Memᴰ, List·Memᴰ·head, List·Memᴰ·tail, List·Memᴰ·not-nil, List·Memᴰ·cases-cons, List·Memᴰ·append-cases, Memᴰ·append-left, Memᴰ·append-right, List·Permᴰ, Permᴰ·refl, Permᴰ·symm}
 use native.Mathlib.Omega.{arith}
-use borrow.Author.Tests.{eqb-true, leb-true}
-use lib.Dec.{eqb, leb, ltb}
 use lib.ListN.{length, getD, take, drop, length-append, length-drop, take-append-drop, List·getD-append}
 use lib.Seq.{length-take-le, drop-at, getD-take}
-use Rattle.stackmap.specs.Layout.{negativeFrom}
 use Rattle.stackmap.specs.Fields.{Field, size, Fit, all}
 use Rattle.stackmap.specs.Section.{Location, Record, Section, functionFields, constantFields, locationFields, liveOutFields, recordHead, recordMiddle, recordEnd, recordFields, header, sectionFields, Encodable, Owner, Entry, address, owners, entriesFrom, entriesOf}
 use Rattle.stackmap.specs.Fault.{GoodEntry, WellFormed}
 use Rattle.stackmap.proofs.Fields.{size-append}
 use Rattle.stackmap.proofs.Back.{record-size, section-size}
 use Rattle.moves.proofs.Searches.{perm-mem, perm-length}
-use Rattle.relocate.specs.Statepoint.{noLocation, locationAt, deoptCount, pairsAt, isConstant, isStatepoint, Pair, pairUp, pairs}
+use Rattle.relocate.specs.Statepoint.{noLocation, deoptCount, pairsAt, constantHead, pairedRest, isStatepoint, Pair, pairUp, pairs}
 use Rattle.relocate.specs.Reorder.{unpair, Reordered, EachReordered}
 use Rattle.relocate.proofs.Fits.{fit-join, fit-first, fit-second, fit-each, each-fit}
-use Rattle.relocate.proofs.Planned.{and-true}
+use Rattle.relocate.proofs.Pairing.{statepoint-tells}
 
 pair-unpair : (ps : List Pair) → pairUp (unpair ps) ≡ ps
 unfolding pairUp unpair
@@ -77,24 +74,8 @@ module _ (r : Record) (ps : List Pair) (sp : isStatepoint r ≡ true) (perm : Li
   abbrev r′ : Record
   r′ = record { id = r .id; offset = r .offset; locations = take n ls ++ unpair ps; liveOuts = r .liveOuts }
 
-  -- what a statepoint tells
   tells : (n ≤ length ls) × ((length ls - n) % 2 ≡ 0)
-  unfolding isStatepoint
-  tells =
-      let b₇ = eqb (length (r .liveOuts)) 0 in
-      let b₆ = eqb ((length ls - n) % 2) 0 && b₇ in
-      let b₅ = leb n (length ls) && b₆ in
-      let b₄ = ltb (deoptCount r) negativeFrom && b₅ in
-      let b₃ = isConstant (locationAt r 2) && b₄ in
-      let b₂ = isConstant (locationAt r 1) && b₃ in
-      let b₁ = isConstant (locationAt r 0) && b₂ in
-      let h₁ = and-true (leb 3 (length ls)) b₁ sp .1 in
-      let h₂ = and-true (isConstant (locationAt r 0)) b₂ h₁ .1 in
-      let h₃ = and-true (isConstant (locationAt r 1)) b₃ h₂ .1 in
-      let h₄ = and-true (isConstant (locationAt r 2)) b₄ h₃ .1 in
-      let h₅ = and-true (ltb (deoptCount r) negativeFrom) b₅ h₄ .1 in
-      let h₆ = and-true (leb n (length ls)) b₆ h₅ in
-      (leb-true _ _ (h₆ .0), eqb-true _ _ (and-true (eqb ((length ls - n) % 2) 0) b₇ (h₆ .1) .0))
+  tells = let t = statepoint-tells r sp in (t .room, t .even)
 
   whole : ls ≡ take n ls ++ unpair (pairs r)
   unfolding pairs
@@ -125,7 +106,7 @@ module _ (r : Record) (ps : List Pair) (sp : isStatepoint r ≡ true) (perm : Li
   pairs-same = rw (deopt-same, drop-at (take n ls) (unpair ps) n front) (pair-unpair ps)
 
   statepoint-is : isStatepoint r′ ≡ isStatepoint r
-  unfolding isStatepoint
+  unfolding isStatepoint constantHead pairedRest
   statepoint-is = rw (length-same, early 0 (omega arith), early 1 (omega arith), early 2 (omega arith), deopt-same)
 
   from : (l : Location) → List·Memᴰ l (r′ .locations) → List·Memᴰ l ls

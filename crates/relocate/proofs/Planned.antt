@@ -1,7 +1,7 @@
 -- What a plan that is a window tells.
 use Prim.Native.Nat.{ℕ, suc, _+_, _-_, _≤_, _<_}
 use mathlib.Core.Path.{_≡_, refl, sym, _∙_}
-use mathlib.Core.Bool.{Bool, true, false, not, _&&_}
+use mathlib.Core.Bool.{Bool, true, false, not}
 use mathlib.Core.Logic.{_⊎_, inl, inr}
 use mathlib.Core.List.{List, [], _∷_, map, List·Memᴰ, Memᴰ·of-map, List·Memᴰ·not-nil, List·Memᴰ·cases-cons}
 use native.Mathlib.Omega.{arith}
@@ -16,11 +16,8 @@ use Rattle.moves.proofs.Lists.{Sound}
 use Rattle.relocate.specs.declared.Frame.{Frame}
 use Rattle.questions.specs.Questions.{ask, withAddress}
 use Rattle.relocate.specs.Statepoint.{Pair, pairs, isNull, slotInside, slotAt, registerOf, excess, inside, pointerOf}
-use Rattle.relocate.specs.Plan.{need, only, every, stackSize, extentRight, planEntry, plan}
-
-pub and-true : (a b : Bool) → (a && b) ≡ true → (a ≡ true) × (b ≡ true)
-and-true true b h = (refl, h)
-and-true false b h = absurd (let z : _≡_ {A = ℕ} 0 1 = cc in omega arith)
+use Rattle.relocate.proofs.Pairing.{and-true}
+use Rattle.relocate.specs.Plan.{need, only, every, stackSize, extentRight, planPairs, planEntry, plan}
 
 not-true : (a : Bool) → not a ≡ true → a ≡ false
 not-true true h = absurd (let z : _≡_ {A = ℕ} 0 1 = cc in omega arith)
@@ -149,7 +146,7 @@ module _ (s olds news : List ℕ) (first n : ℕ) (f : Frame) where
     pub insides : (p : Pair) → List·Memᴰ p (pairs (entry .body)) → inside pool f (stackSize entry) p ≡ true
 
   pub planned : (e : ℕ) → sectionCheck s ≡ Valid e → (off size : ℕ) (ws : List Pointer) → plan s olds news first n f ≡ window off size ws → Planned off size ws
-  unfolding plan planEntry extentRight ask
+  unfolding plan planEntry planPairs extentRight ask
   planned e k off size ws h =
       let h₀ = need-held _ _ _ (need-held _ _ _ (rw k at h) .1) in
       let o = only-held _ _ (h₀ .1) in
@@ -174,7 +171,7 @@ module _ (s olds news : List ℕ) (first n : ℕ) (f : Frame) where
       }
 
   pub plan-above : (e : ℕ) → sectionCheck s ≡ Valid e → Above (plan s olds news first n f)
-  unfolding plan planEntry ask
+  unfolding plan planEntry planPairs ask
   plan-above e k =
       rw k
       (need-above _ 12 _ (need-above _ 13 _ (only-above _ _ (λ x.

@@ -44,15 +44,20 @@ unfoldable pub extentRight : ℕ → ℕ → Frame → Entry → Bool
 extentRight first n f e =
     not (eqb (stackSize e) stackSizeUnknown) && (leb first (f .rsp) && leb (f .rsp + stackSize e) (first + n))
 
+-- 18, 19, of the pairs of a frame whose extent is known: `size` bytes of the image, from `off`
+unfoldable pub planPairs : List ℕ → Frame → ℕ → ℕ → List Pair → Plan
+planPairs pool f off size ps =
+    every (rightForm pool) 18 0 ps
+    (every (inside pool f size) 19 0 ps
+    (window off size (map (pointerOf pool f) ps)))
+
 -- 12, 16, 17, 18, 19, of a frame's one record
 unfoldable pub planEntry : List ℕ → ℕ → ℕ → Frame → Entry → Plan
 planEntry pool first n f e =
     need (isStatepoint (e .body)) 12
     (need (extentRight first n f e) 16
     (need (leb (length (pairs (e .body))) pairsMost) 17
-    (every (rightForm pool) 18 0 (pairs (e .body))
-    (every (inside pool f (stackSize e)) 19 0 (pairs (e .body))
-    (window (f .rsp - first) (stackSize e) (map (pointerOf pool f) (pairs (e .body))))))))
+    (planPairs pool f (f .rsp - first) (stackSize e) (pairs (e .body)))))
 
 -- of a frame in an image of n bytes from `first`
 unfoldable pub plan : List ℕ → List ℕ → List ℕ → ℕ → ℕ → Frame → Plan

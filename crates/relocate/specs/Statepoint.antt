@@ -30,16 +30,20 @@ pairsAt r = headLocations + deoptCount r
 abbrev pub isConstant : Location → Bool
 isConstant l = eqb (l .kind) kindConstant
 
--- at least three locations, the first three have kind 4, D is not negative, 3 + D is at most NumLocations, an even number
--- remains, and there are no live-outs
-unfoldable pub isStatepoint : Record → Bool
-isStatepoint r =
-    leb headLocations (length (r .locations))
-    && (isConstant (locationAt r 0) && (isConstant (locationAt r 1) && (isConstant (locationAt r 2)
-    && (ltb (deoptCount r) negativeFrom
+unfoldable pub constantHead : Record → Bool
+constantHead r = isConstant (locationAt r 0) && (isConstant (locationAt r 1) && isConstant (locationAt r 2))
+
+-- D is not negative, 3 + D is at most NumLocations, an even number remains, and there are no live-outs
+unfoldable pub pairedRest : Record → Bool
+pairedRest r =
+    ltb (deoptCount r) negativeFrom
     && (leb (pairsAt r) (length (r .locations))
     && (eqb ((length (r .locations) - pairsAt r) % 2) 0
-    && eqb (length (r .liveOuts)) 0))))))
+    && eqb (length (r .liveOuts)) 0))
+
+-- A record is a statepoint if it has at least three locations, the first three have kind 4, and the rest is so.
+unfoldable pub isStatepoint : Record → Bool
+isStatepoint r = leb headLocations (length (r .locations)) && (constantHead r && pairedRest r)
 
 -- the locations of a pair, base first
 pub record Pair : Type 0 where
@@ -57,7 +61,7 @@ pairs r = pairUp (drop (pairsAt r) (r .locations))
 
 -- a constant equal to 0 (kind 4 or 5)
 unfoldable pub isZero : List ℕ → Location → Bool
-isZero pool l = (eqb (l .kind) kindConstant || eqb (l .kind) kindConstIndex) && eqb (constantOf pool l) 0
+isZero pool l = eqb (constantOf pool l) 0 && (eqb (l .kind) kindConstant || eqb (l .kind) kindConstIndex)
 
 -- a pair is null if both locations are constants equal to 0
 unfoldable pub isNull : List ℕ → Pair → Bool
