@@ -25,11 +25,11 @@ list-at f (suc k) i zero h = ap f (omega arith)
 list-at f (suc k) i (suc j) h = list-at f k (suc i) j (omega arith) ∙ ap f (omega arith)
 
 module _ (live bs ds : List ℕ) (n : ℕ) where
-  pointers-length : length (pointersOf n live bs ds) ≡ n
+  pub pointers-length : length (pointersOf n live bs ds) ≡ n
   unfolding pointersOf
   pointers-length = list-length (pointerAt live bs ds) n 0
 
-  pointers-at : (k : ℕ) → k < n → getD (pointersOf n live bs ds) k null ≡ pointerAt live bs ds k
+  pub pointers-at : (k : ℕ) → k < n → getD (pointersOf n live bs ds) k null ≡ pointerAt live bs ds k
   unfolding pointersOf
   pointers-at k h = list-at (pointerAt live bs ds) n 0 k h ∙ ap (pointerAt live bs ds) (omega arith)
 

@@ -94,6 +94,11 @@ pub lowest-fine : (bad : ℕ → Bool) (n : ℕ) → n ≤ lowest bad n → Fine
 unfolding Fine lowest
 lowest-fine bad n e k h = lowest-no bad n 0 (omega arith) k (omega arith) (omega arith)
 
+-- none is bad
+pub lowest-all : (bad : ℕ → Bool) (n : ℕ) → n ≤ lowest bad n → (k : ℕ) → k < n → bad k ≡ false
+unfolding Fine
+lowest-all bad n h = lowest-fine bad n h
+
 -- a test of each member; a symmetric test of each two members: finding none does not depend on the order
 module _ {A : Type 0} (d : A) where
   module _ (u : A → Bool) where

@@ -17,7 +17,7 @@ use Rattle.relocate.specs.declared.Frame.{Frame}
 use Rattle.questions.specs.Questions.{ask, withAddress}
 use Rattle.relocate.specs.Statepoint.{Pair, pairs, isNull, slotInside, slotAt, registerOf, excess, inside, pointerOf}
 use Rattle.relocate.proofs.Pairing.{and-true}
-use Rattle.relocate.specs.Plan.{need, only, every, stackSize, extentRight, planPairs, planEntry, plan}
+use Rattle.relocate.specs.Plan.{need, only, every, stackSize, extentRight, planPairs, planRecord, plan}
 
 not-true : (a : Bool) → not a ≡ true → a ≡ false
 not-true true h = absurd (let z : _≡_ {A = ℕ} 0 1 = cc in omega arith)
@@ -146,7 +146,7 @@ module _ (s olds news : List ℕ) (first n : ℕ) (f : Frame) where
     pub insides : (p : Pair) → List·Memᴰ p (pairs (entry .body)) → inside pool f (stackSize entry) p ≡ true
 
   pub planned : (e : ℕ) → sectionCheck s ≡ Valid e → (off size : ℕ) (ws : List Pointer) → plan s olds news first n f ≡ window off size ws → Planned off size ws
-  unfolding plan planEntry planPairs extentRight ask
+  unfolding plan planRecord planPairs extentRight ask
   planned e k off size ws h =
       let h₀ = need-held _ _ _ (need-held _ _ _ (rw k at h) .1) in
       let o = only-held _ _ (h₀ .1) in
@@ -171,7 +171,7 @@ module _ (s olds news : List ℕ) (first n : ℕ) (f : Frame) where
       }
 
   pub plan-above : (e : ℕ) → sectionCheck s ≡ Valid e → Above (plan s olds news first n f)
-  unfolding plan planEntry planPairs ask
+  unfolding plan planRecord planPairs ask
   plan-above e k =
       rw k
       (need-above _ 12 _ (need-above _ 13 _ (only-above _ _ (λ x.

@@ -36,6 +36,10 @@ module _ (s : List ℕ) (at : ℕ) where
   unfolding recordLength
   location-inside h j l = let i = h .inside in omega arith
 
+  pub locations-inside : Stands s at → at + 16 + 12 * numLocations (drop at s) ≤ length s
+  unfolding recordLength
+  locations-inside h = let i = h .inside in omega arith
+
   pub head-inside : Stands s at → at + 16 ≤ length s
   unfolding recordLength
   head-inside h = let i = h .inside in omega arith

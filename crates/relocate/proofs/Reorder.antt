@@ -25,7 +25,7 @@ use Rattle.moves.proofs.Lists.{Sound}
 use Rattle.relocate.specs.declared.Frame.{Frame}
 use Rattle.questions.specs.Questions.{ask, withAddress}
 use Rattle.relocate.specs.Statepoint.{Pair, pairs, rightForm, inside, pointerOf}
-use Rattle.relocate.specs.Plan.{need, only, every, stackSize, extentRight, planPairs, planEntry, plan}
+use Rattle.relocate.specs.Plan.{need, only, every, stackSize, planPairs, planRecord, planEntry, plan}
 use Rattle.relocate.specs.Relocation.{answer, moved}
 use Rattle.relocate.specs.Reorder.{OtherOrder, PairOrder}
 use Rattle.relocate.proofs.Planned.{every-yes, every-no, sound}
@@ -69,7 +69,7 @@ same-every good n i ps qs k k′ late perm h = go _ _ (tested good n i ps k) (te
     go x y (failed q j m b e) (failed q′ j′ m′ b′ f) = rw (e, f) (refusals {n = n} (λ l. absurd (omega arith)))
 
 same-entry : (pool : List ℕ) (first n : ℕ) (f : Frame) (e e′ : Entry) → EntryLike e e′ → SamePlan (planEntry pool first n f e) (planEntry pool first n f e′)
-unfolding planEntry planPairs extentRight
+unfolding planRecord planPairs
 same-entry pool first n f e e′ l =
     let p = l .body-like .pairs-perm in
     let o = l .owner-same in

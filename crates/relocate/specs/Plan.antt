@@ -6,7 +6,7 @@ use mathlib.Core.List.{List, [], _∷_, map}
 use lib.ListN.{length}
 use lib.Dec.{eqb, leb}
 use Rattle.stackmap.specs.Layout.{addressMost, stackSizeUnknown}
-use Rattle.stackmap.specs.Section.{Entry, entries, readSection}
+use Rattle.stackmap.specs.Section.{Record, Entry, entries, readSection}
 use Rattle.stackmap.specs.Check.{sectionCheck}
 use Rattle.moves.specs.Limits.{pairsMost}
 use Rattle.moves.specs.Table.{tableRight}
@@ -40,9 +40,9 @@ abbrev pub stackSize : Entry → ℕ
 stackSize e = e .owner .function .stackSize
 
 -- 16: stack size unknown, or extent not inside the image of n bytes from `first`
-unfoldable pub extentRight : ℕ → ℕ → Frame → Entry → Bool
-extentRight first n f e =
-    not (eqb (stackSize e) stackSizeUnknown) && (leb first (f .rsp) && leb (f .rsp + stackSize e) (first + n))
+unfoldable pub extentRight : ℕ → ℕ → ℕ → ℕ → Bool
+extentRight first n rsp size =
+    not (eqb size stackSizeUnknown) && (leb first rsp && leb (rsp + size) (first + n))
 
 -- 18, 19, of the pairs of a frame whose extent is known: `size` bytes of the image, from `off`
 unfoldable pub planPairs : List ℕ → Frame → ℕ → ℕ → List Pair → Plan
@@ -51,13 +51,16 @@ planPairs pool f off size ps =
     (every (inside pool f size) 19 0 ps
     (window off size (map (pointerOf pool f) ps)))
 
--- 12, 16, 17, 18, 19, of a frame's one record
-unfoldable pub planEntry : List ℕ → ℕ → ℕ → Frame → Entry → Plan
-planEntry pool first n f e =
-    need (isStatepoint (e .body)) 12
-    (need (extentRight first n f e) 16
-    (need (leb (length (pairs (e .body))) pairsMost) 17
-    (planPairs pool f (f .rsp - first) (stackSize e) (pairs (e .body)))))
+-- 12, 16, 17, 18, 19, of a frame whose one record is r, of a function with this stack size
+unfoldable pub planRecord : List ℕ → ℕ → ℕ → Frame → ℕ → Record → Plan
+planRecord pool first n f size r =
+    need (isStatepoint r) 12
+    (need (extentRight first n (f .rsp) size) 16
+    (need (leb (length (pairs r)) pairsMost) 17
+    (planPairs pool f (f .rsp - first) size (pairs r))))
+
+abbrev pub planEntry : List ℕ → ℕ → ℕ → Frame → Entry → Plan
+planEntry pool first n f e = planRecord pool first n f (stackSize e) (e .body)
 
 -- of a frame in an image of n bytes from `first`
 unfoldable pub plan : List ℕ → List ℕ → List ℕ → ℕ → ℕ → Frame → Plan

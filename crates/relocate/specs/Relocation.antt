@@ -27,6 +27,11 @@ module _ (s olds news : List ℕ) (first : ℕ) where
   unfoldable pub moved : List ℕ → Frame → List ℕ
   moved im f = leaves (lookUp olds news) im (plan s olds news first (length im) f)
 
+  -- an answer, and the image that is left, are those of a move
+  pub record Relocates (im : List ℕ) (f : Frame) (r : Move) (after : List ℕ) : Type 0 where
+    pub answer-is : r ≡ answer im f
+    pub image-is : after ≡ moved im f
+
 -- the frame's address is that of exactly one record
 abbrev pub OneRecord : List ℕ → Frame → Entry → Type 0
 OneRecord s f e = withAddress (f .address) (entries s) ≡ e ∷ []
