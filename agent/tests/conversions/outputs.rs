@@ -62,6 +62,7 @@ pub struct Outputs {
     rng: Rng,
     /// Random bytes that outputs are filled with, from one of the first few on.
     fill: Vec<u8>,
+    start: usize,
     library: Vec<u8>,
     second: Vec<u8>,
 }
@@ -72,6 +73,7 @@ impl Outputs {
         let mut rng = Rng::new(rng.word());
         Outputs {
             fill: (0..4_096).map(|_| rng.byte()).collect(),
+            start: 0,
             library: Vec::new(),
             second: Vec::new(),
             rng,
@@ -83,32 +85,40 @@ impl Outputs {
         &self.library[GUARD..GUARD + length]
     }
 
-    /// Converts by both into outputs of `room` bytes, and compares the answers and all bytes of the
-    /// outputs: what is written, what lies beyond it, and on a refusal everything.
-    pub fn convert(&mut self, way: Way, name: &str, input: &[u8], room: usize) -> Answer {
+    /// Converts by the library into an output of `room` bytes, and compares the bytes that must be
+    /// left: those beyond what is written, and on a refusal all.
+    pub fn by_library(&mut self, way: Way, name: &str, input: &[u8], room: usize) -> Answer {
         let length = GUARD + room + GUARD;
         while self.fill.len() < FILLS + length {
             self.fill.extend_from_within(..);
         }
-        let before = &self.fill[self.rng.below(FILLS)..][..length];
-        for output in [&mut self.library, &mut self.second] {
-            output.clear();
-            output.extend_from_slice(before);
-        }
-        let library = way.by_library(input, &mut self.library[GUARD..GUARD + room]);
-        let second = way.by_second(input, &mut self.second[GUARD..GUARD + room]);
-        let end = GUARD + library.unwrap_or(0);
+        self.start = self.rng.below(FILLS);
+        let before = &self.fill[self.start..][..length];
+        self.library.clear();
+        self.library.extend_from_slice(before);
+        let answer = way.by_library(input, &mut self.library[GUARD..GUARD + room]);
+        let end = GUARD + answer.unwrap_or(0);
         let left = self.library[..GUARD] == before[..GUARD] && self.library[end..] == before[end..];
-        if library != second || !left || self.library != self.second {
+        if !left {
+            let answers = format!("{way:?} with room for {room}: {answer:?}, other bytes changed");
+            differ(name, input, &answers);
+        }
+        answer
+    }
+
+    /// Converts by both into outputs of `room` bytes, and compares answers and outputs.
+    pub fn convert(&mut self, way: Way, name: &str, input: &[u8], room: usize) -> Answer {
+        let library = self.by_library(way, name, input, room);
+        let before = &self.fill[self.start..][..self.library.len()];
+        self.second.clear();
+        self.second.extend_from_slice(before);
+        let second = way.by_second(input, &mut self.second[GUARD..GUARD + room]);
+        let equal = self.library == self.second;
+        if library != second || !equal {
+            let outputs = if equal { "equal" } else { "different" };
             let answers = format!(
                 "{way:?} with room for {room}: by the library {library:?}, by the second \
-                 implementation {second:?}, bytes that must be left {}, outputs {}",
-                if left { "left" } else { "CHANGED" },
-                if self.library == self.second {
-                    "equal"
-                } else {
-                    "DIFFERENT"
-                },
+                 implementation {second:?}, outputs {outputs}"
             );
             differ(name, input, &answers);
         }
@@ -136,8 +146,9 @@ impl Outputs {
         answer
     }
 
-    /// The same; then with outputs of other lengths and, where it is accepted, back again.
-    pub fn explore(&mut self, way: Way, case: &Case, result: Option<&[u8]>) -> Answer {
+    /// The same; then with outputs of other lengths and, where it is accepted, back again. Gives the
+    /// number of the answer.
+    pub fn explore(&mut self, way: Way, case: &Case, result: Option<&[u8]>) -> u64 {
         let answer = self.known(way, case, result);
         let (name, input) = (case.name, &case.bytes[..]);
         match answer {
@@ -155,7 +166,7 @@ impl Outputs {
                 self.back(way, case, &written);
             }
         }
-        answer
+        answer.err().map_or(0, |(number, _)| number)
     }
 
     /// Outputs of exactly the right length, one byte too short, and too short by more.
