@@ -41,7 +41,7 @@ fn section(rng: &mut Rng) -> Section {
 #[test]
 fn random_sections() {
     let seed = seed("random sections");
-    // Accepted, and so refused with an output that is one byte short; then by 1 to 9.
+    // Accepted, and also refused by 24 with an output that is one byte short; then by 1 to 9.
     let counts = count_parts(seed, PARTS, |rng, counts: &mut [u64; 10]| {
         let mut outputs = Outputs::new(rng);
         for _ in 0..CASES_A_PART {
@@ -61,10 +61,10 @@ fn random_sections() {
     assert_often(&counts, |number| format!("sections answered by {number}"));
 }
 
-/// The answers to random listings: acceptance, which is also 24 with an output that is one byte
-/// short; the built section's refusals; and 22 by each of its causes and by any.
+/// The answers to random listings. What is accepted is also converted into an output that is one
+/// byte short.
 const ANSWERS: [&str; 11] = [
-    "accepted",
+    "accepted, and 24 with one byte short",
     "5",
     "6",
     "7",
@@ -177,7 +177,7 @@ fn largest_sections_and_longest_listings() {
 }
 
 /// Listings that are too long, whatever is in them, and listings whose section is. The answers are
-/// known; the second implementation, which needs most of the time, is asked every fourth time.
+/// known; the second implementation, which needs most of the time, is asked every eighth time.
 #[test]
 fn random_listings_that_are_too_long() {
     let seed = seed("random listings that are too long");
@@ -188,13 +188,13 @@ fn random_listings_that_are_too_long() {
         for nth in 0..LONG_A_PART {
             let room = rng.pick(&[0, 64, 1_000]);
             let (name, listing) = ("section too long", large.over(rng));
-            let answer = match nth % 4 {
+            let answer = match nth % 8 {
                 0 => outputs.convert(Way::ToSection, name, listing, room),
                 _ => outputs.by_library(Way::ToSection, name, listing, room),
             };
             assert_eq!(answer, Err((1, 0)));
             counts[1] += 1;
-            if nth % 8 == 0 {
+            if nth % 8 == 4 {
                 let (listing, number, place) = large.faulty(rng);
                 let answer = outputs.convert(Way::ToSection, "largest, faulty", listing, room);
                 let known = if number == 0 { 24 } else { number };
