@@ -63,7 +63,7 @@ pub struct Size {
 impl Size {
     /// Mostly a few pairs in a few slots; now and then many, up to 256.
     pub fn any(rng: &mut Rng) -> Size {
-        let (cells, pairs) = match rng.below(64) {
+        let (cells, pairs) = match rng.below(40) {
             0 => (rng.below(80), MOST_PAIRS - rng.below(2)),
             1..=3 => (rng.below(40), rng.below(60)),
             _ => (rng.pick(&[0, 1, 1, 2, 3, 4, 6, 9]), rng.below(8)),
@@ -82,12 +82,14 @@ impl Table {
             true => (1..=count as u64).map(|nth| start + step * nth).collect(),
             false => (0..count).map(|_| rng.number(64).max(1)).collect(),
         };
-        olds.sort();
-        olds.dedup();
-        while olds.len() < count {
-            olds.push(rng.word().max(1));
+        loop {
             olds.sort();
             olds.dedup();
+            if olds.len() == count {
+                break;
+            }
+            let missing = count - olds.len();
+            olds.extend((0..missing).map(|_| rng.word().max(1)));
         }
         let news = (0..count).map(|_| match rng.below(4) {
             0 => rng.pick(&olds),
