@@ -18,7 +18,8 @@ fn frame(rng: &mut Rng) -> (Scene, Vec<u8>, u64) {
     let mut number = 0;
     if !rng.one_in(3) {
         let faults = [rng.pick(&NUMBERS), rng.pick(&NUMBERS)];
-        number = make(rng, &mut scene, &faults).0;
+        let few = 1 + usize::from(rng.one_in(4));
+        number = make(rng, &mut scene, &faults[..few]).0;
     }
     let section = scene.section.encode();
     (scene, section, number)
@@ -75,6 +76,12 @@ fn complemented(rng: &mut Rng, counts: &mut Counts) {
     counts[outcome.number as usize] += 1;
 }
 
+/// The refusals of a frame itself must occur: those from 12 on.
+fn often(counts: &Counts) {
+    let number = |nth| format!("answers of number {}", nth + 12);
+    crate::common::assert_often(&counts[12..], number);
+}
+
 #[test]
 fn pairs_in_another_order() {
     let seed = seed("pairs in another order");
@@ -84,6 +91,7 @@ fn pairs_in_another_order() {
     say(&format!(
         "pairs in another order, answers 0 to 21: {counts:?}"
     ));
+    often(&counts);
 }
 
 #[test]
@@ -95,4 +103,5 @@ fn bytes_outside_the_slots() {
     say(&format!(
         "bytes outside the slots, answers 0 to 21: {counts:?}"
     ));
+    often(&counts);
 }
