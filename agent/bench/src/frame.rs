@@ -47,7 +47,7 @@ pub fn rows(rounds: usize, bytes: &[u8]) {
     let time = |name: &str| small.iter().find(|row| row.name == name).map_or(0.0, |row| row.median);
     let pair = |more: &str| (time(more) - time(FEW)) * 1e6 / (TIMES * PAIRS) as f64;
     println!("{TIMES} moves of one frame in each row, with a table of {OBJECTS} objects; the reference has 256 pairs too");
-    println!("a pair more: {:.0} ns, table and section not counted", pair(MANY));
+    println!("a pair of 256 on average: {:.0} ns, with its comparison to all before it, without the table check", pair(MANY));
 }
 
 fn say(name: &str, base: &str, ratio: f64, most: f64) {
