@@ -3,6 +3,7 @@
 //!
 //! `cargo --offline run --release -p bench [ROUNDS] [--svg DIR]`; with a folder, the rows are drawn there too.
 
+mod conversions;
 mod measure;
 mod parser;
 mod section;
@@ -36,6 +37,7 @@ fn main() {
     let bytes = section::build(LIMIT);
     let last = agree(&bytes);
     rows(rounds, &bytes, &last);
+    conversions::rows(rounds, &bytes);
 }
 
 /// The last record: its number and its address, which is the highest.
