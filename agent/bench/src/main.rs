@@ -1,5 +1,5 @@
-//! Benchmarks of the proved library beside LLVM's own parser, the second implementation and a plain read of the
-//! bytes. All rows are measured in one run, in turn, because only ratios of one run say anything.
+//! Benchmarks of the proved library beside LLVM's own parser, the second implementation and a plain read or copy of
+//! the bytes. All rows of a table are measured in turn, because only ratios of one run say anything.
 //!
 //! `cargo --offline run --release -p bench [ROUNDS] [--svg DIR]`; with a folder, the rows are drawn there too.
 
