@@ -195,8 +195,11 @@ fn random_listings_that_are_too_long() {
             assert_eq!(answer, Err((1, 0)));
             counts[1] += 1;
             if nth % 8 == 4 {
-                let (listing, number, place) = large.faulty(rng);
-                let answer = outputs.convert(Way::ToSection, "largest, faulty", listing, room);
+                let (listing, number, place) = match rng.below(2) {
+                    0 => large.broken(rng),
+                    _ => large.faulty(rng),
+                };
+                let answer = outputs.convert(Way::ToSection, "largest", listing, room);
                 let known = if number == 0 { 24 } else { number };
                 assert_eq!(answer, Err((known, place as u64)));
                 counts[2] += 1;
