@@ -15,6 +15,7 @@ use Rattle.moves.specs.declared.Move.{Move}
 use Rattle.moves.specs.Window.{In, part, splice}
 use Rattle.moves.specs.Table.{lookUp}
 use Rattle.moves.specs.Pointers.{Pointer, slots, newDerived}
+use Rattle.moves.specs.Pointers.{newContent as windowContent}
 use Rattle.moves.specs.Settle.{settled}
 use Rattle.moves.specs.Plan.{Plan, refuse, window, says, leaves}
 use Rattle.moves.proofs.Searches.{perm-mem}
