@@ -2,8 +2,8 @@
  * Treskibben: LLVM stack map sections, version 3.
  *
  * The functions are those of libtreskibben.a, for x86-64 Linux. Each is proved to answer every
- * input, to read nothing but the bytes that it is lent, and to end. None allocates, keeps a
- * pointer, or has state of its own, so threads may call them at the same time.
+ * input, to read and write nothing but the bytes that it is lent, and to end. None allocates, keeps
+ * a pointer, or has state of its own, so threads may call them at the same time.
  */
 #ifndef TRESKIBBEN_H
 #define TRESKIBBEN_H
@@ -152,6 +152,68 @@ typedef struct treskibben_live_out_answer {
 /* The live-out of this number in the record of that number. */
 treskibben_live_out_answer treskibben_live_out(const uint8_t *section, size_t length,
                                                uint64_t record, uint64_t live_out);
+
+/*
+ * Conversions between a section and its listing.
+ *
+ * A listing says what a section says, without header, counts of locations and live-outs, zeros and
+ * padding. It is a row of items: one byte of kind, then numbers, little-endian, of these widths.
+ *
+ *   kind  item      body
+ *   1     function  address 8, stack size 8, record count 8
+ *   2     constant  8
+ *   3     record    ID 8, instruction offset 4
+ *   4     location  kind 1, size 2, register 2, offset 4
+ *   5     live-out  register 2, size 1
+ *   6     end       nothing
+ *
+ * The functions come first, then the constants, then each record with its locations and then its
+ * live-outs, then one end and nothing after it. Each accepted section has one listing and each
+ * accepted listing one section: a conversion and the one back give the same bytes again.
+ *
+ * The input is lent as a section is to treskibben_check. `output` must point at `room` bytes that
+ * can be written, that nobody else reads or writes during the call, and that share no byte with the
+ * input. It must not be NULL, not even where `room` is 0; any other pointer will do then.
+ *
+ * Where the call is accepted, the whole result is written from the first byte of `output` on, and
+ * `value` is its length. The bytes beyond that length are left untouched. On a refusal `value` is 0
+ * and all of `output` is left untouched. An output that is long enough is never refused:
+ *
+ *   the listing of a section of n bytes has at most (n - 16) * 9 / 8 + 1 bytes;
+ *   the section of a listing of n bytes has at most (n - 1) * 24 / 13 + 16 bytes, and at most
+ *   16,777,216.
+ */
+
+/*
+ * Section to listing. The answer is the first of these that holds, in this order:
+ *
+ *   number  when                                                     place
+ *   1 to 9  the refusal that treskibben_check gives the section      as there
+ *   24      output shorter than the whole listing                    0
+ *   0       the listing is written                                   0
+ */
+treskibben_answer treskibben_to_listing(const uint8_t *section, size_t length, uint8_t *output,
+                                        size_t room);
+
+/*
+ * Listing to section. The answer is the first of these that holds, in this order:
+ *
+ *   number  when                                                     place
+ *   1       listing over 33,554,432 bytes                            0
+ *   22      listing breaks its grammar                               the first item that does
+ *   23      over 65,535 locations or live-outs in a record           that record item
+ *   1       the section would have over 16,777,216 bytes             0
+ *   5 to 8  the refusal that treskibben_check would give the         the place in the section
+ *           section that is to be written
+ *   24      output shorter than the whole section                    0
+ *   0       the section is written                                   0
+ *
+ * The place of 22 and 23 is the item's first byte in the listing. 22 is given for an item of unknown
+ * kind, for one that may not stand where it does, for one that is cut, and for anything after the
+ * end; a missing end has the listing's length as its place.
+ */
+treskibben_answer treskibben_to_section(const uint8_t *listing, size_t length, uint8_t *output,
+                                        size_t room);
 
 #ifdef __cplusplus
 }

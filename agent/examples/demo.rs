@@ -1,7 +1,11 @@
 //! Checks the section files that its arguments name, and says of each what the check finds. After
-//! `--at ADDRESS` the next file is asked instead which record has that address and what it says.
+//! `--at ADDRESS` the next file is asked instead which record has that address and what it says, and
+//! after `--listing` it is converted to its listing and back.
 //!
 //! The exit status is 0 where every file could be read, whatever was found in it.
+
+#[path = "demo/listing.rs"]
+mod listing;
 
 use std::env;
 use std::ffi::OsString;
@@ -10,10 +14,11 @@ use std::path::Path;
 use std::process::ExitCode;
 use treskibben::{Location, LocationKind, Refusal};
 
-/// What is done with a file: the check, or the question by this address.
+/// What is done with a file: the check, the question by this address, or both conversions.
 enum Task {
     Check,
     Find(u64),
+    List,
 }
 
 /// The number that an argument writes, in decimal or in hexadecimal after 0x.
@@ -33,6 +38,7 @@ fn tasks(arguments: impl Iterator<Item = OsString>) -> Option<Vec<(Task, OsStrin
     while let Some(argument) = arguments.next() {
         tasks.push(match argument.to_str() {
             Some("--at") => (Task::Find(number(&arguments.next()?)?), arguments.next()?),
+            Some("--listing") => (Task::List, arguments.next()?),
             _ => (Task::Check, argument),
         });
     }
@@ -103,14 +109,19 @@ fn report(task: &Task, path: &Path) -> Result<String, std::io::Error> {
             let answer = answer.unwrap_or_else(|refusal| refusal.to_string());
             format!(" at {address:#x}: {answer}")
         }
+        Task::List => {
+            let answer = listing::describe(&section);
+            let answer = answer.unwrap_or_else(|refusal| refusal.to_string());
+            format!(": {answer}")
+        }
     })
 }
 
 fn main() -> ExitCode {
     let Some(tasks) = tasks(env::args_os().skip(1)) else {
-        eprintln!("usage: demo [--at ADDRESS] FILE ..");
+        eprintln!("usage: demo [--at ADDRESS | --listing] FILE ..");
         eprintln!("Each file has the bytes of one stack map section. It is checked, or asked for");
-        eprintln!("the record at the address that stands before it.");
+        eprintln!("the record at the address that stands before it, or listed.");
         return ExitCode::from(2);
     };
     let mut code = ExitCode::SUCCESS;

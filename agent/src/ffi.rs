@@ -26,7 +26,7 @@ impl Verdict {
     }
 }
 
-/// What the check answers: the struct `treskibben_answer` of `treskibben.h`.
+/// What the check and the conversions answer: the struct `treskibben_answer` of `treskibben.h`.
 #[repr(C)]
 pub(crate) struct Answer {
     verdict: Verdict,
@@ -107,6 +107,18 @@ extern "C" {
         record: u64,
         live_out: u64,
     ) -> LiveOut;
+    fn treskibben_to_listing(
+        section: *const u8,
+        length: usize,
+        output: *mut u8,
+        room: usize,
+    ) -> Answer;
+    fn treskibben_to_section(
+        listing: *const u8,
+        length: usize,
+        output: *mut u8,
+        room: usize,
+    ) -> Answer;
 }
 
 /// The check of a section.
@@ -142,4 +154,21 @@ pub(crate) fn live_out(section: &[u8], record: u64, live_out: u64) -> LiveOut {
     // SAFETY: as in `check`. All numbers may be asked for. Every field of the answer is a number,
     // for which all bits will do.
     unsafe { treskibben_live_out(section.as_ptr(), section.len(), record, live_out) }
+}
+
+/// The conversion of a section to a listing.
+pub(crate) fn to_listing(section: &[u8], output: &mut [u8]) -> Answer {
+    let (to, room) = (output.as_mut_ptr(), output.len());
+    // SAFETY: of the section as in `check`. The output's pointer and length, too, are those of one
+    // slice, which is borrowed for the whole call, so that its bytes can be written, nobody else
+    // reads or writes them, and none of them is the section's. The function writes no other memory
+    // but its answer. Every byte may be written: all bits will do for a `u8`.
+    unsafe { treskibben_to_listing(section.as_ptr(), section.len(), to, room) }
+}
+
+/// The conversion of a listing to a section.
+pub(crate) fn to_section(listing: &[u8], output: &mut [u8]) -> Answer {
+    let (to, room) = (output.as_mut_ptr(), output.len());
+    // SAFETY: as in `to_listing`. Every listing may be lent.
+    unsafe { treskibben_to_section(listing.as_ptr(), listing.len(), to, room) }
 }

@@ -2,8 +2,10 @@
 //!
 //! [`check`] says whether a section keeps the layout, and of one that doesn't, which rule it breaks
 //! and at which byte. The questions read a section without decoding it: [`find`] a record by its
-//! address, [`record()`] its bytes, [`location()`] and [`live_out`] what they say. Every slice of
-//! bytes gets an answer; none makes a function panic, read beyond its slice or run without end.
+//! address, [`record()`] its bytes, [`location()`] and [`live_out`] what they say. [`to_listing`]
+//! writes a section as a plain row of items, and [`to_section`] writes the section again. Every
+//! slice of bytes gets an answer; none makes a function panic, read or write beyond its slices or
+//! run without end.
 //!
 //! ```
 //! // A section of no functions, no constants and no records: version 3 and fifteen zeros.
@@ -21,12 +23,14 @@
 #![deny(missing_docs, unsafe_code)]
 
 mod answers;
+mod conversions;
 #[allow(unsafe_code)]
 mod ffi;
 mod questions;
 mod refusal;
 
 pub use answers::{Found, LiveOut, Location, LocationKind};
+pub use conversions::{listing_of, section_of, to_listing, to_section};
 pub use questions::{find, live_out, location, record};
 pub use refusal::Refusal;
 

@@ -52,7 +52,8 @@ impl Refusal {
         self.number
     }
 
-    /// Where the fault is: for the check of a section, the byte that [`check`](crate::check) names.
+    /// Where the fault is: the byte that [`check`](crate::check) names for a section and
+    /// [`to_section`](crate::to_section()) for a listing.
     pub fn place(&self) -> u64 {
         self.place
     }
@@ -104,6 +105,8 @@ mod tests {
             (13, "image"),
             (17, "256 pairs"),
             (20, "collision"),
+            (22, "grammar"),
+            (23, "65,535"),
             (24, "output"),
         ];
         for (number, start) in words {

@@ -32,7 +32,7 @@ fn compare(case: &Case) -> u64 {
              known beforehand {:?}",
             case.answer
         );
-        differ(case, &answers);
+        differ(case.name, &case.bytes, &answers);
     }
     library.0
 }

@@ -1,5 +1,5 @@
 //! Sections that LLVM itself wrote. `llvm/build` compiles small programs for two targets at two levels, and for each
-//! section the proved check and questions, the second implementation and llvm-readobj must agree.
+//! section the proved check, questions and conversions, the second implementation and llvm-readobj must agree.
 
 #[path = "llvm/asked.rs"]
 mod asked;
@@ -7,6 +7,8 @@ mod asked;
 mod compare;
 #[path = "llvm/coverage.rs"]
 mod coverage;
+#[path = "llvm/listed.rs"]
+mod listed;
 #[path = "llvm/readobj.rs"]
 mod readobj;
 #[path = "llvm/sections.rs"]
@@ -29,11 +31,12 @@ fn verdict(name: &str, bytes: &[u8]) -> Option<(u64, u64)> {
     proved
 }
 
-/// Both the section as the second implementation reads it and the library's answers are what is printed.
+/// The section as the second implementation reads it, the library's answers and its listing are what is printed.
 fn compared(name: &str, bytes: &[u8], printed: &str) {
     let printed = readobj::parse(printed).unwrap_or_else(|fault| panic!("{name}.readobj: {fault}"));
     compare(&read(name, bytes), &printed).unwrap_or_else(|fault| panic!("{name}: {fault}"));
     asked::compare(bytes, &printed).unwrap_or_else(|fault| panic!("{name}, asked: {fault}"));
+    listed::compare(bytes, &printed).unwrap_or_else(|fault| panic!("{name}, listed: {fault}"));
 }
 
 #[test]
@@ -86,7 +89,7 @@ fn same_but_for_addresses(name: &str, linked: &[u8], alone: &[u8]) {
 
 /// Any one byte damaged: both implementations give one verdict, and where they accept, the comparison with
 /// the printed text fails. So every byte is either checked or compared, and the comparison can fail. The same
-/// holds of the library's answers, but for stack sizes, which no question gives.
+/// holds of the library's listing, and of its answers but for stack sizes, which no question gives.
 #[test]
 fn every_damaged_byte_is_noticed() {
     for Built { name, bytes, printed, .. } in sections::single() {
@@ -103,6 +106,8 @@ fn every_damaged_byte_is_noticed() {
                     let seen = asked::compare(&damaged, &printed).is_err();
                     let asked = !in_a_stack_size(place, printed.functions.len());
                     assert_eq!(seen, asked, "{name}: byte {place} with {flip:#x} in the answers");
+                    let listed = listed::compare(&damaged, &printed).is_err();
+                    assert!(listed, "{name}: byte {place} with {flip:#x} in the listing");
                     differing += 1;
                 }
             }
@@ -140,6 +145,8 @@ fn a_changed_text_is_noticed() {
         assert!(compare(&section, &printed).is_err(), "{to:?} for {from:?} passes unseen");
         let asked = !from.starts_with("stack size") && !from.starts_with("  #1");
         assert_eq!(asked::compare(&built.bytes, &printed).is_err(), asked, "{to:?} for {from:?} in the answers");
+        let listed = !from.starts_with("ConstantIndex");
+        assert_eq!(listed::compare(&built.bytes, &printed).is_err(), listed, "{to:?} for {from:?} in the listing");
     }
     for (from, to) in [
         ("Version: 3", "Version: 4"),

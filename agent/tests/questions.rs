@@ -113,7 +113,7 @@ fn compare(case: &Case, section: Option<&Section>, question: Question) -> Answer
             "{question:?}: by the library {library:?}, by the second implementation {second:?}, \
              known beforehand {known:?}"
         );
-        differ(case, &answers);
+        differ(case.name, &case.bytes, &answers);
     }
     library
 }

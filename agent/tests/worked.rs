@@ -1,48 +1,13 @@
 //! The worked rows A to H, written out by hand, and the samples that the repository ships.
 
+mod rows;
+
 use generator::layout::{Function, Location, Record, Section};
+use generator::listings::Listed;
+use rows::{c_and_zero, c_with, C, H, H_LISTING};
 use std::fs;
 use std::path::Path;
 use treskibben::{Found, LocationKind, Refusal};
-
-/// Row C: `03` and fifteen zeros.
-const C: [u8; 16] = [3, 0, 0, 0, 0, 0, 0, 0, 0, 0, 0, 0, 0, 0, 0, 0];
-
-/// Row H: a function with one statepoint of two pairs.
-#[rustfmt::skip]
-const H: [u8; 152] = [
-    // header: version 3, one function, no constants, one record
-    3, 0, 0, 0, 1, 0, 0, 0, 0, 0, 0, 0, 1, 0, 0, 0,
-    // function: address 0x1000, stack size 24, one record
-    0, 0x10, 0, 0, 0, 0, 0, 0, 24, 0, 0, 0, 0, 0, 0, 0, 1, 0, 0, 0, 0, 0, 0, 0,
-    // record: ID 7, offset 0x20, flags, seven locations
-    7, 0, 0, 0, 0, 0, 0, 0, 0x20, 0, 0, 0, 0, 0, 7, 0,
-    // three constants of 0
-    4, 0, 8, 0, 0, 0, 0, 0, 0, 0, 0, 0,
-    4, 0, 8, 0, 0, 0, 0, 0, 0, 0, 0, 0,
-    4, 0, 8, 0, 0, 0, 0, 0, 0, 0, 0, 0,
-    // RSP+8 and RSP+8, RSP+8 and RSP+16
-    3, 0, 8, 0, 7, 0, 0, 0, 8, 0, 0, 0,
-    3, 0, 8, 0, 7, 0, 0, 0, 8, 0, 0, 0,
-    3, 0, 8, 0, 7, 0, 0, 0, 8, 0, 0, 0,
-    3, 0, 8, 0, 7, 0, 0, 0, 16, 0, 0, 0,
-    // padding, zeros, no live-outs, padding
-    0, 0, 0, 0, 0, 0, 0, 0, 0, 0, 0, 0,
-];
-
-/// Row C with one byte changed.
-fn c_with(place: usize, byte: u8) -> Vec<u8> {
-    let mut bytes = C.to_vec();
-    bytes[place] = byte;
-    bytes
-}
-
-/// Row C and one zero byte.
-fn c_and_zero() -> Vec<u8> {
-    let mut bytes = C.to_vec();
-    bytes.push(0);
-    bytes
-}
 
 /// Number and place of the answer; both 0 where the section is accepted.
 fn answer(section: &[u8]) -> (u64, u64) {
@@ -101,6 +66,28 @@ fn questions_on_row_h() {
 }
 
 #[test]
+fn listings_of_rows_c_and_h() {
+    for (section, listing) in [(&C[..], &[6][..]), (&H, &H_LISTING)] {
+        assert_eq!(treskibben::listing_of(section).as_deref(), Ok(listing));
+        assert_eq!(treskibben::section_of(listing).as_deref(), Ok(section));
+        let mut output = [0xaa; 200];
+        assert_eq!(
+            treskibben::to_listing(section, &mut output),
+            Ok(listing.len())
+        );
+        assert_eq!(output[..listing.len()], *listing);
+        assert_eq!(output[listing.len()..], [0xaa; 200][listing.len()..]);
+        let mut output = [0xaa; 200];
+        assert_eq!(
+            treskibben::to_section(listing, &mut output),
+            Ok(section.len())
+        );
+        assert_eq!(output[..section.len()], *section);
+        assert_eq!(output[section.len()..], [0xaa; 200][section.len()..]);
+    }
+}
+
+#[test]
 fn samples_are_the_rows() {
     let samples = Path::new(env!("CARGO_MANIFEST_DIR")).join("../samples");
     let rows = [
@@ -115,6 +102,8 @@ fn samples_are_the_rows() {
         let sample = fs::read(samples.join(name).with_extension("section")).expect(name);
         assert_eq!(sample, bytes, "{name}");
     }
+    let listing = fs::read(samples.join("h-statepoint.listing")).expect("the listing");
+    assert_eq!(listing, H_LISTING);
 }
 
 #[test]
@@ -149,4 +138,5 @@ fn the_generator_writes_row_h() {
     };
     assert_eq!(section.encode(), H);
     assert_eq!(section.length(), H.len());
+    assert_eq!(Listed::of(&section).bytes, H_LISTING);
 }

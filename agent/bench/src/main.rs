@@ -1,11 +1,13 @@
-//! Benchmarks of the proved library beside LLVM's own parser, the second implementation and a plain read of the
-//! bytes. All rows are measured in one run, in turn, because only ratios of one run say anything.
+//! Benchmarks of the proved library beside LLVM's own parser, the second implementation and a plain read or copy of
+//! the bytes. All rows of a table are measured in turn, because only ratios of one run say anything.
 //!
-//! `cargo --offline run --release -p bench [ROUNDS]`
+//! `cargo --offline run --release -p bench [ROUNDS] [--svg DIR]`; with a folder, the rows are drawn there too.
 
+mod conversions;
 mod measure;
 mod parser;
 mod section;
+mod svg;
 mod words;
 
 use measure::{measure, ratio, table};
@@ -30,11 +32,12 @@ fn main() {
         eprintln!("bench: times say nothing without optimisation, run it with --release");
         std::process::exit(2);
     }
-    let rounds = std::env::args().nth(1).map_or(31, |rounds| rounds.parse().expect("ROUNDS is a number"));
+    let rounds = svg::other_arguments().nth(1).map_or(31, |rounds| rounds.parse().expect("ROUNDS is a number"));
     assert!(rounds >= 21, "fewer than 21 rounds give no steady median");
     let bytes = section::build(LIMIT);
     let last = agree(&bytes);
     rows(rounds, &bytes, &last);
+    conversions::rows(rounds, &bytes);
 }
 
 /// The last record: its number and its address, which is the highest.
@@ -80,6 +83,8 @@ fn rows(rounds: usize, bytes: &[u8], last: &Last) {
         ],
     );
     println!("\n{}", table(&rows, &[PARSER, REFERENCE, CHECK]));
+    let title = format!("Times on a section of {} bytes, {rounds} rounds in one run", bytes.len());
+    svg::save("check.svg", &svg::bars(&title, &rows, PARSER));
     for question in [FOUND, NOT_FOUND, BY_NUMBER] {
         let ratio = ratio(&rows, question, CHECK);
         let verdict = if ratio <= MOST_OF_CHECK { "reached" } else { "NOT reached" };

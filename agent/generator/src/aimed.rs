@@ -7,6 +7,9 @@ use crate::rng::Rng;
 /// The largest number of locations, or of live-outs, that a record can state.
 const MOST: usize = 65_535;
 
+/// Kinds that no location has.
+pub(crate) const WRONG_KINDS: [u8; 6] = [0, 6, 7, 0x80, 0x85, 0xff];
+
 /// Damages `built`, the bytes of `section`, so that the check gives this refusal, 1 to 9, and says
 /// at which place it does. `None` where the section has no part that can be damaged so; its bytes
 /// are then as they were.
@@ -168,11 +171,12 @@ fn counts(rng: &mut Rng, section: &Section, built: &mut Built) -> Option<usize> 
     Some(COUNTS[2])
 }
 
-/// A small number that isn't `old`.
-fn beside(rng: &mut Rng, old: u64) -> u64 {
-    let new = rng.pick(&[0, old + 1, old + 2, old.saturating_sub(1)]);
+/// 0 or a number near `old`, and not `old` itself.
+pub(crate) fn beside(rng: &mut Rng, old: u64) -> u64 {
+    let above = old.wrapping_add(1);
+    let new = rng.pick(&[0, above, old.wrapping_add(2), old.saturating_sub(1)]);
     if new == old {
-        old + 1
+        above
     } else {
         new
     }
@@ -193,8 +197,8 @@ fn kind(rng: &mut Rng, built: &mut Built) -> Option<usize> {
     let place = *built
         .locations
         .get(rng.below(built.locations.len().max(1)))?;
-    let kind = rng.pick(&[0, 6, 7, 0x80, 0x85, 0xff]);
-    built.set(place, 1, kind);
+    let kind = rng.pick(&WRONG_KINDS);
+    built.set(place, 1, kind.into());
     Some(place)
 }
 
@@ -203,7 +207,15 @@ fn const_index(rng: &mut Rng, section: &Section, built: &mut Built) -> Option<us
     let place = *built
         .locations
         .get(rng.below(built.locations.len().max(1)))?;
-    let pool = section.constants.len() as u64;
+    let index = large_index(rng, section.constants.len());
+    built.set(place, 1, 5);
+    built.set(place + 8, 4, index.into());
+    Some(place)
+}
+
+/// An offset that is the number of no entry of a pool of this length.
+pub(crate) fn large_index(rng: &mut Rng, pool: usize) -> u32 {
+    let pool = pool as u32;
     let edges = [
         pool,
         pool,
@@ -213,10 +225,7 @@ fn const_index(rng: &mut Rng, section: &Section, built: &mut Built) -> Option<us
         0x8000_0001,
         0xffff_ffff,
     ];
-    let index = rng.pick(&edges);
-    built.set(place, 1, 5);
-    built.set(place + 8, 4, index);
-    Some(place)
+    rng.pick(&edges)
 }
 
 /// A function so high that one of its records lies beyond 2^64 - 1; the place is the first that does.
@@ -242,10 +251,10 @@ fn address(rng: &mut Rng, section: &Section, built: &mut Built) -> Option<usize>
 }
 
 /// The function that a record belongs to, and the first record of that function.
-fn owner(section: &Section, record: usize) -> Option<(usize, usize)> {
-    let mut first = 0;
+pub(crate) fn owner(section: &Section, record: usize) -> Option<(usize, usize)> {
+    let mut first: usize = 0;
     for (nth, function) in section.functions.iter().enumerate() {
-        let next = first + function.record_count as usize;
+        let next = first.saturating_add(function.record_count as usize);
         if record < next {
             return Some((nth, first));
         }

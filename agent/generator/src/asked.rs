@@ -121,7 +121,7 @@ fn live_outs() -> Section {
 }
 
 /// A record with as many locations and live-outs as it can state, each unlike the one before.
-fn full_record() -> Section {
+pub(crate) fn full_record() -> Section {
     let mut section = every_part();
     let mut full = record(4, 65_535, 65_535);
     for (nth, location) in full.locations.iter_mut().enumerate() {

@@ -9,15 +9,22 @@ const BYTES: [u8; 12] = [0, 1, 2, 3, 4, 5, 6, 7, 0x7f, 0x80, 0xfe, 0xff];
 /// Damages the section once. `other` is where pieces come from.
 pub fn damage(rng: &mut Rng, built: &mut Built, other: &[u8]) {
     match rng.below(10) {
-        0 => flip_bits(rng, &mut built.bytes),
-        1 => set_byte(rng, &mut built.bytes),
-        2 => cut(rng, &mut built.bytes),
-        3 => grow(rng, &mut built.bytes, other),
-        4 => swap_counts(rng, built),
-        5 | 6 => set_number(rng, built),
-        7 => copy_piece(rng, &mut built.bytes, other),
-        8 => move_piece(rng, &mut built.bytes),
-        _ => scramble(rng, built),
+        0 => swap_counts(rng, built),
+        1 | 2 => set_number(rng, built),
+        3 => scramble(rng, built),
+        _ => damage_bytes(rng, &mut built.bytes, other),
+    }
+}
+
+/// Damages any bytes once.
+pub fn damage_bytes(rng: &mut Rng, bytes: &mut Vec<u8>, other: &[u8]) {
+    match rng.below(6) {
+        0 => flip_bits(rng, bytes),
+        1 => set_byte(rng, bytes),
+        2 => cut(rng, bytes),
+        3 => grow(rng, bytes, other),
+        4 => copy_piece(rng, bytes, other),
+        _ => move_piece(rng, bytes),
     }
 }
 

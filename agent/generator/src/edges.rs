@@ -13,8 +13,14 @@ pub fn all(visit: Visit) {
     header_counts(visit);
     sums(visit);
     cuts(visit);
-    addresses(visit);
-    pools(visit);
+    for (section, number, place) in addresses().into_iter().chain(pools()) {
+        visit(Case::known(
+            "address or pool",
+            section.encode(),
+            number,
+            place,
+        ));
+    }
     full_record(visit);
     single_bytes(visit);
 }
@@ -120,24 +126,27 @@ fn counted(counts: &[u64], records: u32) -> Vec<u8> {
     bytes
 }
 
+const MAX: u64 = u64::MAX;
+const HALF: u64 = 1 << 63;
+
+/// Record counts, and a NumRecords that only a narrower number would take for their sum.
+pub(crate) const SUMS: [(&[u64], u32); 12] = [
+    (&[HALF, HALF], 0),
+    (&[HALF, HALF, 1], 1),
+    (&[1, HALF, HALF], 1),
+    (&[MAX, 1], 0),
+    (&[1, MAX], 0),
+    (&[MAX, 2], 1),
+    (&[2, MAX, 0], 1),
+    (&[MAX, MAX, 2], 0),
+    (&[MAX, MAX, 3], 1),
+    (&[1 << 32], 0),
+    (&[(1 << 32) + 1], 1),
+    (&[MAX], u32::MAX),
+];
+
 fn sums(visit: Visit) {
-    const MAX: u64 = u64::MAX;
-    const HALF: u64 = 1 << 63;
-    let sums: [(&[u64], u32); 12] = [
-        (&[HALF, HALF], 0),
-        (&[HALF, HALF, 1], 1),
-        (&[1, HALF, HALF], 1),
-        (&[MAX, 1], 0),
-        (&[1, MAX], 0),
-        (&[MAX, 2], 1),
-        (&[2, MAX, 0], 1),
-        (&[MAX, MAX, 2], 0),
-        (&[MAX, MAX, 3], 1),
-        (&[1 << 32], 0),
-        (&[(1 << 32) + 1], 1),
-        (&[MAX], u32::MAX),
-    ];
-    for (counts, records) in sums {
+    for (counts, records) in SUMS {
         visit(Case::known(
             "sums past the width",
             counted(counts, records),
@@ -181,14 +190,18 @@ pub fn record(offset: u32, locations: usize, live_outs: usize) -> Record {
     }
 }
 
-/// A section with every part: functions with no, one and several records, constants, odd and even
-/// numbers of locations and live-outs, and all five kinds.
-pub fn every_part() -> Section {
-    let function = |address, record_count| Function {
+/// A function with so many records.
+pub fn function(address: u64, record_count: u64) -> Function {
+    Function {
         address,
         stack_size: 24,
         record_count,
-    };
+    }
+}
+
+/// A section with every part: functions with no, one and several records, constants, odd and even
+/// numbers of locations and live-outs, and all five kinds.
+pub fn every_part() -> Section {
     let mut section = Section {
         functions: vec![
             function(u64::MAX, 0),
@@ -241,9 +254,12 @@ fn cuts(visit: Visit) {
     }
 }
 
-fn addresses(visit: Visit) {
-    const MAX: u64 = u64::MAX;
-    let cases = [
+/// A section, and number and place of its answer.
+pub(crate) type Answered = (Section, u64, usize);
+
+/// Records at addresses up to the last there is, and beyond.
+pub(crate) fn addresses() -> Vec<Answered> {
+    let near = [
         (MAX, 0, 0),
         (MAX, 1, 8),
         (MAX - 1, 1, 0),
@@ -255,40 +271,26 @@ fn addresses(visit: Visit) {
         (MAX - 0xffff_fffe, u32::MAX, 8),
         (0, u32::MAX, 0),
     ];
-    for (address, offset, number) in cases.into_iter().chain(wide) {
-        let functions = vec![Function {
-            address,
-            stack_size: MAX,
-            record_count: 1,
-        }];
-        let records = vec![record(offset, 2, 3)];
+    let section = |(address, offset, number)| {
         let section = Section {
-            functions,
+            functions: vec![Function {
+                stack_size: MAX,
+                ..function(address, 1)
+            }],
             constants: vec![],
-            records,
+            records: vec![record(offset, 2, 3)],
         };
-        visit(Case::known(
-            "address",
-            section.encode(),
-            number,
-            if number == 0 { 0 } else { 40 },
-        ));
-    }
+        (section, number, if number == 0 { 0 } else { 40 })
+    };
+    near.into_iter().chain(wide).map(section).collect()
 }
 
-fn pools(visit: Visit) {
+/// Numbers of a pool's entries, and numbers that only look like one.
+pub(crate) fn pools() -> Vec<Answered> {
+    const EDGES: [u32; 4] = [0x7fff_ffff, 0x8000_0000, 0x8000_0001, 0xffff_ffff];
+    let mut sections = Vec::new();
     for pool in 0..4 {
-        for index in [
-            0,
-            1,
-            2,
-            3,
-            4,
-            0x7fff_ffff,
-            0x8000_0000,
-            0x8000_0001,
-            0xffff_ffff,
-        ] {
+        for index in (0..5).chain(EDGES) {
             let mut section = every_part();
             section.constants = vec![0; pool];
             let location = Location {
@@ -298,12 +300,13 @@ fn pools(visit: Visit) {
                 offset: index,
             };
             section.records[2].locations = vec![location];
-            let fault = index as usize >= pool;
             let place = 16 + 3 * 24 + 8 * pool + 24 + 72 + 16;
+            let fault = index as usize >= pool;
             let (number, place) = if fault { (7, place) } else { (0, 0) };
-            visit(Case::known("pool", section.encode(), number, place));
+            sections.push((section, number, place));
         }
     }
+    sections
 }
 
 /// A record with as many locations and live-outs as it can state.

@@ -14,10 +14,16 @@ pub fn all(seed: u64, visit: Visit) {
         1,
         0,
     ));
-    whole(&functions(), visit);
-    whole(&constants(), visit);
-    whole(&records(), visit);
-    whole(&valid::of_length(&mut Rng::new(seed), LARGEST), visit);
+    sections(seed, &mut |section| whole(section, visit));
+}
+
+/// Hands over whole sections of exactly the largest length, with as many functions, constants or
+/// records as there can be, and a random one.
+pub fn sections(seed: u64, visit: &mut dyn FnMut(&Section)) {
+    visit(&functions());
+    visit(&constants());
+    visit(&records());
+    visit(&valid::of_length(&mut Rng::new(seed), LARGEST));
 }
 
 /// Zeros after a first byte.

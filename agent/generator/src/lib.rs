@@ -1,4 +1,4 @@
-//! Random stack map sections for tests and benchmarks: whole ones, and damaged ones.
+//! Random stack map sections and listings for tests and benchmarks: whole ones, and damaged ones.
 //!
 //! Everything is made from a seed, so that a run can be had again. The encoder is this package's
 //! own: where it says what a section must be answered, that is one more opinion beside those of
@@ -10,6 +10,7 @@ pub mod damage;
 pub mod edges;
 pub mod largest;
 pub mod layout;
+pub mod listings;
 pub mod questions;
 pub mod rng;
 pub mod valid;

@@ -2,7 +2,7 @@
 
 use super::*;
 use generator::questions::{question, Question};
-use generator::{case_of, valid, Rng};
+use generator::{case_of, listings, valid, Rng};
 
 /// Number, place and whether all other fields are 0.
 fn ask(section: &[u8], question: Question) -> (u64, u64, bool) {
@@ -52,4 +52,32 @@ fn a_refused_answer_has_zeros_and_an_accepted_one_no_place() {
         assert_eq!(answer.value, 0, "{:?}", case.bytes);
     }
     assert!(counts.iter().all(|count| *count > 100), "{counts:?}");
+}
+
+#[test]
+fn a_refused_conversion_has_length_0_and_an_accepted_one_no_place() {
+    let mut rng = Rng::new(1);
+    let mut counts = [0; 25];
+    for _ in 0..20_000 {
+        let section = valid::section(&mut rng);
+        let bytes = case_of(&mut rng, &section).bytes;
+        let listing = listings::case_of(&mut rng, &section).bytes;
+        let room = [0, 2 * bytes.len() + 2 * listing.len() + 16][rng.below(2)];
+        let mut output = vec![0; room];
+        for answer in [
+            to_listing(&bytes, &mut output),
+            to_section(&listing, &mut output),
+        ] {
+            counts[answer.verdict.number as usize] += 1;
+            if answer.verdict.number == 0 {
+                assert_eq!(answer.verdict.place, 0, "{bytes:?}, {listing:?}");
+                assert_ne!(answer.value, 0, "{bytes:?}, {listing:?}");
+            } else {
+                assert_eq!(answer.value, 0, "{bytes:?}, {listing:?}");
+            }
+        }
+    }
+    for number in (0..10).chain([22, 24]) {
+        assert!(counts[number] > 100, "{number}: {counts:?}");
+    }
 }

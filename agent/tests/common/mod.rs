@@ -1,7 +1,7 @@
 //! What the tests against the second implementation share: the seed, the threads, the counts, and
 //! how a difference is shown.
 
-use generator::{Case, Rng};
+use generator::Rng;
 use std::env;
 use std::fmt::Write as _;
 use std::io::Write as _;
@@ -35,7 +35,7 @@ pub fn seed(what: &str) -> u64 {
     seed
 }
 
-/// The bytes in hex; of a long section only the first.
+/// The bytes in hex; where they are many, only the first.
 fn hex(bytes: &[u8]) -> String {
     const MOST: usize = 65_536;
     let mut text = String::new();
@@ -48,13 +48,10 @@ fn hex(bytes: &[u8]) -> String {
     text
 }
 
-/// Shows a section on which answers differ, and the answers, and fails.
-pub fn differ(case: &Case, answers: &str) -> ! {
-    let bytes = hex(&case.bytes);
-    say(&format!(
-        "a difference in '{}'\n{bytes}\n{answers}",
-        case.name
-    ));
+/// Shows a section or a listing on which answers differ, and the answers, and fails.
+pub fn differ(name: &str, bytes: &[u8], answers: &str) -> ! {
+    let bytes = hex(bytes);
+    say(&format!("a difference in '{name}'\n{bytes}\n{answers}"));
     panic!("{answers}");
 }
 

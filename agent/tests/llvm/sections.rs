@@ -8,7 +8,14 @@ pub const TARGETS: &[&str] = &["x86_64", "aarch64"];
 pub const LEVELS: &[&str] = &["O0", "O2"];
 
 /// What must be made for every target and level; there may be more. `two` is two maps in one section.
-const SOURCES: &[&str] = &["constants", "patchpoint", "rewrite", "stackmap", "statepoint", "two"];
+const SOURCES: &[&str] = &[
+    "constants",
+    "patchpoint",
+    "rewrite",
+    "stackmap",
+    "statepoint",
+    "two",
+];
 
 /// One section and what llvm-readobj printed of it.
 pub struct Built {
@@ -25,26 +32,39 @@ pub fn single() -> impl Iterator<Item = &'static Built> {
 
 pub fn named(source: &str, target: &str, level: &str) -> &'static Built {
     let name = format!("{source}.{target}.{level}");
-    all().iter().find(|built| built.name == name).unwrap_or_else(|| panic!("llvm/build did not make {name}"))
+    all()
+        .iter()
+        .find(|built| built.name == name)
+        .unwrap_or_else(|| panic!("llvm/build did not make {name}"))
 }
 
-/// What one run of `llvm/build` made, or why it did not.
-fn all() -> &'static [Built] {
+/// All that one run of `llvm/build` made; where it failed, the test fails and says why.
+pub fn all() -> &'static [Built] {
     static ALL: Mutex<Option<&Result<Vec<Built>, String>>> = Mutex::new(None);
-    let run = || -> &Result<_, _> { Box::leak(Box::new(build().and_then(|folder| complete(load(&folder))))) };
+    let run = || -> &Result<_, _> {
+        Box::leak(Box::new(build().and_then(|folder| complete(load(&folder)))))
+    };
     let made = *ALL.lock().unwrap().get_or_insert_with(run);
-    made.as_deref().unwrap_or_else(|fault| panic!("llvm/build: {fault}"))
+    made.as_deref()
+        .unwrap_or_else(|fault| panic!("llvm/build: {fault}"))
 }
 
 /// A fresh folder with the sections of this run.
 fn build() -> Result<PathBuf, String> {
     let out = Path::new(env!("CARGO_TARGET_TMPDIR")).join(format!("llvm.{}", std::process::id()));
     let script = Path::new(env!("CARGO_MANIFEST_DIR")).join("../llvm/build");
-    let ran = Command::new(script).arg(&out).output().map_err(|fault| fault.to_string())?;
+    let ran = Command::new(script)
+        .arg(&out)
+        .output()
+        .map_err(|fault| fault.to_string())?;
     if ran.status.success() {
         return Ok(out);
     }
-    Err(format!("{}\n{}", ran.status, String::from_utf8_lossy(&ran.stderr)))
+    Err(format!(
+        "{}\n{}",
+        ran.status,
+        String::from_utf8_lossy(&ran.stderr)
+    ))
 }
 
 /// The same sections, where none is missing.
@@ -67,7 +87,13 @@ fn load(folder: &Path) -> Vec<Built> {
     let mut built = Vec::new();
     for entry in std::fs::read_dir(folder).unwrap() {
         let path = entry.unwrap().path();
-        if let Some(name) = path.file_name().unwrap().to_str().unwrap().strip_suffix(".section") {
+        if let Some(name) = path
+            .file_name()
+            .unwrap()
+            .to_str()
+            .unwrap()
+            .strip_suffix(".section")
+        {
             built.push(Built {
                 name: name.to_string(),
                 target: name.split('.').nth(1).unwrap().to_string(),

@@ -14,8 +14,8 @@ use Rattle.stackmap.proofs.Fields.{length-bytesOf}
 use Rattle.listing.specs.Listing.{readListing, give, toSection}
 use Rattle.listing.proofs.RoundTrip.{built-refusal}
 use Rattle.listing.proofs.Writes.{sets-whole}
-use Rattle.builder.specs.Outcome.{refusal, Buildable}
-use Rattle.builder.proofs.Plans.{planned-size}
+use Rattle.parser.specs.Outcome.{refusal, Buildable}
+use Rattle.parser.proofs.Plans.{planned-size}
 
 -- what is given where nothing is refused, by the room there is
 give-short : (e : ℕ) (xs out : List ℕ) → length out < length xs → give (Valid e) xs out ≡ record { number = 24; place = 0; written = 0; output = out }

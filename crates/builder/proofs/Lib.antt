@@ -1,12 +1,4 @@
-pub mod Bound
-pub mod Records
-pub mod Ends
-pub mod Faults
-pub mod Turns
-pub mod Walking
-pub mod Plans
 pub mod Puts
 pub mod RecordPut
 pub mod SectionPut
-pub mod Outcomes
 pub mod Converted

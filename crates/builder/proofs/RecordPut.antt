@@ -11,9 +11,9 @@ use Rattle.stackmap.specs.Section.{locationFields, liveOutFields, recordFields}
 use Rattle.stackmap.proofs.Fields.{size-append, size-all}
 use Rattle.stackmap.proofs.Items.{location-size, live-out-size}
 use Rattle.listing.specs.Listing.{listedLocation, listedLiveOut, listedRecord}
-use Rattle.builder.specs.Count.{Shaped}
+use Rattle.parser.specs.Count.{Shaped}
 use Rattle.builder.specs.Put.{headFields}
-use Rattle.builder.proofs.Records.{length-many}
+use Rattle.parser.proofs.Records.{length-many}
 use Rattle.builder.proofs.Puts.{then-put}
 
 -- one number is a field, and two are two

@@ -16,14 +16,15 @@ use Rattle.stackmap.proofs.Verdicts.{must-held, must-rest}
 use Rattle.listing.specs.Layout.{recordKind, recordItemSize, itemsMost}
 use Rattle.listing.specs.Listing.{stands, listedConstant, listedRecord, readListing}
 use Rattle.listing.proofs.Fits.{and-true}
-use Rattle.builder.specs.Count.{Tabled, Shaped}
-use Rattle.builder.specs.Survey.{recordSize, recordsFrom, recordsAfter}
-use Rattle.builder.specs.Walk.{functionsOf}
-use Rattle.builder.specs.Put.{headerFields, Ready}
-use Rattle.builder.proofs.Records.{length-many, shape-size, records-here, check-here, sized-here}
-use Rattle.builder.proofs.Walking.{some-record}
+use Rattle.parser.specs.Count.{Tabled, Shaped}
+use Rattle.parser.specs.Survey.{recordSize, recordsFrom, recordsAfter}
+use Rattle.parser.specs.Walk.{functionsOf}
+use Rattle.parser.specs.Outcome.{Ready}
+use Rattle.builder.specs.Put.{headerFields}
+use Rattle.parser.proofs.Records.{length-many, shape-size, records-here, check-here, sized-here}
+use Rattle.parser.proofs.Walking.{some-record}
 use Rattle.builder.proofs.Puts.{then-put, puts-all}
-use Rattle.builder.proofs.Plans.{reads}
+use Rattle.parser.proofs.Plans.{reads}
 
 -- `left` records from `at` on are still to be put, to q
 pub record PuttingRecords (l : List ℕ) (from : ℕ) (out₀ : List ℕ) (to : ℕ) (out : List ℕ) (at q left : ℕ) : Type 0 where

@@ -1,6 +1,1 @@
-pub mod Count
-pub mod Survey
-pub mod Grammar
-pub mod Walk
 pub mod Put
-pub mod Outcome

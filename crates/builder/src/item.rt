@@ -9,6 +9,8 @@ ghost use Rattle.stackmap.specs.Fields.{bytesOf};
 ghost use Rattle.stackmap.specs.Section.{functionFields, constantFields, locationFields, liveOutFields};
 ghost use Rattle.listing.specs.Layout.{functionItemSize, constantItemSize, locationItemSize, liveOutItemSize};
 ghost use Rattle.listing.specs.Listing.{listedFunction, listedConstant, listedLocation, listedLiveOut};
+use listing::numbers;
+use stackmap::layout;
 
 // `n` zero bytes at `to`.
 pub fn zeros(out: &mut [u8], to: usize, n: usize)
@@ -29,9 +31,12 @@ pub fn function(l: &[u8], at: usize, out: &mut [u8], to: usize)
     requires { ⌜ (at + functionItemSize ≤ length (now l)) × (to + functionSize ≤ length (now out)) ⌝ }
     ensures { λ _. ⌜ now (out .exit) ≡ sets (now (out .entry)) to (bytesOf (functionFields (listedFunction (now (l .entry)) at))) ⌝ }
 {
-    wire::put_u64(out, to, wire::u64_at(l, at + 1));
-    wire::put_u64(out, to + 8, wire::u64_at(l, at + 9));
-    wire::put_u64(out, to + 16, wire::u64_at(l, at + 17));
+    let address = wire::u64_at(l, at + numbers::LISTED_ADDRESS_AT);
+    let stack_size = wire::u64_at(l, at + numbers::LISTED_STACK_SIZE_AT);
+    let records = wire::u64_at(l, at + numbers::LISTED_RECORD_COUNT_AT);
+    wire::put_u64(out, to, address);
+    wire::put_u64(out, to + layout::STACK_SIZE_AT, stack_size);
+    wire::put_u64(out, to + layout::RECORD_COUNT_AT, records);
 }
 
 // The constant item at `at`.
@@ -39,7 +44,7 @@ pub fn constant(l: &[u8], at: usize, out: &mut [u8], to: usize)
     requires { ⌜ (at + constantItemSize ≤ length (now l)) × (to + constantSize ≤ length (now out)) ⌝ }
     ensures { λ _. ⌜ now (out .exit) ≡ sets (now (out .entry)) to (bytesOf (constantFields (listedConstant (now (l .entry)) at))) ⌝ }
 {
-    wire::put_u64(out, to, wire::u64_at(l, at + 1));
+    wire::put_u64(out, to, wire::u64_at(l, at + numbers::LISTED_CONSTANT_AT));
 }
 
 // The location item at `at`: kind and a zero, size and register, two zeros, offset.
@@ -47,10 +52,13 @@ pub fn location(l: &[u8], at: usize, out: &mut [u8], to: usize)
     requires { ⌜ (at + locationItemSize ≤ length (now l)) × (to + locationSize ≤ length (now out)) ⌝ }
     ensures { λ _. ⌜ now (out .exit) ≡ sets (now (out .entry)) to (bytesOf (locationFields (listedLocation (now (l .entry)) at))) ⌝ }
 {
-    wire::put_u16(out, to, l[at + 1] as u16);
-    wire::put_u32(out, to + 2, wire::u32_at(l, at + 2));
-    wire::put_u16(out, to + 6, 0);
-    wire::put_u32(out, to + 8, wire::u32_at(l, at + 6));
+    let kind = l[at + numbers::LISTED_LOCATION_KIND_AT] as u16;
+    let size_and_register = wire::u32_at(l, at + numbers::LISTED_LOCATION_SIZE_AT);
+    let offset = wire::u32_at(l, at + numbers::LISTED_LOCATION_OFFSET_AT);
+    wire::put_u16(out, to, kind);
+    wire::put_u32(out, to + layout::LOCATION_SIZE_AT, size_and_register);
+    wire::put_u16(out, to + layout::LOCATION_ZEROS_AT, 0);
+    wire::put_u32(out, to + layout::LOCATION_OFFSET_AT, offset);
 }
 
 // The live-out item at `at`: register, a zero, size.
@@ -58,7 +66,11 @@ pub fn live_out(l: &[u8], at: usize, out: &mut [u8], to: usize)
     requires { ⌜ (at + liveOutItemSize ≤ length (now l)) × (to + liveOutSize ≤ length (now out)) ⌝ }
     ensures { λ _. ⌜ now (out .exit) ≡ sets (now (out .entry)) to (bytesOf (liveOutFields (listedLiveOut (now (l .entry)) at))) ⌝ }
 {
-    wire::put_u16(out, to, wire::u16_at(l, at + 1));
-    out[to + 2] = 0;
-    out[to + 3] = l[at + 3];
+    wire::put_u16(
+        out,
+        to,
+        wire::u16_at(l, at + numbers::LISTED_LIVE_OUT_REGISTER_AT),
+    );
+    out[to + layout::LIVE_OUT_ZERO_AT] = 0;
+    out[to + layout::LIVE_OUT_SIZE_AT] = l[at + numbers::LISTED_LIVE_OUT_SIZE_AT];
 }

@@ -6,57 +6,19 @@ ghost use Rattle.stackmap.specs.Section.{readFunction, readConstant, readRecord
 ghost use Rattle.listing.specs.Layout.{functionItemSize, constantItemSize, recordItemSize, locationItemSize, liveOutItemSize};
 ghost use Rattle.listing.specs.Listing.{functionItem, constantItem, recordItem, locationItem, liveOutItem};
 ghost use Rattle.lister.specs.Put.{Put};
-
-// Where the fields stand in the section's items.
-const STACK_SIZE_AT: usize = 8;
-
-const RECORD_COUNT_AT: usize = 16;
-
-const INSTRUCTION_OFFSET_AT: usize = 8;
-
-const LOCATION_SIZE_AT: usize = 2;
-
-const LOCATION_REGISTER_AT: usize = 4;
-
-const LOCATION_OFFSET_AT: usize = 8;
-
-const LIVE_OUT_SIZE_AT: usize = 3;
-
-// The listing's items: their kinds, and their sizes with the kind's byte.
-const FUNCTION_KIND: u8 = 1;
-
-const CONSTANT_KIND: u8 = 2;
-
-const RECORD_KIND: u8 = 3;
-
-const LOCATION_KIND: u8 = 4;
-
-const LIVE_OUT_KIND: u8 = 5;
-
-pub const END_KIND: u8 = 6;
-
-pub const FUNCTION_ITEM_SIZE: usize = 25;
-
-pub const CONSTANT_ITEM_SIZE: usize = 9;
-
-pub const RECORD_ITEM_SIZE: usize = 13;
-
-pub const LOCATION_ITEM_SIZE: usize = 10;
-
-pub const LIVE_OUT_ITEM_SIZE: usize = 4;
-
-pub const END_ITEM_SIZE: usize = 1;
+use listing::numbers;
+use stackmap::layout;
 
 // The function at `at`: address (8), stack size (8), record count (8).
 pub fn put_function(s: &[u8], at: usize, out: &mut [u8], to: usize) -> usize
     requires { ⌜ (at + functionSize ≤ length (now s)) × (to + functionItemSize ≤ length (now out)) ⌝ }
     ensures { λ r. ⌜ Put (now (out .entry)) (now (out .exit)) to r (functionItem (readFunction (now (s .entry)) at)) ⌝ }
 {
-    out[to] = FUNCTION_KIND;
+    out[to] = numbers::FUNCTION_KIND;
     wire::put_u64(out, to + 1, wire::u64_at(s, at));
-    wire::put_u64(out, to + 9, wire::u64_at(s, at + STACK_SIZE_AT));
-    wire::put_u64(out, to + 17, wire::u64_at(s, at + RECORD_COUNT_AT));
-    to + FUNCTION_ITEM_SIZE
+    wire::put_u64(out, to + 9, wire::u64_at(s, at + layout::STACK_SIZE_AT));
+    wire::put_u64(out, to + 17, wire::u64_at(s, at + layout::RECORD_COUNT_AT));
+    to + numbers::FUNCTION_ITEM_SIZE
 }
 
 // The constant at `at` (8).
@@ -64,9 +26,9 @@ pub fn put_constant(s: &[u8], at: usize, out: &mut [u8], to: usize) -> usize
     requires { ⌜ (at + constantSize ≤ length (now s)) × (to + constantItemSize ≤ length (now out)) ⌝ }
     ensures { λ r. ⌜ Put (now (out .entry)) (now (out .exit)) to r (constantItem (readConstant (now (s .entry)) at)) ⌝ }
 {
-    out[to] = CONSTANT_KIND;
+    out[to] = numbers::CONSTANT_KIND;
     wire::put_u64(out, to + 1, wire::u64_at(s, at));
-    to + CONSTANT_ITEM_SIZE
+    to + numbers::CONSTANT_ITEM_SIZE
 }
 
 // The record at the start of `s`, without its locations and live-outs: ID (8), offset (4).
@@ -74,10 +36,10 @@ pub fn put_record_item(s: &[u8], out: &mut [u8], to: usize) -> usize
     requires { ⌜ (recordHeadSize ≤ length (now s)) × (to + recordItemSize ≤ length (now out)) ⌝ }
     ensures { λ r. ⌜ Put (now (out .entry)) (now (out .exit)) to r (recordItem (readRecord (now (s .entry)))) ⌝ }
 {
-    out[to] = RECORD_KIND;
+    out[to] = numbers::RECORD_KIND;
     wire::put_u64(out, to + 1, wire::u64_at(s, 0));
-    wire::put_u32(out, to + 9, wire::u32_at(s, INSTRUCTION_OFFSET_AT));
-    to + RECORD_ITEM_SIZE
+    wire::put_u32(out, to + 9, wire::u32_at(s, layout::INSTRUCTION_OFFSET_AT));
+    to + numbers::RECORD_ITEM_SIZE
 }
 
 // The location at `at`: kind (1), size (2), register (2), offset (4).
@@ -85,12 +47,20 @@ pub fn put_location(s: &[u8], at: usize, out: &mut [u8], to: usize) -> usize
     requires { ⌜ (at + locationSize ≤ length (now s)) × (to + locationItemSize ≤ length (now out)) ⌝ }
     ensures { λ r. ⌜ Put (now (out .entry)) (now (out .exit)) to r (locationItem (readLocation (now (s .entry)) at)) ⌝ }
 {
-    out[to] = LOCATION_KIND;
+    out[to] = numbers::LOCATION_KIND;
     out[to + 1] = s[at];
-    wire::put_u16(out, to + 2, wire::u16_at(s, at + LOCATION_SIZE_AT));
-    wire::put_u16(out, to + 4, wire::u16_at(s, at + LOCATION_REGISTER_AT));
-    wire::put_u32(out, to + 6, wire::u32_at(s, at + LOCATION_OFFSET_AT));
-    to + LOCATION_ITEM_SIZE
+    wire::put_u16(out, to + 2, wire::u16_at(s, at + layout::LOCATION_SIZE_AT));
+    wire::put_u16(
+        out,
+        to + 4,
+        wire::u16_at(s, at + layout::LOCATION_REGISTER_AT),
+    );
+    wire::put_u32(
+        out,
+        to + 6,
+        wire::u32_at(s, at + layout::LOCATION_OFFSET_AT),
+    );
+    to + numbers::LOCATION_ITEM_SIZE
 }
 
 // The live-out at `at`: register (2), size (1).
@@ -98,8 +68,8 @@ pub fn put_live_out(s: &[u8], at: usize, out: &mut [u8], to: usize) -> usize
     requires { ⌜ (at + liveOutSize ≤ length (now s)) × (to + liveOutItemSize ≤ length (now out)) ⌝ }
     ensures { λ r. ⌜ Put (now (out .entry)) (now (out .exit)) to r (liveOutItem (readLiveOut (now (s .entry)) at)) ⌝ }
 {
-    out[to] = LIVE_OUT_KIND;
+    out[to] = numbers::LIVE_OUT_KIND;
     wire::put_u16(out, to + 1, wire::u16_at(s, at));
-    out[to + 3] = s[at + LIVE_OUT_SIZE_AT];
-    to + LIVE_OUT_ITEM_SIZE
+    out[to + 3] = s[at + layout::LIVE_OUT_SIZE_AT];
+    to + numbers::LIVE_OUT_ITEM_SIZE
 }

@@ -10,19 +10,13 @@ ghost use Rattle.listing.specs.Answers.{Answers};
 ghost use Rattle.lister.specs.Put.{Put};
 ghost use Rattle.lister.specs.Shape.{Tabled};
 use listing::Conversion;
+use listing::numbers;
 use stackmap::Verdict;
+use stackmap::layout;
 
 mod items;
 mod records;
 mod runs;
-
-const HEADER_SIZE: usize = 16;
-
-const NUM_FUNCTIONS_AT: usize = 4;
-
-const NUM_CONSTANTS_AT: usize = 8;
-
-const NUM_RECORDS_AT: usize = 12;
 
 // How a section is laid out: how many functions, constants and records, where the constants begin
 // (the pool), and where the first record stands.
@@ -39,16 +33,16 @@ fn section_tables(s: &[u8]) -> Tables
     requires { ⌜ headerSize ≤ length (now s) ⌝ }
     ensures { λ r. ⌜ Tabled (now (s .entry)) (r .functions) (r .constants) (r .records) (r .pool) (r .first) ⌝ }
 {
-    let functions = wire::u32_at(s, NUM_FUNCTIONS_AT) as usize;
-    let constants = wire::u32_at(s, NUM_CONSTANTS_AT) as usize;
-    let records = wire::u32_at(s, NUM_RECORDS_AT) as usize;
-    let pool = HEADER_SIZE + runs::FUNCTION_SIZE * functions;
+    let functions = wire::u32_at(s, layout::NUM_FUNCTIONS_AT) as usize;
+    let constants = wire::u32_at(s, layout::NUM_CONSTANTS_AT) as usize;
+    let records = wire::u32_at(s, layout::NUM_RECORDS_AT) as usize;
+    let pool = layout::HEADER_SIZE + layout::FUNCTION_SIZE * functions;
     Tables {
         functions,
         constants,
         records,
         pool,
-        first: pool + runs::CONSTANT_SIZE * constants,
+        first: pool + layout::CONSTANT_SIZE * constants,
     }
 }
 
@@ -59,10 +53,10 @@ fn listing_length(s: &[u8]) -> usize
 {
     let tables = section_tables(s);
     let records = records::records_length(s, tables.first, tables.records);
-    items::FUNCTION_ITEM_SIZE * tables.functions
-        + items::CONSTANT_ITEM_SIZE * tables.constants
+    numbers::FUNCTION_ITEM_SIZE * tables.functions
+        + numbers::CONSTANT_ITEM_SIZE * tables.constants
         + records
-        + items::END_ITEM_SIZE
+        + numbers::END_ITEM_SIZE
 }
 
 // The listing of a section: functions, then constants, then each record, then one end. Answers its length.
@@ -71,11 +65,11 @@ fn put_listing(s: &[u8], out: &mut [u8]) -> usize
     ensures { λ r. ⌜ Put (now (out .entry)) (now (out .exit)) 0 r (listingFields (readSection (now (s .entry)))) ⌝ }
 {
     let tables = section_tables(s);
-    let mut next = runs::put_functions(s, HEADER_SIZE, tables.functions, out, 0);
+    let mut next = runs::put_functions(s, layout::HEADER_SIZE, tables.functions, out, 0);
     next = runs::put_constants(s, tables.pool, tables.constants, out, next);
     next = records::put_records(s, tables.first, tables.records, out, next);
-    out[next] = items::END_KIND;
-    next + items::END_ITEM_SIZE
+    out[next] = numbers::END_KIND;
+    next + numbers::END_ITEM_SIZE
 }
 
 // A section's refusal; or 24 if the output is shorter than the listing; or the listing in the output, and its length.

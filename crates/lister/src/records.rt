@@ -9,14 +9,8 @@ ghost use Rattle.lister.specs.Put.{Put};
 ghost use Rattle.lister.specs.Shape.{Shaped};
 use crate::items;
 use crate::runs;
-
-const RECORD_HEAD_SIZE: usize = 16;
-
-const NUM_LOCATIONS_AT: usize = 14;
-
-const LIVE_OUTS_HEAD_ZEROS: usize = 2;
-
-const LIVE_OUTS_HEAD_SIZE: usize = 4;
+use listing::numbers;
+use stackmap::layout;
 
 const PADDING_SIZE: usize = 4;
 
@@ -33,15 +27,17 @@ fn record_shape(s: &[u8]) -> Shape
     requires { ⌜ recordLength (now s) ≤ length (now s) ⌝ }
     ensures { λ r. ⌜ Shaped (now (s .entry)) (r .locations) (r .outs) (r .begin) (r .length) ⌝ }
 {
-    let locations = wire::u16_at(s, NUM_LOCATIONS_AT) as usize;
-    let end = RECORD_HEAD_SIZE + runs::LOCATION_SIZE * locations + locations % 2 * PADDING_SIZE;
-    let outs = wire::u16_at(s, end + LIVE_OUTS_HEAD_ZEROS) as usize;
-    let begin = end + LIVE_OUTS_HEAD_SIZE;
+    let locations = wire::u16_at(s, layout::NUM_LOCATIONS_AT) as usize;
+    let end = layout::RECORD_HEAD_SIZE
+        + layout::LOCATION_SIZE * locations
+        + locations % 2 * PADDING_SIZE;
+    let outs = wire::u16_at(s, end + layout::LIVE_OUTS_HEAD_ZEROS) as usize;
+    let begin = end + layout::LIVE_OUTS_HEAD_SIZE;
     Shape {
         locations,
         outs,
         begin,
-        length: begin + runs::LIVE_OUT_SIZE * outs + (outs + 1) % 2 * PADDING_SIZE,
+        length: begin + layout::LIVE_OUT_SIZE * outs + (outs + 1) % 2 * PADDING_SIZE,
     }
 }
 
@@ -55,9 +51,9 @@ pub fn records_length(s: &[u8], at: usize, count: usize) -> usize
     let mut total: usize = 0;
     while left > 0 {
         let shape = record_shape(&s[p..]);
-        total += items::RECORD_ITEM_SIZE
-            + items::LOCATION_ITEM_SIZE * shape.locations
-            + items::LIVE_OUT_ITEM_SIZE * shape.outs;
+        total += numbers::RECORD_ITEM_SIZE
+            + numbers::LOCATION_ITEM_SIZE * shape.locations
+            + numbers::LIVE_OUT_ITEM_SIZE * shape.outs;
         p += shape.length;
         left -= 1;
     }
@@ -77,7 +73,7 @@ fn put_record(s: &[u8], out: &mut [u8], to: usize) -> Passed
 {
     let shape = record_shape(s);
     let mut next = items::put_record_item(s, out, to);
-    next = runs::put_locations(s, RECORD_HEAD_SIZE, shape.locations, out, next);
+    next = runs::put_locations(s, layout::RECORD_HEAD_SIZE, shape.locations, out, next);
     next = runs::put_live_outs(s, shape.begin, shape.outs, out, next);
     Passed {
         length: shape.length,

@@ -8,14 +8,7 @@ ghost use Rattle.listing.specs.Layout.{functionItemSize, constantItemSize, loca
 ghost use Rattle.listing.specs.Listing.{functionItem, constantItem, locationItem, liveOutItem};
 ghost use Rattle.lister.specs.Put.{Put};
 use crate::items;
-
-pub const FUNCTION_SIZE: usize = 24;
-
-pub const CONSTANT_SIZE: usize = 8;
-
-pub const LOCATION_SIZE: usize = 12;
-
-pub const LIVE_OUT_SIZE: usize = 4;
+use stackmap::layout;
 
 // The `count` functions from `at`.
 pub fn put_functions(s: &[u8], at: usize, count: usize, out: &mut [u8], to: usize) -> usize
@@ -27,7 +20,7 @@ pub fn put_functions(s: &[u8], at: usize, count: usize, out: &mut [u8], to: usiz
     let mut t = to;
     while functions > 0 {
         t = items::put_function(s, p, out, t);
-        p += FUNCTION_SIZE;
+        p += layout::FUNCTION_SIZE;
         functions -= 1;
     }
     t
@@ -43,7 +36,7 @@ pub fn put_constants(s: &[u8], at: usize, count: usize, out: &mut [u8], to: usiz
     let mut t = to;
     while constants > 0 {
         t = items::put_constant(s, p, out, t);
-        p += CONSTANT_SIZE;
+        p += layout::CONSTANT_SIZE;
         constants -= 1;
     }
     t
@@ -59,7 +52,7 @@ pub fn put_locations(s: &[u8], at: usize, count: usize, out: &mut [u8], to: usiz
     let mut t = to;
     while locations > 0 {
         t = items::put_location(s, p, out, t);
-        p += LOCATION_SIZE;
+        p += layout::LOCATION_SIZE;
         locations -= 1;
     }
     t
@@ -75,7 +68,7 @@ pub fn put_live_outs(s: &[u8], at: usize, count: usize, out: &mut [u8], to: usiz
     let mut t = to;
     while outs > 0 {
         t = items::put_live_out(s, p, out, t);
-        p += LIVE_OUT_SIZE;
+        p += layout::LIVE_OUT_SIZE;
         outs -= 1;
     }
     t

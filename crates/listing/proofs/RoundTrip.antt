@@ -25,7 +25,7 @@ use Rattle.listing.specs.RoundTrip.{result, gives, RoundTrips, OutputKep
 use Rattle.listing.proofs.Fits.{section-to-listing}
 use Rattle.listing.proofs.Listing.{items-size, listing-length, listing-back, listing-check, accepted-listing, listing-encodable}
 use Rattle.stackmap.proofs.Numbers.{Above, a-chain, section-above}
-use Rattle.listing.proofs.Numbers.{listing-above}
+use Rattle.listing.proofs.Above.{listing-above}
 
 -- where nothing is refused, all is whole, and the result is written
 record Gave (c : Verdict) (r out : List ℕ) : Type 0 where

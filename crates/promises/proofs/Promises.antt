@@ -1,16 +1,26 @@
 -- All promises hold.
 use Rattle.stackmap.proofs.WellFormed
 use Rattle.listing.proofs.RoundTrip
+use Rattle.relocate.proofs.Demand
+use Rattle.relocate.proofs.Reorder
+use Rattle.relocate.proofs.Consequences
 use Rattle.promises.specs.Promises.{Promises}
 use Rattle.promises.proofs.Worked
 
 pub promises : Promises
 promises =
     record {
+      image-untouched = Consequences.untouched;
       output-kept = RoundTrip.output-kept;
       one-to-one = WellFormed.one-to-one;
       listing-one-to-one = RoundTrip.listing-one-to-one;
       built-refusal = WellFormed.built;
       round-trips = RoundTrip.round-trips;
-      worked = Worked.worked
+      counts = Consequences.counts;
+      demand3 = Demand.demand3;
+      order-free = Demand.order-free;
+      pair-order = Reorder.pair-order;
+      keeps-distance = Consequences.keeps-distance;
+      only-slots-count = Consequences.only-slots-count;
+      worked = Worked.worked;
     }

@@ -1,15 +1,26 @@
 -- All that is shown of the definitions, in the order of the demands.
 use Rattle.stackmap.specs.Laws.{OneToOne, BuiltRefusal}
 use Rattle.listing.specs.RoundTrip.{ListingOneToOne, RoundTrips, OutputKept}
+use Rattle.relocate.specs.Lists.{Demand3, OrderFree}
+use Rattle.relocate.specs.Reorder.{PairOrder}
+use Rattle.relocate.specs.Consequences.{Untouched, Counts, KeepsDistance, OnlySlotsCount}
 use Rattle.promises.specs.Worked.{WorkedTable}
 
 pub record Promises : Type 0 where
-  -- 1: a refused conversion changes no byte of the output
+  -- 1: a refused call changes no byte of the image or of an output
+  pub image-untouched : Untouched
   pub output-kept : OutputKept
-  -- 2: accepted sections and listings are their data, and both round trips give the same bytes
+  -- 2: accepted sections and listings are their data, both round trips give the same bytes, and a move counts its pairs
   pub one-to-one : OneToOne
   pub listing-one-to-one : ListingOneToOne
   pub built-refusal : BuiltRefusal
   pub round-trips : RoundTrips
-  -- the worked table
+  pub counts : Counts
+  -- 3: order doesn't count, of moves (with what each move writes) and of pairs
+  pub demand3 : Demand3
+  pub order-free : OrderFree
+  pub pair-order : PairOrder
+  -- the two consequences that are wanted, and the worked table
+  pub keeps-distance : KeepsDistance
+  pub only-slots-count : OnlySlotsCount
   pub worked : WorkedTable

@@ -10,14 +10,19 @@ use Rattle.stackmap.specs.Section.{Location, Section, encodeSection}
 use Rattle.stackmap.specs.Check.{sectionCheck}
 use Rattle.listing.specs.Listing.{Converted, toListing, toSection}
 use Rattle.listing.specs.RoundTrip.{result}
+use Rattle.moves.specs.declared.Move.{Move}
+use Rattle.relocate.specs.declared.Frame.{Frame}
+use Rattle.relocate.specs.Relocation.{answer, moved}
 
--- what is asked: the check of a section, a section's listing, or a listing's section
+-- what is asked: the check of a section, a section's listing, a listing's section, or a move of a frame at 0x1020 with RSP 0x7000, by
+-- a table of one object (old start, new start), in an image from 0x7000
 pub data Asked : Type 0 where
   check : List ℕ → Asked
   listingOf : List ℕ → Asked
   sectionOf : List ℕ → Asked
+  moveIn : Section → ℕ → ℕ → List ℕ → Asked
 
--- a refusal's number and place; a section's length; or the length and the bytes that are written
+-- a refusal's number and place; a section's length; or the length and the bytes that are written, or the count and the image
 pub data Got : Type 0 where
   refused : ℕ → ℕ → Got
   accepted : ℕ → Got
@@ -31,6 +36,13 @@ abbrev pub converted : ℕ → Converted → Got
 converted zero c = gives (c .written) (result c)
 converted (suc n) c = refused (suc n) (c .place)
 
+abbrev pub shifted : ℕ → Move → List ℕ → Got
+shifted zero a im = gives (a .count) im
+shifted (suc n) a im = refused (suc n) (a .place)
+
+abbrev pub frame : Frame
+frame = record { address = 0x1020; rbp = 0; rsp = 0x7000 }
+
 -- an output with room enough
 abbrev pub room : List ℕ
 room = replicate 200 0
@@ -39,6 +51,10 @@ unfoldable pub got : Asked → Got
 got (check s) = checked (sectionCheck s)
 got (listingOf s) = let c = toListing s room in converted (c .number) c
 got (sectionOf l) = let c = toSection l room in converted (c .number) c
+got (moveIn t old new im) =
+    let s = encodeSection t in
+    let a = answer s (old ∷ []) (new ∷ []) 0x7000 im frame in
+    shifted (a .number) a (moved s (old ∷ []) (new ∷ []) 0x7000 im frame)
 
 -- a header of version v with three counts
 unfoldable pub header : ℕ → ℕ → ℕ → ℕ → List ℕ
@@ -59,9 +75,19 @@ withPairs ls =
       records = record { id = 7; offset = 0x20; locations = zeroConstant ∷ zeroConstant ∷ zeroConstant ∷ ls; liveOuts = [] } ∷ [];
     }
 
--- pairs (RSP+8, RSP+8) and (RSP+8, RSP+16)
+-- pairs (RSP+8, RSP+8) and (RSP+8, RSP+o)
+abbrev pub pairsTo : ℕ → Section
+pairsTo o = withPairs (atRSP 8 ∷ atRSP 8 ∷ atRSP 8 ∷ atRSP o ∷ [])
+
 abbrev pub H : Section
-H = withPairs (atRSP 8 ∷ atRSP 8 ∷ atRSP 8 ∷ atRSP 16 ∷ [])
+H = pairsTo 16
+
+abbrev pub exchanged : Section
+exchanged = withPairs (atRSP 8 ∷ atRSP 16 ∷ atRSP 8 ∷ atRSP 8 ∷ [])
+
+-- 24 bytes from 0x7000 with these slots at RSP+8 and RSP+16
+unfoldable pub image : ℕ → ℕ → List ℕ
+image b d = replicate 8 0 ++ bytes 8 b ++ bytes 8 d
 
 unfoldable pub listingH : List ℕ
 listingH =
@@ -92,7 +118,8 @@ table =
     (check (replicate 15 0) ⇒ refused 1 0) ∷
     {- C -}
     (check (header 3 0 0 0) ⇒ accepted 16) ∷
-    {- C -} (listingOf (header 3 0 0 0) ⇒ gives 1 (0x06 ∷ [])) ∷
+    {- C -}
+    (listingOf (header 3 0 0 0) ⇒ gives 1 (0x06 ∷ [])) ∷
     {- D -}
     (check (header 1 0 0 0) ⇒ refused 2 0) ∷
     {- E -}

@@ -11,6 +11,8 @@ pub const NUM_RECORDS_AT: usize = 12;
 
 pub const FUNCTION_SIZE: usize = 24;
 
+pub const STACK_SIZE_AT: usize = 8;
+
 pub const RECORD_COUNT_AT: usize = 16;
 
 pub const CONSTANT_SIZE: usize = 8;
@@ -39,6 +41,8 @@ pub const LOCATION_SIZE: usize = 12;
 pub const LOCATION_SIZE_AT: usize = 2;
 
 pub const LOCATION_REGISTER_AT: usize = 4;
+
+pub const LOCATION_ZEROS_AT: usize = 6;
 
 pub const LOCATION_OFFSET_AT: usize = 8;
 

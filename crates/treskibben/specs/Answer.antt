@@ -7,6 +7,9 @@ use Rattle.questions.specs.declared.Located.{Located}
 use Rattle.questions.specs.declared.LocationAnswer.{LocationAnswer}
 use Rattle.questions.specs.declared.LiveOutAnswer.{LiveOutAnswer}
 use Rattle.listing.specs.Listing.{Converted}
+use Rattle.moves.specs.declared.Move.{Move}
+use Rattle.relocate.specs.declared.Frame.{Frame}
+use Rattle.treskibben.specs.declared.Frame
 use Rattle.treskibben.specs.declared.Answer.{Answer}
 use Rattle.treskibben.specs.declared.Found
 use Rattle.treskibben.specs.declared.Stands.{Stands}
@@ -21,6 +24,13 @@ answer (Refused n p) v = record { number = n; place = p; value = 0 }
 -- the answer of a conversion; its value is the length written
 abbrev pub converted : Converted → Answer
 converted c = record { number = c .number; place = c .place; value = c .written }
+
+-- the answer of a move; its value is the count of an accepted one
+abbrev pub moveAnswer : Move → Answer
+moveAnswer m = record { number = m .number; place = m .place; value = m .count }
+
+abbrev pub frameOf : Frame.Frame → Frame
+frameOf f = record { address = f .address; rbp = f .rbp; rsp = f .rsp }
 
 -- The answers of the questions, field by field.
 

@@ -3,7 +3,8 @@ ghost use mathlib.Core.Path.{_≡_};
 ghost use Rattle.stackmap.specs.Check.{sectionCheck};
 ghost use Rattle.questions.specs.Questions.{byAddress, recordPlace, locationAnswer, liveOutAnswer};
 ghost use Rattle.listing.specs.Listing.{toListing, toSection};
-ghost use Rattle.treskibben.specs.Answer.{answer, converted, foundAt, standsAt, placed, passed};
+ghost use Rattle.relocate.specs.Relocation;
+ghost use Rattle.treskibben.specs.Answer.{answer, converted, moveAnswer, frameOf, foundAt, standsAt, placed, passed};
 use stackmap::Verdict;
 
 // A refusal's number and place, or 0 and 0 and the value that the call is for.
@@ -157,5 +158,39 @@ pub extern "C" fn treskibben_to_section(listing: &[u8], output: &mut [u8]) -> An
         number: c.number as u64,
         place: c.place as u64,
         value: c.written as u64,
+    }
+}
+
+// A frame: an address, RBP and RSP.
+#[repr(C)]
+pub struct Frame {
+    pub address: u64,
+    pub rbp: u64,
+    pub rsp: u64,
+}
+
+// The move of one frame in the stack image that starts at the address `first`, by the move table of old and new starts: a refusal,
+// with the image as it was; or accepted with the number of pairs, and each derived slot moved.
+#[no_mangle]
+pub extern "C" fn treskibben_relocate(
+    section: &[u8],
+    image: &mut [u8],
+    first: u64,
+    olds: &[u64],
+    news: &[u64],
+    frame: Frame,
+) -> Answer
+    ensures { λ r. ⌜ (r ≡ moveAnswer (Relocation.answer (now (section .entry)) (now (olds .entry)) (now (news .entry)) first (now (image .entry)) (frameOf frame))) × (now (image .exit) ≡ Relocation.moved (now (section .entry)) (now (olds .entry)) (now (news .entry)) first (now (image .entry)) (frameOf frame)) ⌝ }
+{
+    let f = relocate::Frame {
+        address: frame.address,
+        rbp: frame.rbp,
+        rsp: frame.rsp,
+    };
+    let m = relocate::relocate(section, image, first, olds, news, f);
+    Answer {
+        number: m.number as u64,
+        place: m.place as u64,
+        value: m.count as u64,
     }
 }

@@ -6,8 +6,8 @@ use borrow.Author.Needs.{needs}
 use Rattle.builder.proofs.to_section.Statement.{statement}
 use Rattle.builder.proofs.to_section.Tie as tie
 
-outcome-of-requires : tie.Need-outcome-of-requires
-outcome-of-requires c κs = search needs
+parse-requires : tie.Need-parse-requires
+parse-requires c κs = search needs
 
 enum-known-number : tie.Need-enum-known-number
 enum-known-number c = search needs
@@ -19,12 +19,12 @@ returns : tie.Need-returns
 returns c =
     let a = c .before .before .before .before .before .before .before .args in
     let w : Bytes (a .listing .now) = record { below = λ i. omega (arith, c .before .before .before .before .before .before .shared-slice-known .given i) } in
-    rw (converted-short (a .listing .now) w (a .out .now) (rw (c .before .before .plan .given .1) at (c .before .before .before .before .outcome-of .ensures)) (c .if1 .taken))
+    rw (converted-short (a .listing .now) w (a .out .now) (rw (c .before .before .plan .given .1) at (c .before .before .before .before .parse .ensures)) (omega arith))
     (record { number = refl; place = refl; written = refl; output = refl })
 
 section-requires : tie.Need-section-requires
 section-requires c κs =
-    let k = rw (c .before .before .before .plan .given .1) at (c .before .before .before .before .before .outcome-of .ensures) in
+    let k = rw (c .before .before .before .plan .given .1) at (c .before .before .before .before .before .parse .ensures) in
     let s = k .sized in
     (k .planned, k .ready, k .short, omega arith)
 
@@ -32,7 +32,7 @@ returns-2 : tie.Need-returns-2
 returns-2 c =
     let a = c .before .before .before .before .before .before .args in
     let w : Bytes (a .listing .now) = record { below = λ i. omega (arith, c .before .before .before .before .before .shared-slice-known .given i) } in
-    rw (converted-refused (a .listing .now) w (a .out .now) (rw (c .before .number .given .1) at (c .before .before .before .outcome-of .ensures)))
+    rw (converted-refused (a .listing .now) w (a .out .now) (rw (c .before .number .given .1) at (c .before .before .before .parse .ensures)))
     (record { number = refl; place = refl; written = refl; output = refl })
 
 same-length : tie.Need-same-length
@@ -42,14 +42,14 @@ returns-3 : tie.Need-returns-3
 returns-3 c =
     let a = c .before .before .before .before .before .before .before .before .before .before .before .args in
     let w : Bytes (a .listing .now) = record { below = λ i. omega (arith, c .before .before .before .before .before .before .before .before .before .before .shared-slice-known .given i) } in
-    rw (converted (a .listing .now) w (a .out .now) (rw (c .before .before .before .before .before .before .plan .given .1) at (c .before .before .before .before .before .before .before .before .outcome-of .ensures)) (c .before .before .before .before .if1 .left))
+    rw (converted (a .listing .now) w (a .out .now) (rw (c .before .before .before .before .before .before .plan .given .1) at (c .before .before .before .before .before .before .before .before .parse .ensures)) (c .before .before .before .before .if1 .left))
     (record { number = refl; place = refl; written = refl; output = c .before .before .section .ensures })
 
 pub to-section-spec : {M : Type 1} → statement M
 to-section-spec =
     tie.close
     (tie.spec
-    outcome-of-requires
+    parse-requires
     enum-known-number
     enum-known-plan
     returns

@@ -1,7 +1,7 @@
 use borrow.Author.Needs.{needs}
 use native.Mathlib.Omega.{arith}
 use mathlib.Core.Path.{_≡_}
-use Rattle.builder.proofs.Walking.{record-inside}
+use Rattle.parser.proofs.Walking.{record-inside}
 use Rattle.builder.proofs.SectionPut.{PuttingRecords, ready-small, records-start, record-room, records-on, records-end}
 use Rattle.builder.proofs.put.records.Statement.{statement}
 use Rattle.builder.proofs.put.records.Tie as tie

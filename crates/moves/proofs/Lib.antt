@@ -1,0 +1,12 @@
+pub mod Searches
+pub mod Splice
+pub mod Words
+pub mod Writes
+pub mod Order
+pub mod Tasks
+pub mod Lists
+pub mod Local
+pub mod Halving
+pub mod Clashes
+pub mod Fills
+pub mod Meets

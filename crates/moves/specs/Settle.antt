@@ -1,0 +1,75 @@
+-- What a move answers and leaves, by the bytes of the frame's window.
+use Prim.Native.Nat.{ℕ}
+use mathlib.Core.Path.{_≡_}
+use mathlib.Core.Bool.{Bool, true, false}
+use mathlib.Core.Option.{Option}
+use mathlib.Core.List.{List, [], _∷_}
+use lib.Dec.{ltb}
+use lib.ListN.{length, getD}
+use lib.Seq.{sets}
+use Rattle.wire.specs.Word.{bytes}
+use Rattle.moves.specs.declared.Move.{Move}
+use Rattle.moves.specs.Limits.{pointerSize}
+use Rattle.moves.specs.Search.{lowest}
+use Rattle.moves.specs.Pointers.{Pointer, null, slots, collides, unknown, newContent}
+
+-- a refusal's number and place
+abbrev pub refusedMove : ℕ → ℕ → Move
+refusedMove n p = record { number = n; place = p; count = 0 }
+
+-- accepted, with the number of pairs, null ones included
+abbrev pub acceptedMove : ℕ → Move
+acceptedMove n = record { number = 0; place = 0; count = n }
+
+-- 20 over all pairs before 21, each at the lowest pair with the fault: of n pairs, c is the first that collides and u the first
+-- whose base is unknown, and n stands for none
+abbrev pub answerBy : Bool → Bool → ℕ → ℕ → ℕ → Move
+answerBy true t c u n = refusedMove 20 c
+answerBy false true c u n = refusedMove 21 u
+answerBy false false c u n = acceptedMove n
+
+unfoldable pub answerFor : ℕ → ℕ → ℕ → Move
+answerFor c u n = answerBy (ltb c n) (ltb u n) c u n
+
+-- a refused move leaves the old bytes, and an accepted one the new ones
+abbrev pub bytesBy : Bool → Bool → List ℕ → List ℕ → List ℕ
+bytesBy true t old new = old
+bytesBy false true old new = old
+bytesBy false false old new = new
+
+unfoldable pub bytesFor : ℕ → ℕ → ℕ → List ℕ → List ℕ → List ℕ
+bytesFor c u n old new = bytesBy (ltb c n) (ltb u n) old new
+
+-- the lowest pair that collides
+unfoldable pub first20 : List Pointer → List ℕ → ℕ
+first20 ps w = lowest (collides w ps) (length ps)
+
+-- a slot with a number in it
+unfoldable pub put : List ℕ → ℕ → ℕ → List ℕ
+put w s v = sets w s (bytes pointerSize v)
+
+module _ (table : ℕ → Option ℕ) where
+  -- the lowest pair whose base is neither 0 nor an old start
+  unfoldable pub first21 : List Pointer → List ℕ → ℕ
+  first21 ps w = lowest (λ p. unknown table w (getD ps p null)) (length ps)
+
+  -- the writes, one after the other; all that is read is read from `old`
+  abbrev pub write1 : List ℕ → List ℕ → Pointer → List ℕ
+  write1 old cur null = cur
+  write1 old cur (slots b d) = put cur d (newContent table old b d)
+
+  abbrev pub write : List ℕ → List ℕ → List Pointer → List ℕ
+  write old cur [] = cur
+  write old cur (p ∷ ps) = write old (write1 old cur p) ps
+
+  -- the answer, and the window's bytes after the move
+  unfoldable pub settled : List Pointer → List ℕ → Move
+  settled ps w = answerFor (first20 ps w) (first21 ps w) (length ps)
+
+  unfoldable pub settle : List Pointer → List ℕ → List ℕ
+  settle ps w = bytesFor (first20 ps w) (first21 ps w) (length ps) w (write w w ps)
+
+  -- an answer, and the bytes that are left, are what the definitions say
+  pub record Settles (r : Move) (after : List ℕ) (ps : List Pointer) (w : List ℕ) : Type 0 where
+    pub answer : r ≡ settled ps w
+    pub left : after ≡ settle ps w

@@ -1,0 +1,93 @@
+// The move table: two lent lists of 64-bit numbers, old starts and new starts.
+ghost use mathlib.Core.Path.{_≡_};
+ghost use mathlib.Core.Bool.{true};
+ghost use Rattle.moves.specs.Table.{rising, noZero, tableRight, lookUp};
+ghost use Rattle.moves.specs.Arrays.{asOption, Below};
+use crate::TABLE_MOST;
+
+// Whether the numbers rise strictly from above 0.
+fn rises(olds: &[u64]) -> bool
+    ensures { λ r. ⌜ r ≡ rising 0 (now (olds .entry)) ⌝ }
+{
+    let mut last: u64 = 0;
+    let mut i: usize = 0;
+    while i < olds.len() {
+        if olds[i] <= last {
+            return false;
+        }
+        last = olds[i];
+        i += 1;
+    }
+    true
+}
+
+fn without_zero(news: &[u64]) -> bool
+    ensures { λ r. ⌜ r ≡ noZero (now (news .entry)) ⌝ }
+{
+    let mut i: usize = 0;
+    while i < news.len() {
+        if news[i] == 0 {
+            return false;
+        }
+        i += 1;
+    }
+    true
+}
+
+// The test of refusal 14.
+pub fn table_right(olds: &[u64], news: &[u64]) -> bool
+    ensures { λ r. ⌜ r ≡ tableRight (now (olds .entry)) (now (news .entry)) ⌝ }
+{
+    if olds.len() != news.len() {
+        return false;
+    }
+    if olds.len() > TABLE_MOST {
+        return false;
+    }
+    if rises(olds) {
+        return without_zero(news);
+    }
+    false
+}
+
+// How many of the rising numbers lie below x, by halving.
+fn below(olds: &[u64], news: &[u64], x: u64) -> usize
+    requires { ⌜ tableRight (now olds) (now news) ≡ true ⌝ }
+    ensures { λ r. ⌜ Below (now (olds .entry)) x r ⌝ }
+{
+    let mut low: usize = 0;
+    let mut high = olds.len();
+    while low < high {
+        let middle = low + (high - low) / 2;
+        if olds[middle] < x {
+            low = middle + 1;
+        } else {
+            high = middle;
+        }
+    }
+    low
+}
+
+// Where an object is now.
+pub enum Found {
+    At(u64),
+    Nothing,
+}
+
+// Where the object of an old base is now; 0 stays 0.
+pub fn look_up(olds: &[u64], news: &[u64], base: u64) -> Found
+    requires { ⌜ tableRight (now olds) (now news) ≡ true ⌝ }
+    ensures { λ r. ⌜ asOption r ≡ lookUp (now (olds .entry)) (now (news .entry)) base ⌝ }
+{
+    if base == 0 {
+        return Found::At(0);
+    }
+    let i = below(olds, news, base);
+    if i == olds.len() {
+        return Found::Nothing;
+    }
+    if olds[i] == base {
+        return Found::At(news[i]);
+    }
+    Found::Nothing
+}

@@ -1,0 +1,84 @@
+-- The refusals of a listing's items, as the section that is built of them would get them.
+use Prim.Native.Nat.{ℕ, _+_, _*_, _-_, _<_, _^_}
+use mathlib.Core.Path.{_≡_, refl, ap}
+use mathlib.Core.List.{List, [], _∷_}
+use mathlib.Core.Bool.{Bool, true, false}
+use native.Mathlib.Omega.{arith}
+use native.Mathlib.Nat.{add-zero, add-assoc}
+use lib.ListN.{getD}
+use lib.Dec.{leb, eqb, ltb}
+use Rattle.wire.specs.Word.{word}
+use Rattle.stackmap.specs.declared.Verdict.{Verdict}
+use Rattle.stackmap.specs.declared.Verdict.the-variants.{Valid, Refused}
+use Rattle.stackmap.specs.Verdict.{must, chain, pick, shift}
+use Rattle.stackmap.specs.Fields.{many, size}
+use Rattle.stackmap.specs.Section.{Location, recordFields, Entry, address}
+use Rattle.stackmap.specs.Fault.{locationFault, locationsFault, entryFault}
+use Rattle.stackmap.proofs.Steps.{many-step}
+use Rattle.stackmap.proofs.Items.{byte-word}
+use Rattle.listing.specs.Listing.{listedFunction, listedLocation, listedRecord}
+use Rattle.parser.specs.Count.{Shaped}
+use Rattle.parser.specs.Survey.{recordSize}
+use Rattle.parser.specs.Walk.{ownerAt, entryAt}
+use Rattle.parser.proofs.Records.{shape-size}
+
+-- a verdict about a part, said of the whole, test by test
+shift-must : (p : ℕ) (b : Bool) (n q : ℕ) (k : Verdict) → shift p (must b n q k) ≡ must b n (p + q) (shift p k)
+unfolding shift must
+shift-must p true n q k = refl
+shift-must p false n q k = refl
+
+shift-chain : (p : ℕ) (a k : Verdict) → shift p (chain a k) ≡ chain (shift p a) (shift p k)
+unfolding shift chain
+shift-chain p (Valid e) k = refl
+shift-chain p (Refused n q) k = refl
+
+shift-pick : (p : ℕ) (b : Bool) (j k : Verdict) → shift p (pick b j k) ≡ pick b (shift p j) (shift p k)
+unfolding pick
+shift-pick p true j k = refl
+shift-pick p false j k = refl
+
+shift-end : (p at : ℕ) → shift p (Valid (at + 12)) ≡ Valid (p + at + 12)
+unfolding shift
+shift-end p at = ap Valid (omega arith)
+
+shift-location : (p c : ℕ) (x : Location) (at : ℕ) → shift p (locationFault c x at) ≡ locationFault c x (p + at)
+unfolding locationFault
+shift-location p c x at = simp (shift-must, shift-pick, shift-end)
+
+pub shift-locations : (p c : ℕ) (xs : List Location) (at : ℕ) → shift p (locationsFault c xs at) ≡ locationsFault c xs (p + at)
+unfolding locationsFault
+shift-locations p c [] at = unfold shift in refl
+shift-locations p c (x ∷ xs) at = rw (shift-chain, shift-location, shift-locations p c xs (at + 12), add-assoc)
+
+-- a record's refusal, with places of the section
+pub entry-placed : (p c : ℕ) (e : Entry)
+    → shift p (entryFault c e) ≡ must (leb (address e) (2 ^ 64 - 1)) 8 p (chain (locationsFault c (e .body .locations) (p + 16)) (Valid (p + size (recordFields (e .body)))))
+unfolding entryFault
+entry-placed p c e = rw (shift-must, add-zero, shift-chain, shift-locations) (unfold shift in refl)
+
+-- one location after the other
+pub locations-step : (c n : ℕ) (l : List ℕ) (at p : ℕ) → 0 < n
+    → locationsFault c (many listedLocation 10 n l at) p
+    ≡ chain (locationFault c (listedLocation l at) p) (locationsFault c (many listedLocation 10 (n - 1) l (at + 10)) (p + 12))
+unfolding locationsFault
+locations-step c n l at p h = rw (many-step listedLocation 10 n l at h)
+
+-- a location's refusal, by the bytes of its item
+pub location-listed : (c : ℕ) (l : List ℕ) (at p : ℕ)
+    → locationFault c (listedLocation l at) p
+    ≡ must (leb 1 (getD l (at + 1) 0)) 6 p
+    (must (leb (getD l (at + 1) 0) 5) 6 p
+    (pick (eqb (getD l (at + 1) 0) 5)
+    (must (ltb (word 4 l (at + 6)) (2 ^ 31)) 7 p (must (ltb (word 4 l (at + 6)) c) 7 p (Valid (p + 12))))
+    (Valid (p + 12))))
+unfolding locationFault listedLocation
+location-listed c l at p = rw byte-word
+
+-- a record's refusal, by the bytes of its items and of its function's
+pub entry-listed : {l : List ℕ} {at n m stop : ℕ} (i p c : ℕ) → Shaped l at n m stop
+    → shift p (entryFault c (entryAt l i at p))
+    ≡ must (leb (word 8 l (25 * i + 1) + word 4 l (at + 9)) (2 ^ 64 - 1)) 8 p
+    (chain (locationsFault c (many listedLocation 10 n l (at + 13)) (p + 16)) (Valid (p + recordSize n m)))
+unfolding address ownerAt listedFunction listedRecord
+entry-listed {l} {at} i p c h = rw (entry-placed p c (entryAt l i at p), shape-size h, h .locations-are)

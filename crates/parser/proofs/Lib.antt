@@ -1,0 +1,8 @@
+pub mod Bound
+pub mod Records
+pub mod Ends
+pub mod Faults
+pub mod Turns
+pub mod Walking
+pub mod Plans
+pub mod Outcomes

@@ -1,0 +1,81 @@
+use borrow.Author.Needs.{needs}
+use native.Mathlib.Omega.{arith}
+use Prim.Native.Nat.{_+_, _*_, _≤_}
+use mathlib.Core.Path.{_≡_}
+use lib.ListN.{length}
+use Rattle.stackmap.specs.Layout.{sectionMost}
+use Rattle.stackmap.specs.Verdict.{chain}
+use Rattle.stackmap.specs.Fields.{many}
+use Rattle.stackmap.specs.Fault.{locationsFault}
+use Rattle.listing.specs.Listing.{listedLocation}
+use Rattle.parser.proofs.Faults.{locations-step}
+use Rattle.parser.proofs.fault.locations.Statement.{statement}
+use Rattle.parser.proofs.fault.locations.Tie as tie
+
+abbrev Inv-loop : tie.InvT-loop
+Inv-loop l at n place constants p₀ q₀ left₀ p q left =
+    (p + 10 * left ≤ length l) × (q + 12 * left ≤ sectionMost)
+    × (locationsFault constants (many listedLocation 10 n l at) place ≡ locationsFault constants (many listedLocation 10 left l p) q)
+
+abbrev μ-loop : tie.MeasureT-loop
+μ-loop l at n place constants p₀ q₀ left₀ p q left = left
+
+loop-holds : tie.Need-loop-holds Inv-loop μ-loop
+loop-holds c = search needs
+
+location-requires : tie.Need-location-requires Inv-loop μ-loop
+location-requires c κs = search needs
+
+enum-known-number : tie.Need-enum-known-number Inv-loop μ-loop
+enum-known-number c = search needs
+
+returns : tie.Need-returns Inv-loop μ-loop
+unfolding chain
+returns c =
+    let l = c .before .before .before .before .before .loop in
+    rw (l .inv .2, locations-step _ (l .left) _ _ _ (c .before .before .before .before .loop-test .taken), ← c .before .before .before .location .ensures, c .before .number .given .1)
+
+enum-told : tie.Need-enum-told Inv-loop μ-loop
+enum-told c = search needs
+
+add-p : tie.Need-add-p Inv-loop μ-loop
+add-p c = search needs
+
+add-q : tie.Need-add-q Inv-loop μ-loop
+add-q c = search needs
+
+sub-left : tie.Need-sub-left Inv-loop μ-loop
+sub-left c = search needs
+
+loop-less : tie.Need-loop-less Inv-loop μ-loop
+loop-less c = search needs
+
+loop-again : tie.Need-loop-again Inv-loop μ-loop
+unfolding chain
+loop-again c =
+    let l = c .before .before .before .before .loop in
+    (omega arith, omega arith, rw (l .inv .2, locations-step _ (l .left) _ _ _ (c .before .before .before .loop-test .taken), ← c .before .before .location .ensures, c .enum-told .given .1))
+
+returns-2 : tie.Need-returns-2 Inv-loop μ-loop
+unfolding locationsFault many
+returns-2 c =
+    let none : c .before .loop .left ≡ 0 = omega arith in
+    rw (c .before .loop .inv .2, none)
+
+pub locations-spec : {M : Type 1} → statement M
+locations-spec =
+    tie.close
+    (tie.spec
+    Inv-loop
+    μ-loop
+    loop-holds
+    location-requires
+    enum-known-number
+    returns
+    enum-told
+    add-p
+    add-q
+    sub-left
+    loop-less
+    loop-again
+    returns-2)

@@ -1,0 +1,5 @@
+pub mod Count
+pub mod Survey
+pub mod Grammar
+pub mod Walk
+pub mod Outcome

@@ -1,0 +1,53 @@
+-- What a pass over the records of a listing finds.
+use Prim.Native.Nat.{ℕ, _+_, _*_, _≤_}
+use mathlib.Core.Path.{_≡_}
+use mathlib.Core.List.{List}
+use mathlib.Core.Bool.{Bool, true, false}
+use lib.ListN.{length}
+use Rattle.stackmap.specs.declared.Verdict.the-variants.{Refused}
+use Rattle.stackmap.specs.Layout.{recordHeadSize, locationSize, locationsPadding, liveOutsHeadSize, liveOutSize, liveOutsPadding}
+use Rattle.stackmap.specs.Fields.{size, all}
+use Rattle.stackmap.specs.Section.{Record, recordFields}
+use Rattle.listing.specs.Layout.{functionItemSize, constantItemSize, recordKind, recordItemSize}
+use Rattle.listing.specs.Listing.{stands, listedRecords, recordsStop, notTooMany}
+use Rattle.parser.specs.Count.{Tabled}
+
+-- the bytes of a record with n locations and m live-outs
+abbrev pub recordSize : ℕ → ℕ → ℕ
+recordSize n m = recordHeadSize + locationSize * n + locationsPadding n + liveOutsHeadSize + liveOutSize * m + liveOutsPadding m
+
+module _ (l : List ℕ) where
+  -- the records from the item at `at` on, and where they stop
+  abbrev pub recordsFrom : ℕ → List Record
+  recordsFrom at = listedRecords l (length l) at
+
+  abbrev pub stopFrom : ℕ → ℕ
+  stopFrom at = recordsStop l (length l) at
+
+  -- between `from` and `at` stand this many whole records, none with too many items, that take so many bytes in a section
+  pub record Passed (from records bytes at : ℕ) : Type 0 where
+    pub inside : at ≤ length l
+    pub few : records ≤ at
+    pub short : bytes ≤ 3 * at
+    pub stops : stopFrom from ≡ stopFrom at
+    pub checks : notTooMany (recordsFrom from) from ≡ notTooMany (recordsFrom at) at
+    pub counted : length (recordsFrom from) ≡ records + length (recordsFrom at)
+    pub sized : size (all recordFields (recordsFrom from)) ≡ bytes + size (all recordFields (recordsFrom at))
+
+  -- what ends the pass: a record with too many items stands here, or none at all
+  abbrev pub Ends : ℕ → Bool → Type 0
+  Ends at true = notTooMany (recordsFrom at) at ≡ Refused 23 at
+  Ends at false = stands recordKind recordItemSize l at ≡ false
+
+  -- where the records of this many functions and constants begin
+  abbrev pub recordsAfter : ℕ → ℕ → ℕ
+  recordsAfter functions constants = functionItemSize * functions + constantItemSize * constants
+
+  -- what is known of a listing before its section is written: how many functions, constants and records, and the bytes of
+  -- the records in the section
+  pub record Planned (functions constants records bytes : ℕ) : Type 0 where
+    pub tables : Tabled l functions constants
+    pub counted : length (recordsFrom (recordsAfter functions constants)) ≡ records
+    pub sized : size (all recordFields (recordsFrom (recordsAfter functions constants))) ≡ bytes
+    pub few : records ≤ length l
+    pub short : bytes ≤ 3 * length l

@@ -1,0 +1,95 @@
+// The refusals that the built section would get, said of the listing's items: 6, 7 and 8. A place is one of the section.
+ghost use mathlib.Core.Path.{_≡_};
+ghost use Prim.Native.Nat.{_+_, _*_, _≤_, _<_};
+ghost use lib.ListN.{length};
+ghost use Rattle.stackmap.specs.Layout.{locationSize, sectionMost};
+ghost use Rattle.stackmap.specs.Verdict.{shift};
+ghost use Rattle.stackmap.specs.Fields.{many};
+ghost use Rattle.stackmap.specs.Fault.{locationFault, locationsFault, entryFault};
+ghost use Rattle.listing.specs.Layout.{functionItemSize, locationItemSize, listingMost};
+ghost use Rattle.listing.specs.Listing.{listedLocation};
+ghost use Rattle.parser.specs.Count.{Shaped};
+ghost use Rattle.parser.specs.Survey.{recordSize};
+ghost use Rattle.parser.specs.Walk.{entryAt};
+use crate::shape;
+use listing::numbers;
+use stackmap::Verdict;
+use stackmap::layout;
+
+// The location item at `at`, in a listing of `constants` constants; it is to stand at `place`.
+fn location(l: &[u8], at: usize, place: usize, constants: usize) -> Verdict
+    requires { ⌜ (at + locationItemSize ≤ length (now l)) × (place + locationSize ≤ sectionMost) ⌝ }
+    ensures { λ r. ⌜ r ≡ locationFault constants (listedLocation (now (l .entry)) at) place ⌝ }
+{
+    let kind = l[at + numbers::LISTED_LOCATION_KIND_AT];
+    if kind < layout::KIND_LEAST {
+        return Verdict::Refused(6, place);
+    }
+    if kind > layout::KIND_MOST {
+        return Verdict::Refused(6, place);
+    }
+    if kind != layout::KIND_CONST_INDEX {
+        return Verdict::Valid(place + layout::LOCATION_SIZE);
+    }
+    let index = wire::u32_at(l, at + numbers::LISTED_LOCATION_OFFSET_AT);
+    if index >= layout::NEGATIVE_FROM {
+        return Verdict::Refused(7, place);
+    }
+    if index as usize >= constants {
+        return Verdict::Refused(7, place);
+    }
+    Verdict::Valid(place + layout::LOCATION_SIZE)
+}
+
+// The `n` location items from `at`; the first is to stand at `place`.
+fn locations(l: &[u8], at: usize, n: usize, place: usize, constants: usize) -> Verdict
+    requires { ⌜ (at + locationItemSize * n ≤ length (now l)) × (place + locationSize * n ≤ sectionMost) ⌝ }
+    ensures { λ r. ⌜ r ≡ locationsFault constants (many listedLocation locationItemSize n (now (l .entry)) at) place ⌝ }
+{
+    let mut p = at;
+    let mut q = place;
+    let mut left = n;
+    while left > 0 {
+        if let Verdict::Refused(number, refused) = location(l, p, q, constants) {
+            return Verdict::Refused(number, refused);
+        }
+        p += numbers::LOCATION_ITEM_SIZE;
+        q += layout::LOCATION_SIZE;
+        left -= 1;
+    }
+    Verdict::Valid(q)
+}
+
+// The record item at `at`, of function number `function`; it is to stand at `place`.
+pub fn entry(
+    l: &[u8],
+    at: usize,
+    shape: shape::Shape,
+    function: usize,
+    place: usize,
+    constants: usize,
+) -> Verdict
+    requires { ⌜ Shaped (now l) at (shape .locations) (shape .outs) (shape .stop) × (functionItemSize * function + functionItemSize ≤ length (now l)) × (length (now l) ≤ listingMost) × (place + recordSize (shape .locations) (shape .outs) ≤ sectionMost) ⌝ }
+    ensures { λ r. ⌜ r ≡ shift place (entryFault constants (entryAt (now (l .entry)) function at place)) ⌝ }
+{
+    let address = wire::u64_at(
+        l,
+        numbers::FUNCTION_ITEM_SIZE * function + numbers::LISTED_ADDRESS_AT,
+    );
+    let offset = wire::u32_at(l, at + numbers::LISTED_INSTRUCTION_OFFSET_AT) as u64;
+    if offset > layout::ADDRESS_MOST - address {
+        return Verdict::Refused(8, place);
+    }
+    let first = at + numbers::RECORD_ITEM_SIZE;
+    let n = shape.locations;
+    if let Verdict::Refused(number, refused) = locations(
+        l,
+        first,
+        n,
+        place + layout::RECORD_HEAD_SIZE,
+        constants,
+    ) {
+        return Verdict::Refused(number, refused);
+    }
+    Verdict::Valid(place + shape::record_size(shape))
+}

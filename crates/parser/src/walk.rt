@@ -1,0 +1,114 @@
+// The refusals that the built section would get, over the whole listing: 1, 5, and those of each record.
+ghost use mathlib.Core.Path.{_≡_};
+ghost use Prim.Native.Nat.{_+_, _*_, _≤_, _<_};
+ghost use lib.ListN.{length};
+ghost use lib.Dec.{eqb};
+ghost use Rattle.stackmap.specs.Section.{owners, counted, entriesFrom};
+ghost use Rattle.stackmap.specs.Fault.{entriesFault, sectionFault};
+ghost use Rattle.listing.specs.Layout.{functionItemSize, listingMost};
+ghost use Rattle.listing.specs.Listing.{readListing};
+ghost use Rattle.parser.specs.Survey.{recordsFrom, Planned};
+ghost use Rattle.parser.specs.Walk.{functionsOf, ahead, Turning, Walkable};
+use crate::Plan;
+use crate::fault;
+use crate::shape;
+use listing::numbers;
+use stackmap::Verdict;
+use stackmap::layout;
+
+// Whether the record counts of the first `functions` functions add up to `total`, exactly.
+fn counts_add_up(l: &[u8], functions: usize, total: usize) -> bool
+    requires { ⌜ functionItemSize * functions ≤ length (now l) ⌝ }
+    ensures { λ r. ⌜ r ≡ eqb (counted (functionsOf (now (l .entry)) functions)) total ⌝ }
+{
+    let mut f: usize = 0;
+    let mut left = functions;
+    let mut rest = total as u64;
+    while left > 0 {
+        let count = wire::u64_at(l, f + numbers::LISTED_RECORD_COUNT_AT);
+        if count > rest {
+            return false;
+        }
+        rest -= count;
+        f += numbers::FUNCTION_ITEM_SIZE;
+        left -= 1;
+    }
+    rest == 0
+}
+
+// Which function owns the next record: the one before `next`, while `left` of its records are ahead.
+struct Turn {
+    next: usize,
+    left: u64,
+}
+
+// Passes over functions that have no record left, to the owner of the next record.
+fn owner(l: &[u8], functions: usize, turn: Turn) -> Turn
+    requires { ⌜ (functionItemSize * functions ≤ length (now l)) × Turning functions (turn .next) (turn .left) × (0 < length (ahead (now l) functions (turn .next) (turn .left))) ⌝ }
+    ensures { λ r. ⌜ (ahead (now (l .entry)) functions (r .next) (r .left) ≡ ahead (now (l .entry)) functions (turn .next) (turn .left)) × (0 < r .left) × (0 < r .next) × (r .next ≤ functions) ⌝ }
+{
+    let mut next = turn.next;
+    let mut left = turn.left;
+    while left == 0 {
+        left = wire::u64_at(
+            l,
+            numbers::FUNCTION_ITEM_SIZE * next + numbers::LISTED_RECORD_COUNT_AT,
+        );
+        next += 1;
+    }
+    Turn { next, left }
+}
+
+// The records from the item at `from` on; the first is to stand at `place`, and the section ends at `end`.
+fn records(l: &[u8], plan: Plan, from: usize, place: usize, end: usize) -> Verdict
+    requires { ⌜ Walkable (now l) (plan .functions) from (plan .records) place end × (length (now l) ≤ listingMost) ⌝ }
+    ensures { λ r. ⌜ r ≡ entriesFault (plan .constants) (entriesFrom 0 place (owners 0 (functionsOf (now (l .entry)) (plan .functions))) (recordsFrom (now (l .entry)) from)) end ⌝ }
+{
+    let functions = plan.functions;
+    let constants = plan.constants;
+    let mut turn = Turn { next: 0, left: 0 };
+    let mut at = from;
+    let mut to = place;
+    let mut remaining = plan.records;
+    while remaining > 0 {
+        let t = owner(l, functions, turn);
+        let next = t.next;
+        let left = t.left;
+        let shape = shape::record_shape(l, at);
+        match fault::entry(l, at, shape, next - 1, to, constants) {
+            Verdict::Refused(number, refused) => return Verdict::Refused(number, refused),
+            Verdict::Valid(stop) => {
+                to = stop;
+            }
+        }
+        at = shape.stop;
+        turn = Turn {
+            next,
+            left: left - 1,
+        };
+        remaining -= 1;
+    }
+    Verdict::Valid(to)
+}
+
+// The refusal of the section that is to be built, or its length.
+pub fn section(l: &[u8], plan: Plan) -> Verdict
+    requires { ⌜ Planned (now l) (plan .functions) (plan .constants) (plan .records) (plan .bytes) × (length (now l) ≤ listingMost) ⌝ }
+    ensures { λ r. ⌜ r ≡ sectionFault (readListing (now (l .entry))) ⌝ }
+{
+    let functions = plan.functions;
+    let constants = plan.constants;
+    let place = layout::HEADER_SIZE
+        + layout::FUNCTION_SIZE * functions
+        + layout::CONSTANT_SIZE * constants;
+    let end = place + plan.bytes;
+    if end > layout::SECTION_MOST {
+        return Verdict::Refused(1, 0);
+    }
+    let from = numbers::FUNCTION_ITEM_SIZE * functions + numbers::CONSTANT_ITEM_SIZE * constants;
+    if counts_add_up(l, functions, plan.records) {
+        records(l, plan, from, place, end)
+    } else {
+        Verdict::Refused(5, layout::NUM_RECORDS_AT)
+    }
+}

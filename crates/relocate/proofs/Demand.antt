@@ -1,0 +1,220 @@
+-- Demand 3, from the list theorem of the crate below.
+use Prim.Native.Nat.{ℕ, _+_, _-_, _≤_}
+use mathlib.Core.Path.{_≡_, refl, sym, ap, _∙_, subst, fun-ext}
+use mathlib.Core.Logic.{_⊎_, inl, inr, ⊎-elim}
+use mathlib.Core.Option.{Option}
+use mathlib.Core.List.{List, [], _∷_, map, List·Memᴰ, Memᴰ·map, List·Memᴰ·head, List·Memᴰ·tail, List·Memᴰ·cases-cons, List·Permᴰ, List·Permᴰ·nil, List·Permᴰ·cons, List·Permᴰ·swap, List·Permᴰ·trans, Permᴰ·symm}
+use native.Mathlib.Omega.{arith}
+use lib.ListN.{length, getD, drop, take-append-drop}
+use lib.Seq.{drop-drop, ext-getD}
+use Rattle.wire.specs.Word.{bytes}
+use Rattle.stackmap.specs.declared.Verdict.the-variants.{Valid}
+use Rattle.stackmap.specs.Section.{readSection}
+use Rattle.stackmap.specs.Check.{sectionCheck}
+use Rattle.moves.specs.declared.Move.{Move}
+use Rattle.moves.specs.Window.{In, part, splice}
+use Rattle.moves.specs.Table.{lookUp}
+use Rattle.moves.specs.Pointers.{Pointer, slots, newDerived}
+use Rattle.moves.specs.Settle.{settled}
+use Rattle.moves.specs.Plan.{Plan, refuse, window, says, leaves}
+use Rattle.moves.proofs.Searches.{perm-mem}
+use Rattle.moves.proofs.Words.{word-part}
+use Rattle.moves.proofs.Tasks.{Task, answerIn, after, runAnswers, runLeft, Separate, after-length, run-hit, run-miss}
+use Rattle.moves.proofs.Lists.{taskOf, windowTask, refusedTask, Sound, InWindow, task-good, separate, find, final-slot, final-rest}
+use Rattle.moves.proofs.Lists.{Disjoint as WindowsApart, answers as list-answers}
+use Rattle.relocate.specs.declared.Frame.{Frame}
+use Rattle.relocate.specs.Statepoint.{pairs, slotAt, pointerOf}
+use Rattle.relocate.specs.Plan.{plan, stackSize}
+use Rattle.relocate.specs.Relocation.{answer, moved, InExtent, newStart, newContent}
+use Rattle.relocate.specs.Lists.{answers, final, Disjoint, Written, Demand3, OrderFree}
+use Rattle.relocate.proofs.Planned.{Above, planned, plan-above, window-pair, sound, from-slots, pair-slots}
+
+-- a new content in the image, and in a window of it
+pub content-is : (olds news : List ℕ) (first : ℕ) (im : List ℕ) (b d : ℕ)
+    → windowContent (lookUp olds news) im (b - first) (d - first) ≡ newContent olds news first im b d
+unfolding windowContent newDerived newContent newStart
+content-is olds news first im b d = refl
+
+content-part : (table : ℕ → Option ℕ) (im : List ℕ) (off n b d : ℕ) → b + 8 ≤ n → d + 8 ≤ n
+    → windowContent table (part im off n) b d ≡ windowContent table im (off + b) (off + d)
+unfolding windowContent
+content-part table im off n b d h k = rw (word-part 8 im off n b h, word-part 8 im off n d k)
+
+-- a part put back where it was
+pub splice-back : (im : List ℕ) (a n : ℕ) → splice im a n (part im a n) ≡ im
+unfolding splice
+splice-back im a n = rw (← drop-drop n a im, take-append-drop n (drop a im)) (take-append-drop a im)
+
+-- a plan as a task of moves
+says-task : (table : ℕ → Option ℕ) (im : List ℕ) (p : Plan) → says table im p ≡ answerIn im (taskOf table p)
+unfolding windowTask refusedTask
+says-task table im (refuse n q) = refl
+says-task table im (window off size ps) = refl
+
+leaves-task : (table : ℕ → Option ℕ) (im : List ℕ) (p : Plan) → leaves table im p ≡ after im (taskOf table p)
+unfolding windowTask refusedTask after
+leaves-task table im (refuse n q) = sym (splice-back im 0 0)
+leaves-task table im (window off size ps) = refl
+
+module _ (s olds news : List ℕ) (first : ℕ) (e : ℕ) (k : sectionCheck s ≡ Valid e) where
+  abbrev pub P : ℕ → Frame → Plan
+  P = plan s olds news first
+
+  abbrev pub table : ℕ → Option ℕ
+  table = lookUp olds news
+
+  snd : (n : ℕ) (f : Frame) → Sound n (P n f)
+  snd n f = sound s olds news first n f e k
+
+  -- a byte of a window is a byte of an extent
+  in-extent : (n : ℕ) (f : Frame) (i : ℕ) → InWindow (P n f) i → InExtent s f (first + i)
+  in-extent n f i = go (P n f) refl
+    where
+      go : (p : Plan) → P n f ≡ p → InWindow p i → InExtent s f (first + i)
+      go (refuse m p) h q = absurd q
+      go (window off size ws) h q =
+          let w = planned s olds news first n f e k off size ws h in
+          record { entry = w .entry; one = w .one; known = w .known; low = omega arith; high = omega arith }
+
+  disjoint : (n : ℕ) (fs : List Frame) → Disjoint s fs → WindowsApart P n fs
+  disjoint n [] d = tt
+  disjoint n (f ∷ fs) d = (λ g m i q r. d .0 g m (first + i) (in-extent n f i q) (in-extent n g i r), disjoint n fs (d .1))
+
+  abbrev tasks : ℕ → Frame → Task Move
+  tasks n f = taskOf table (P n f)
+
+  -- one move, as a task
+  one-says : (im : List ℕ) (f : Frame) → answer s olds news first im f ≡ answerIn im (tasks (length im) f)
+  unfolding answer
+  one-says im f = says-task table im (P (length im) f)
+
+  one-leaves : (im : List ℕ) (f : Frame) → moved s olds news first im f ≡ after im (tasks (length im) f)
+  unfolding moved
+  one-leaves im f = leaves-task table im (P (length im) f)
+
+  answers-run : (fs : List Frame) (im : List ℕ) → answers s olds news first fs im ≡ runAnswers tasks fs im
+  answers-run [] im = refl
+  answers-run (f ∷ fs) im = rw (one-says im f, one-leaves im f, answers-run fs (after im (tasks (length im) f)))
+
+  final-run : (fs : List Frame) (im : List ℕ) → final s olds news first fs im ≡ runLeft tasks fs im
+  final-run [] im = refl
+  final-run (f ∷ fs) im = rw (one-leaves im f) (final-run fs (after im (tasks (length im) f)))
+
+  final-length : (fs : List Frame) (im : List ℕ) → length (final s olds news first fs im) ≡ length im
+  final-length [] im = refl
+  final-length (f ∷ fs) im =
+      rw (one-leaves im f)
+      (final-length fs (after im (tasks (length im) f)) ∙ after-length im (tasks (length im) f) (task-good table (length im) (P (length im) f) (snd (length im) f)))
+
+  plain : (fs : List Frame) (im : List ℕ) → Disjoint s fs → answers s olds news first fs im ≡ map (answer s olds news first im) fs
+  plain fs im d =
+      answers-run fs im ∙ list-answers table P snd fs im (disjoint (length im) fs d)
+      ∙ ap (λ (g : Frame → Move). map g fs) (fun-ext (λ f. sym (one-says im f)))
+
+  -- an accepted frame has a window, and its pairs are settled
+  pub record Passed (im : List ℕ) (f : Frame) : Type 0 where
+    pub off : ℕ
+    pub size : ℕ
+    pub pairs : List Pointer
+    pub is-window : P (length im) f ≡ window off size pairs
+    pub settled-0 : settled table pairs (part im off size) .number ≡ 0
+
+  pub accepts : (im : List ℕ) (f : Frame) → answer s olds news first im f .number ≡ 0 → Passed im f
+  unfolding answer
+  accepts im f h = go (P (length im) f) refl (plan-above s olds news first (length im) f e k) h
+    where
+      go : (p : Plan) → P (length im) f ≡ p → Above p → says table im p .number ≡ 0 → Passed im f
+      go (refuse n q) g a z = absurd (omega arith)
+      go (window off size ws) g a z = record { off = off; size = size; pairs = ws; is-window = g; settled-0 = z }
+
+  yes-answer : (f : Frame) (off size : ℕ) (ps : List Pointer) (im : List ℕ) → P (length im) f ≡ window off size ps
+      → settled table ps (part im off size) .number ≡ 0 → answer s olds news first im f .number ≡ 0
+  unfolding answer
+  yes-answer f off size ps im g z = rw g z
+
+  slot : (fs : List Frame) (im : List ℕ) → Disjoint s fs → (b d i : ℕ) → Written s olds news first im fs b d i
+      → getD (final s olds news first fs im) i 0 ≡ getD (bytes 8 (newContent olds news first im b d)) (first + i - d) 0
+  slot fs im dis b d i w =
+      let f = w .frame in
+      let a = accepts im f (w .accepted) in
+      let q = planned s olds news first (length im) f e k (a .off) (a .size) (a .pairs) (a .is-window) in
+      let l = w .lists in
+      let same : l .entry ≡ q .entry = (let x = l .one in let y = q .one in cc) in
+      let m : List·Memᴰ (l .pair) (pairs (q .entry .body)) = rw (← same) (l .listed) in
+      let v = from-slots (readSection s .constants) f (stackSize (q .entry)) (l .pair) (q .insides (l .pair) m) (l .not-null) in
+      let b′ = slotAt f (l .pair .base) in
+      let d′ = slotAt f (l .pair .derived) in
+      let eb : b ≡ f .rsp + b′ = omega (arith, v .base-at, l .base-at) in
+      let ed : d ≡ f .rsp + d′ = omega (arith, v .derived-at, l .derived-at) in
+      let mem : List·Memᴰ (slots b′ d′) (a .pairs) =
+      rw (q .pairs-are, ← pair-slots (readSection s .constants) f (l .pair) (l .not-null)) (Memᴰ·map (pointerOf (readSection s .constants) f) m) in
+      let ob : b - first ≡ a .off + b′ = omega (arith, q .off-is, q .low) in
+      let od : d - first ≡ a .off + d′ = omega (arith, q .off-is, q .low) in
+      let p : first + i - d ≡ i - (a .off + d′) = omega (arith, q .off-is, q .low) in
+      rw (← content-is olds news first im b d, final-run fs im, ob, od, p, ← content-part table im (a .off) (a .size) b′ d′ (rw (q .size-is) (v .base-in)) (rw (q .size-is) (v .derived-in)))
+      (final-slot table P snd fs im (disjoint (length im) fs dis) f (w .in-list) (a .off) (a .size) (a .pairs) b′ d′ i
+      (record {
+        planned = a .is-window;
+        accepted = a .settled-0;
+        listed = mem;
+        inside = record { low = omega (arith, w .inside .low, q .off-is, q .low); high = omega (arith, w .inside .high, q .off-is, q .low) };
+      }))
+
+  rest : (fs : List Frame) (im : List ℕ) → Disjoint s fs → (i : ℕ) → ((b d : ℕ) → Written s olds news first im fs b d i → ⊥)
+      → getD (final s olds news first fs im) i 0 ≡ getD im i 0
+  rest fs im dis i none =
+      rw (final-run fs im)
+      (final-rest table P snd fs im (disjoint (length im) fs dis) i (λ f m off size ps b d h.
+      let q = planned s olds news first (length im) f e k off size ps (h .planned) in
+      let v = window-pair s olds news first (length im) f e k off size ps q b d (h .listed) in
+      none (f .rsp + b) (f .rsp + d)
+      (record {
+        frame = f;
+        in-list = m;
+        accepted = yes-answer f off size ps im (h .planned) (h .accepted);
+        lists = record { entry = q .entry; one = q .one; pair = v .0; listed = v .1; not-null = v .2 .not-null; base-at = v .2 .base-at; derived-at = v .2 .derived-at };
+        inside = record { low = omega (arith, h .inside .low, q .off-is, q .low); high = omega (arith, h .inside .high, q .off-is, q .low) };
+      })))
+
+  -- two orders of one list leave one image
+  one-image : (fs gs : List Frame) (im : List ℕ) → List·Permᴰ fs gs → Disjoint s fs → Disjoint s gs
+      → final s olds news first fs im ≡ final s olds news first gs im
+  one-image fs gs im perm df dg =
+      ext-getD 0 _ _ (final-length fs im ∙ sym (final-length gs im)) (λ i h. rw (final-run fs im, final-run gs im) (go i (find table P snd (length im) fs i)))
+    where
+      sf : Separate (length im) (map (tasks (length im)) fs)
+      sf = separate table P snd (length im) fs (disjoint (length im) fs df)
+
+      sg : Separate (length im) (map (tasks (length im)) gs)
+      sg = separate table P snd (length im) gs (disjoint (length im) gs dg)
+
+      Here : ℕ → Frame → Type 0
+      Here i f = In (tasks (length im) f .off) (tasks (length im) f .size) i
+
+      go : (i : ℕ) → ((f : Frame) × List·Memᴰ f fs × Here i f) ⊎ ((f : Frame) → List·Memᴰ f fs → Here i f → ⊥)
+          → getD (runLeft tasks fs im) i 0 ≡ getD (runLeft tasks gs im) i 0
+      go i (inl o) = run-hit tasks (o .1) im sf i (o .2) ∙ sym (run-hit tasks (perm-mem perm (o .1)) im sg i (o .2))
+      go i (inr n) = run-miss tasks fs im sf i n ∙ sym (run-miss tasks gs im sg i (λ f m. n f (perm-mem (Permᴰ·symm perm) m)))
+
+disjoint-perm : (s : List ℕ) {fs gs : List Frame} → List·Permᴰ fs gs → Disjoint s fs → Disjoint s gs
+disjoint-perm s List·Permᴰ·nil d = tt
+disjoint-perm s (List·Permᴰ·cons {a = f} {b = g} e p) d =
+    (λ h m. rw (← e) (d .0 h (perm-mem (Permᴰ·symm p) m)), disjoint-perm s p (d .1))
+disjoint-perm s (List·Permᴰ·swap {a = f} {b = g} {a′ = g′} {b′ = f′} e₁ e₂) d =
+    rw (← e₁, ← e₂) (
+      (λ h m a x y. ⊎-elim (λ q. d .0 g (List·Memᴰ·head refl) a (subst (λ (k : Frame). InExtent s k a) q y) x) (λ n. d .1 .0 h n a x y) (List·Memᴰ·cases-cons m)),
+      ((λ h m. d .0 h (List·Memᴰ·tail m)), d .1 .1),
+    )
+disjoint-perm s (List·Permᴰ·trans p q) d = disjoint-perm s q (disjoint-perm s p d)
+
+pub order-free : OrderFree
+order-free s olds news first im k fs gs p d = one-image s olds news first (length s) k fs gs im p d (disjoint-perm s p d)
+
+pub demand3 : Demand3
+demand3 s olds news first im k fs d =
+    record {
+      plain = plain s olds news first (length s) k fs im d;
+      same-length = final-length s olds news first (length s) k fs im;
+      slot = slot s olds news first (length s) k fs im d;
+      rest = rest s olds news first (length s) k fs im d;
+    }

@@ -1,0 +1,197 @@
+-- What a plan that is a window tells.
+use Prim.Native.Nat.{ℕ, suc, _+_, _-_, _≤_, _<_}
+use mathlib.Core.Path.{_≡_, refl, sym, _∙_}
+use mathlib.Core.Bool.{Bool, true, false, not}
+use mathlib.Core.Logic.{_⊎_, inl, inr}
+use mathlib.Core.List.{List, [], _∷_, map, List·Memᴰ, Memᴰ·of-map, List·Memᴰ·not-nil, List·Memᴰ·cases-cons}
+use native.Mathlib.Omega.{arith}
+use borrow.Author.Tests.{eqb-false, leb-true}
+use Rattle.stackmap.specs.declared.Verdict.the-variants.{Valid}
+use Rattle.stackmap.specs.Layout.{stackSizeUnknown}
+use Rattle.stackmap.specs.Section.{Location, Entry, entries, readSection}
+use Rattle.stackmap.specs.Check.{sectionCheck}
+use Rattle.moves.specs.Pointers.{Pointer, null, slots}
+use Rattle.moves.specs.Plan.{Plan, refuse, window}
+use Rattle.moves.proofs.Lists.{Sound}
+use Rattle.relocate.specs.declared.Frame.{Frame}
+use Rattle.questions.specs.Questions.{ask, withAddress}
+use Rattle.relocate.specs.Statepoint.{Pair, pairs, isNull, slotInside, slotAt, registerOf, excess, inside, pointerOf}
+use Rattle.relocate.proofs.Pairing.{and-true}
+use Rattle.relocate.specs.Plan.{need, only, every, stackSize, extentRight, planPairs, planRecord, plan}
+
+not-true : (a : Bool) → not a ≡ true → a ≡ false
+not-true true h = absurd (let z : _≡_ {A = ℕ} 0 1 = cc in omega arith)
+not-true false h = refl
+
+-- the refusal numbers of a plan are above 0
+abbrev pub Above : Plan → Type 0
+Above (refuse n p) = 0 < n
+Above (window off size ps) = Unit {0}
+
+need-above : (b : Bool) (n : ℕ) (k : Plan) → Above k → Above (need b (suc n) k)
+unfolding need
+need-above true n k a = a
+need-above false n k a = omega arith
+
+only-above : (es : List Entry) (k : Entry → Plan) → ((e : Entry) → Above (k e)) → Above (only es k)
+unfolding only
+only-above [] k a = omega arith
+only-above (e ∷ []) k a = a e
+only-above (e ∷ e′ ∷ es) k a = omega arith
+
+pub every-yes : (good : Pair → Bool) (n i : ℕ) (p : Pair) (ps : List Pair) (k : Plan) → good p ≡ true → every good n i (p ∷ ps) k ≡ every good n (suc i) ps k
+unfolding every
+every-yes good n i p ps k e = rw (e, every)
+
+pub every-no : (good : Pair → Bool) (n i : ℕ) (p : Pair) (ps : List Pair) (k : Plan) → good p ≡ false → every good n i (p ∷ ps) k ≡ refuse n i
+unfolding every
+every-no good n i p ps k e = rw (e, every)
+
+every-above : (good : Pair → Bool) (n i : ℕ) (ps : List Pair) (k : Plan) → Above k → Above (every good (suc n) i ps k)
+every-above good n i [] k a = unfold every in a
+every-above good n i (p ∷ ps) k a = go (every-above good n (suc i) ps k a) (good p) refl
+  where
+    go : Above (every good (suc n) (suc i) ps k) → (b : Bool) → good p ≡ b → Above (every good (suc n) i (p ∷ ps) k)
+    go ih true e = rw (every-yes good (suc n) i p ps k e) ih
+    go ih false e = rw (every-no good (suc n) i p ps k e) (omega arith)
+
+-- a window stands where every test held
+
+module _ {off size : ℕ} {ws : List Pointer} where
+  need-held : (b : Bool) (n : ℕ) (k : Plan) → need b n k ≡ window off size ws → (b ≡ true) × (k ≡ window off size ws)
+  unfolding need
+  need-held true n k h = (refl, h)
+  need-held false n k h = absurd (let z : _≡_ {A = ℕ} 0 1 = cc in omega arith)
+
+  only-held : (es : List Entry) (k : Entry → Plan) → only es k ≡ window off size ws → (e : Entry) × (es ≡ e ∷ []) × (k e ≡ window off size ws)
+  unfolding only
+  only-held [] k h = absurd (let z : _≡_ {A = ℕ} 0 1 = cc in omega arith)
+  only-held (e ∷ []) k h = (e, refl, h)
+  only-held (e ∷ e′ ∷ es) k h = absurd (let z : _≡_ {A = ℕ} 0 1 = cc in omega arith)
+
+  every-held : (good : Pair → Bool) (n i : ℕ) (ps : List Pair) (k : Plan) → every good n i ps k ≡ window off size ws
+      → ((p : Pair) → List·Memᴰ p ps → good p ≡ true) × (k ≡ window off size ws)
+  every-held good n i [] k h = (λ p m. absurd (List·Memᴰ·not-nil m), unfold every in h)
+  every-held good n i (p ∷ ps) k h = go (every-held good n (suc i) ps k) (good p) refl
+    where
+      go : (every good n (suc i) ps k ≡ window off size ws → ((q : Pair) → List·Memᴰ q ps → good q ≡ true) × (k ≡ window off size ws))
+          → (b : Bool) → good p ≡ b → ((q : Pair) → List·Memᴰ q (p ∷ ps) → good q ≡ true) × (k ≡ window off size ws)
+      go ih true e =
+          let r = ih (sym (every-yes good n i p ps k e) ∙ h) in
+          (λ q m. pick q (List·Memᴰ·cases-cons m) (r .0 q), r .1)
+        where
+          pick : (q : Pair) → (q ≡ p) ⊎ List·Memᴰ q ps → (List·Memᴰ q ps → good q ≡ true) → good q ≡ true
+          pick q (inl d) f = rw d e
+          pick q (inr m) f = f m
+      go ih false e = absurd (let w : refuse n i ≡ window off size ws = sym (every-no good n i p ps k e) ∙ h in let z : _≡_ {A = ℕ} 0 1 = cc in omega arith)
+
+-- the slots of a pair that is not null, and inside
+slot-inside : (f : Frame) (n : ℕ) (l : Location) → slotInside f n l ≡ true
+    → (f .rsp + slotAt f l + excess l ≡ registerOf f l + l .offset) × (slotAt f l + 8 ≤ n)
+unfolding slotInside slotAt
+slot-inside f n l h =
+    let a = and-true _ _ h in
+    let x : f .rsp + excess l ≤ registerOf f l + l .offset = leb-true _ _ (a .0) in
+    let y : registerOf f l + l .offset + 8 ≤ f .rsp + n + excess l = leb-true _ _ (a .1) in
+    (omega arith, omega arith)
+
+-- a pair of the window, and the pair that it comes from
+pub record From (pool : List ℕ) (f : Frame) (n b d : ℕ) (p : Pair) : Type 0 where
+  pub not-null : isNull pool p ≡ false
+  pub base-is : b ≡ slotAt f (p .base)
+  pub derived-is : d ≡ slotAt f (p .derived)
+  pub base-at : f .rsp + b + excess (p .base) ≡ registerOf f (p .base) + p .base .offset
+  pub derived-at : f .rsp + d + excess (p .derived) ≡ registerOf f (p .derived) + p .derived .offset
+  pub base-in : b + 8 ≤ n
+  pub derived-in : d + 8 ≤ n
+
+pub from-slots : (pool : List ℕ) (f : Frame) (n : ℕ) (p : Pair) → inside pool f n p ≡ true → isNull pool p ≡ false
+    → From pool f n (slotAt f (p .base)) (slotAt f (p .derived)) p
+unfolding inside
+from-slots pool f n p h e =
+    let a = and-true _ _ (rw e at h) in
+    let x = slot-inside f n (p .base) (a .0) in
+    let y = slot-inside f n (p .derived) (a .1) in
+    record { not-null = e; base-is = refl; derived-is = refl; base-at = x .0; derived-at = y .0; base-in = x .1; derived-in = y .1 }
+
+pub pair-from : (pool : List ℕ) (f : Frame) (n : ℕ) (p : Pair) (b d : ℕ) → inside pool f n p ≡ true → pointerOf pool f p ≡ slots b d → From pool f n b d p
+unfolding pointerOf
+pair-from pool f n p b d h e = go (isNull pool p) refl
+  where
+    go : (t : Bool) → isNull pool p ≡ t → From pool f n b d p
+    go true q = absurd (let w : null ≡ slots b d = rw q at e in let z : _≡_ {A = ℕ} 0 1 = cc in omega arith)
+    go false q =
+        let w : slots (slotAt f (p .base)) (slotAt f (p .derived)) ≡ slots b d = rw q at e in
+        let x : slotAt f (p .base) ≡ b = cc in
+        let y : slotAt f (p .derived) ≡ d = cc in
+        rw (x, y) at (from-slots pool f n p h q)
+
+pub pair-slots : (pool : List ℕ) (f : Frame) (p : Pair) → isNull pool p ≡ false → pointerOf pool f p ≡ slots (slotAt f (p .base)) (slotAt f (p .derived))
+unfolding pointerOf
+pair-slots pool f p e = rw e
+
+module _ (s olds news : List ℕ) (first n : ℕ) (f : Frame) where
+  abbrev pool : List ℕ
+  pool = readSection s .constants
+
+  pub record Planned (off size : ℕ) (ws : List Pointer) : Type 0 where
+    pub entry : Entry
+    pub one : withAddress (f .address) (entries s) ≡ entry ∷ []
+    pub known : stackSize entry ≡ stackSizeUnknown → ⊥
+    pub low : first ≤ f .rsp
+    pub high : f .rsp + stackSize entry ≤ first + n
+    pub off-is : off ≡ f .rsp - first
+    pub size-is : size ≡ stackSize entry
+    pub pairs-are : ws ≡ map (pointerOf pool f) (pairs (entry .body))
+    pub insides : (p : Pair) → List·Memᴰ p (pairs (entry .body)) → inside pool f (stackSize entry) p ≡ true
+
+  pub planned : (e : ℕ) → sectionCheck s ≡ Valid e → (off size : ℕ) (ws : List Pointer) → plan s olds news first n f ≡ window off size ws → Planned off size ws
+  unfolding plan planRecord planPairs extentRight ask
+  planned e k off size ws h =
+      let h₀ = need-held _ _ _ (need-held _ _ _ (rw k at h) .1) in
+      let o = only-held _ _ (h₀ .1) in
+      let h₁ = need-held _ _ _ (o .2) in
+      let h₂ = need-held _ _ _ (h₁ .1) in
+      let h₃ = need-held _ _ _ (h₂ .1) in
+      let h₄ = every-held _ _ _ _ _ (h₃ .1) in
+      let h₅ = every-held _ _ _ _ _ (h₄ .1) in
+      let x = and-true _ _ (h₂ .0) in
+      let y = and-true _ _ (x .1) in
+      let w = h₅ .1 in
+      record {
+        entry = o .0;
+        one = o .1;
+        known = eqb-false _ _ (not-true _ (x .0));
+        low = leb-true _ _ (y .0);
+        high = leb-true _ _ (y .1);
+        off-is = cc;
+        size-is = cc;
+        pairs-are = cc;
+        insides = h₅ .0;
+      }
+
+  pub plan-above : (e : ℕ) → sectionCheck s ≡ Valid e → Above (plan s olds news first n f)
+  unfolding plan planRecord planPairs ask
+  plan-above e k =
+      rw k
+      (need-above _ 12 _ (need-above _ 13 _ (only-above _ _ (λ x.
+      need-above _ 11 _ (need-above _ 15 _ (need-above _ 16 _ (every-above _ 17 0 _ _ (every-above _ 18 0 _ _ tt))))))))
+
+  pub window-pair : (e : ℕ) → sectionCheck s ≡ Valid e → (off size : ℕ) (ws : List Pointer) (q : Planned off size ws)
+      → (b d : ℕ) → List·Memᴰ (slots b d) ws → (p : Pair) × List·Memᴰ p (pairs (q .entry .body)) × From pool f size b d p
+  window-pair e k off size ws q b d m =
+      let o = Memᴰ·of-map (pointerOf pool f) (pairs (q .entry .body)) (rw (q .pairs-are) at m) in
+      (o .0, o .1, rw (q .size-is) (pair-from pool f (stackSize (q .entry)) (o .0) b d (q .insides (o .0) (o .1)) (o .2)))
+
+  pub sound : (e : ℕ) → sectionCheck s ≡ Valid e → Sound n (plan s olds news first n f)
+  sound e k = go (plan s olds news first n f) refl
+    where
+      go : (p : Plan) → plan s olds news first n f ≡ p → Sound n p
+      go (refuse m p) h = tt
+      go (window off size ws) h =
+          let q = planned e k off size ws h in
+          record {
+            window-in = omega arith;
+            base-in = λ b d m. window-pair e k off size ws q b d m .2 .base-in;
+            derived-in = λ b d m. window-pair e k off size ws q b d m .2 .derived-in;
+          }

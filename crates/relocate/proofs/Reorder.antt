@@ -1,0 +1,149 @@
+-- The order of pairs does not count.
+use Prim.Native.Nat.{ℕ, suc, _≤_, _<_}
+use mathlib.Core.Path.{_≡_, refl, sym, ap, _∙_}
+use mathlib.Core.Bool.{Bool, true, false, cond}
+use mathlib.Core.Logic.{⊎-elim}
+use mathlib.Core.Option.{Option}
+use mathlib.Core.List.{List, [], _∷_, List·Memᴰ, List·Memᴰ·head, List·Memᴰ·tail, List·Memᴰ·not-nil, List·Memᴰ·cases-cons, List·Permᴰ, Permᴰ·symm, Permᴰ·map}
+use native.Mathlib.Omega.{arith}
+use lib.Dec.{eqb}
+use lib.ListN.{length}
+use Rattle.wire.specs.Word.{Bytes}
+use Rattle.stackmap.specs.declared.Verdict.the-variants.{Valid}
+use Rattle.stackmap.specs.Section.{Section, readSection, Entry, address, entries}
+use Rattle.stackmap.specs.Check.{sectionCheck}
+use Rattle.stackmap.specs.Fault.{WellFormed}
+use Rattle.stackmap.proofs.WellFormed.{well-formed-accepted, accepted-well-formed}
+use Rattle.moves.specs.Window.{part, splice}
+use Rattle.moves.specs.Table.{lookUp}
+use Rattle.moves.specs.Pointers.{Pointer}
+use Rattle.moves.specs.Plan.{Plan, refuse, window, says, leaves}
+use Rattle.moves.proofs.Searches.{perm-mem, perm-length}
+use Rattle.moves.proofs.Splice.{part-length}
+use Rattle.moves.proofs.Order.{Alike, settle-perm}
+use Rattle.moves.proofs.Lists.{Sound}
+use Rattle.relocate.specs.declared.Frame.{Frame}
+use Rattle.questions.specs.Questions.{ask, withAddress}
+use Rattle.relocate.specs.Statepoint.{Pair, pairs, rightForm, inside, pointerOf}
+use Rattle.relocate.specs.Plan.{need, only, every, stackSize, planPairs, planRecord, planEntry, plan}
+use Rattle.relocate.specs.Relocation.{answer, moved}
+use Rattle.relocate.specs.Reorder.{OtherOrder, PairOrder}
+use Rattle.relocate.proofs.Planned.{every-yes, every-no, sound}
+use Rattle.relocate.proofs.Like.{EntryLike, EntriesLike, like-address, section-like, still-well}
+
+-- two plans with one refusal number, or one window with its pairs in two orders
+data SamePlan : Plan → Plan → Type 0 where
+  refusals : {n i j : ℕ} → (n < 18 → i ≡ j) → SamePlan (refuse n i) (refuse n j)
+  windows : {off size : ℕ} {ps qs : List Pointer} → List·Permᴰ ps qs → SamePlan (window off size ps) (window off size qs)
+
+same-need : (b : Bool) (n : ℕ) (k k′ : Plan) → SamePlan k k′ → SamePlan (need b n k) (need b n k′)
+unfolding need
+same-need true n k k′ h = h
+same-need false n k k′ h = refusals (λ l. refl)
+
+-- all are good, or one is not
+data Tested (good : Pair → Bool) (n : ℕ) (ps : List Pair) (k x : Plan) : Type 0 where
+  passed : ((p : Pair) → List·Memᴰ p ps → good p ≡ true) → x ≡ k → Tested good n ps k x
+  failed : (p : Pair) (i : ℕ) → List·Memᴰ p ps → good p ≡ false → x ≡ refuse n i → Tested good n ps k x
+
+tested : (good : Pair → Bool) (n i : ℕ) (ps : List Pair) (k : Plan) → Tested good n ps k (every good n i ps k)
+tested good n i [] k = unfold every in passed (λ p m. absurd (List·Memᴰ·not-nil m)) refl
+tested good n i (p ∷ ps) k = go (good p) refl (tested good n (suc i) ps k)
+  where
+    go : (b : Bool) → good p ≡ b → Tested good n ps k (every good n (suc i) ps k) → Tested good n (p ∷ ps) k (every good n i (p ∷ ps) k)
+    go false e t = failed p i (List·Memᴰ·head refl) e (every-no good n i p ps k e)
+    go true e (passed a h) =
+        passed (λ q m. ⊎-elim (λ d. rw d e) (λ m₁. a q m₁) (List·Memᴰ·cases-cons m)) (every-yes good n i p ps k e ∙ h)
+    go true e (failed q j m b h) = failed q j (List·Memᴰ·tail m) b (every-yes good n i p ps k e ∙ h)
+
+same-every : (good : Pair → Bool) (n i : ℕ) (ps qs : List Pair) (k k′ : Plan) → 18 ≤ n → List·Permᴰ ps qs → SamePlan k k′ → SamePlan (every good n i ps k) (every good n i qs k′)
+same-every good n i ps qs k k′ late perm h = go _ _ (tested good n i ps k) (tested good n i qs k′)
+  where
+    clash : (p : Pair) → good p ≡ true → good p ≡ false → ⊥
+    clash p a b = let z : _≡_ {A = ℕ} 0 1 = cc in omega arith
+
+    go : (x y : Plan) → Tested good n ps k x → Tested good n qs k′ y → SamePlan x y
+    go x y (passed a e) (passed b f) = rw (e, f) h
+    go x y (passed a e) (failed q j m b f) = absurd (clash q (a q (perm-mem (Permᴰ·symm perm) m)) b)
+    go x y (failed q j m b e) (passed a f) = absurd (clash q (a q (perm-mem perm m)) b)
+    go x y (failed q j m b e) (failed q′ j′ m′ b′ f) = rw (e, f) (refusals {n = n} (λ l. absurd (omega arith)))
+
+same-entry : (pool : List ℕ) (first n : ℕ) (f : Frame) (e e′ : Entry) → EntryLike e e′ → SamePlan (planEntry pool first n f e) (planEntry pool first n f e′)
+unfolding planRecord planPairs
+same-entry pool first n f e e′ l =
+    let p = l .body-like .pairs-perm in
+    let o = l .owner-same in
+    let c : length (pairs (e′ .body)) ≡ length (pairs (e .body)) = sym (perm-length p) in
+    rw (l .body-like .statepoint-same, o, c)
+    (same-need _ 12 _ _ (same-need _ 16 _ _ (same-need _ 17 _ _
+    (same-every (rightForm pool) 18 0 _ _ _ _ (omega arith) p (same-every (inside pool f (stackSize e)) 19 0 _ _ _ _ (omega arith) p (windows (Permᴰ·map (pointerOf pool f) p)))))))
+
+with-like : (a : ℕ) (es es′ : List Entry) → EntriesLike es es′ → EntriesLike (withAddress a es) (withAddress a es′)
+unfolding withAddress
+with-like a [] [] l = tt
+with-like a [] (e′ ∷ es′) l = absurd l
+with-like a (e ∷ es) [] l = absurd l
+with-like a (e ∷ es) (e′ ∷ es′) l = rw (like-address e e′ (l .0)) (go (eqb (address e) a) (with-like a es es′ (l .1)))
+  where
+    go : (b : Bool) → EntriesLike (withAddress a es) (withAddress a es′)
+        → EntriesLike (cond b (e ∷ withAddress a es) (withAddress a es)) (cond b (e′ ∷ withAddress a es′) (withAddress a es′))
+    go true h = (l .0, h)
+    go false h = h
+
+same-only : (es es′ : List Entry) (k : Entry → Plan) → EntriesLike es es′ → ((e e′ : Entry) → EntryLike e e′ → SamePlan (k e) (k e′)) → SamePlan (only es k) (only es′ k)
+unfolding only
+same-only [] [] k l h = refusals (λ q. refl)
+same-only [] (e′ ∷ es′) k l h = absurd l
+same-only (e ∷ es) [] k l h = absurd l
+same-only (e ∷ []) (e′ ∷ []) k l h = h e e′ (l .0)
+same-only (e ∷ []) (e′ ∷ x′ ∷ es′) k l h = absurd (l .1)
+same-only (e ∷ x ∷ es) (e′ ∷ []) k l h = absurd (l .1)
+same-only (e ∷ x ∷ es) (e′ ∷ x′ ∷ es′) k l h = refusals (λ q. refl)
+
+-- what two such plans do to an image
+alike : (table : ℕ → Option ℕ) (im : List ℕ) {p p′ : Plan} → Sound (length im) p → SamePlan p p′
+    → Alike (says table im p) (says table im p′) × (leaves table im p′ ≡ leaves table im p)
+alike table im s (refusals h) = (record { number = refl; count = refl; place = λ l. sym (h l) }, refl)
+alike table im s (windows {off = off} {size = size} {ps = ps} {qs = qs} perm) =
+    let w = part im off size in
+    let l : length w ≡ size = part-length im off size (s .window-in) in
+    let e = settle-perm table w perm (λ b d m. rw l (s .derived-in b d m)) in
+    (e .0, ap (splice im off size) (sym (e .1)))
+
+module _ (s s′ : List ℕ) (w : Bytes s) (o : OtherOrder s s′) where
+  abbrev t : Section
+  t = readSection s
+
+  abbrev t′ : Section
+  t′ = record { functions = t .functions; constants = t .constants; records = o .records }
+
+  well : WellFormed t′
+  well = still-well t (o .records) (o .reordered) (accepted-well-formed s (length s) w (o .accepted) .0)
+
+  now-accepted : sectionCheck s′ ≡ Valid (length s′)
+  now-accepted = rw (o .encoded) (well-formed-accepted t′ well .0)
+
+  now-read : readSection s′ ≡ t′
+  now-read = rw (o .encoded) (well-formed-accepted t′ well .1)
+
+  module _ (olds news : List ℕ) (first : ℕ) (im : List ℕ) (f : Frame) where
+    same-plan : SamePlan (plan s olds news first (length im) f) (plan s′ olds news first (length im) f)
+    unfolding plan entries ask
+    same-plan =
+        rw (o .accepted, now-accepted, now-read)
+        (same-need _ 13 _ _ (same-need _ 14 _ _
+        (same-only _ _ _ (with-like (f .address) _ _ (section-like t (o .records) (o .reordered))) (same-entry (t .constants) first (length im) f))))
+
+    both : Alike (answer s olds news first im f) (answer s′ olds news first im f) × (moved s′ olds news first im f ≡ moved s olds news first im f)
+    unfolding answer moved
+    both = alike (lookUp olds news) im (sound s olds news first (length im) f (length s) (o .accepted)) same-plan
+
+pub pair-order : PairOrder
+pair-order s s′ w o =
+    record {
+      accepted = now-accepted s s′ w o;
+      number = λ olds news first im f. both s s′ w o olds news first im f .0 .number;
+      count = λ olds news first im f. both s s′ w o olds news first im f .0 .count;
+      image = λ olds news first im f. both s s′ w o olds news first im f .1;
+      place = λ olds news first im f. both s s′ w o olds news first im f .0 .place;
+    }

@@ -1,0 +1,80 @@
+-- By the kind: the offset, sign-extended; the pool entry; or 0.
+use Prim.Native.Nat.{_-_, _≤_, _<_}
+use mathlib.Core.Path.{sym, _∙_}
+use Rattle.stackmap.specs.Section.{numConstants}
+use Rattle.questions.proofs.Content.{constant-plain, constant-negative, constant-pool, constant-none, pool-entry, pool-none}
+use borrow.Author.Needs.{needs}
+use Rattle.relocate.proofs.reader.constant.Statement.{statement}
+use Rattle.relocate.proofs.reader.constant.Tie as tie
+
+returns : tie.Need-returns
+returns c = λ n g. let a = c .before .before .before .args in sym (constant-plain _ (record { kind = a .kind; size = n; register = g; offset = a .offset }) (c .before .if1 .taken) (c .if2 .taken))
+
+add-result : tie.Need-add-result
+add-result c = search needs
+
+returns-2 : tie.Need-returns-2
+returns-2 c = λ n g. let a = c .before .before .before .args in sym (constant-negative _ (record { kind = a .kind; size = n; register = g; offset = a .offset }) (c .before .if1 .taken) (c .if2 .left))
+
+u32-at-requires : tie.Need-u32-at-requires
+u32-at-requires c κs = search needs
+
+cast-functions : tie.Need-cast-functions
+cast-functions c = search needs
+
+u32-at-requires-2 : tie.Need-u32-at-requires-2
+u32-at-requires-2 c κs = search needs
+
+mul-u64-at : tie.Need-mul-u64-at
+mul-u64-at c = search needs
+
+add-u64-at : tie.Need-add-u64-at
+add-u64-at c = search needs
+
+mul-u64-at-2 : tie.Need-mul-u64-at-2
+mul-u64-at-2 c = search needs
+
+add-u64-at-2 : tie.Need-add-u64-at-2
+add-u64-at-2 c = search needs
+
+u64-at-requires : tie.Need-u64-at-requires
+u64-at-requires c κs = search needs
+
+returns-3 : tie.Need-returns-3
+returns-3 c =
+    λ n g.
+    let a = c .before .before .before .before .before .before .before .args in
+    let h : a .offset < numConstants (a .s .now) = rw (← c .before .before .u32-at2 .ensures) (c .before .if4 .taken) in
+    c .u64-at .ensures
+    ∙ rw (c .before .before .before .u32-at .ensures) (sym (pool-entry (a .s .now) (a .offset) h))
+    ∙ sym (constant-pool _ (record { kind = a .kind; size = n; register = g; offset = a .offset }) (c .before .before .before .before .if3 .taken))
+
+returns-4 : tie.Need-returns-4
+returns-4 c =
+    λ n g.
+    let a = c .before .before .before .before .before .before .args in
+    let h : numConstants (a .s .now) ≤ a .offset = rw (← c .before .u32-at2 .ensures) (c .if4 .left) in
+    sym (pool-none (a .s .now) (a .offset) h)
+    ∙ sym (constant-pool _ (record { kind = a .kind; size = n; register = g; offset = a .offset }) (c .before .before .before .if3 .taken))
+
+returns-5 : tie.Need-returns-5
+returns-5 c = λ n g. let a = c .before .before .before .args in sym (constant-none _ (record { kind = a .kind; size = n; register = g; offset = a .offset }) (c .before .if1 .left) (c .if3 .left))
+
+pub constant-spec : {M : Type 1} → statement M
+constant-spec =
+    tie.close
+    (tie.spec
+    returns
+    add-result
+    returns-2
+    u32-at-requires
+    cast-functions
+    u32-at-requires-2
+    mul-u64-at
+    add-u64-at
+    mul-u64-at-2
+    add-u64-at-2
+    u64-at-requires
+    returns-3
+    returns-4
+    returns-5)

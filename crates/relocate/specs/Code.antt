@@ -1,0 +1,83 @@
+-- What the code's steps rely on, and what their values mean.
+use Prim.Native.Nat.{ℕ, _+_, _*_, _-_, _≤_, _<_}
+use mathlib.Core.Path.{_≡_}
+use mathlib.Core.Bool.{Bool, not, cond, _&&_, _||_}
+use mathlib.Core.Option.{Option, none, some}
+use mathlib.Core.List.{List}
+use lib.Dec.{eqb, leb, ltb}
+use lib.ListN.{length, getD, drop}
+use Rattle.stackmap.specs.Layout.{kindConstIndex, negativeFrom}
+use Rattle.stackmap.specs.Section.{Location, Record, recordsAt, numLocations, recordLength, readRecord, readSection}
+use Rattle.questions.specs.declared.Found.{Found}
+use Rattle.questions.specs.declared.LocationAnswer.{LocationAnswer}
+use Rattle.moves.specs.Limits.{pointerSize}
+use Rattle.relocate.specs.declared.Frame.{Frame}
+use Rattle.relocate.specs.declared.slots.Spot.{Spot}
+use Rattle.relocate.specs.declared.slots.Spot.the-variants.{At, Outside}
+use Rattle.relocate.specs.Limits.{kindConstant}
+use Rattle.relocate.specs.Statepoint.{locationAt, pairsAt, Pair, pairs, isNull, slotAt, slotInside}
+
+-- The record at a place of the section, and the section's constants.
+
+abbrev pub recordOf : List ℕ → ℕ → Record
+recordOf s at = readRecord (drop at s)
+
+abbrev pub poolOf : List ℕ → List ℕ
+poolOf s = readSection s .constants
+
+-- a record stands there: the tables are inside, and all of it is
+pub record Stands (s : List ℕ) (at : ℕ) : Type 0 where
+  pub tables : recordsAt s ≤ length s
+  pub inside : at + recordLength (drop at s) ≤ length s
+
+-- the pair whose base is location number j, and the pair number p
+abbrev pub pairFrom : Record → ℕ → Pair
+pairFrom r j = record { base = locationAt r j; derived = locationAt r (j + 1) }
+
+abbrev pub pairNumber : Record → ℕ → Pair
+pairNumber r p = pairFrom r (pairsAt r + 2 * p)
+
+-- its pairs begin at location number `start`, and are so many
+pub record Paired (s : List ℕ) (at start count : ℕ) : Type 0 where
+  pub stands : Stands s at
+  pub starts : start ≡ pairsAt (recordOf s at)
+  pub counted : count ≡ length (pairs (recordOf s at))
+  pub room : start + 2 * count ≤ numLocations (drop at s)
+
+-- A location, by what the reader answers of it.
+
+abbrev pub locationOf : LocationAnswer → Location
+locationOf a = record { kind = a .kind; size = a .size; register = a .register; offset = a .offset }
+
+unfoldable pub zeroSaid : LocationAnswer → Bool
+zeroSaid a = eqb (a .constant) 0 && (eqb (a .kind) kindConstant || eqb (a .kind) kindConstIndex)
+
+-- Slots in the n bytes from RSP, counted from RSP; none for a slot that is not wholly inside.
+
+abbrev pub spotOf : Spot → Option ℕ
+spotOf (At p) = some p
+spotOf Outside = none
+
+unfoldable pub slotIn : Frame → ℕ → Location → Option ℕ
+slotIn f n l = cond (slotInside f n l) (some (slotAt f l)) none
+
+-- the same by numbers: the register, RSP and the offset's 32 bits, of which those of a negative one are x too much
+unfoldable pub positionIn : ℕ → ℕ → ℕ → ℕ → ℕ → Option ℕ
+positionIn register rsp offset x n =
+    cond (leb (rsp + x) (register + offset) && leb (register + offset + pointerSize) (rsp + n + x))
+    (some (register + offset - (rsp + x)))
+    none
+
+abbrev pub excessOf : ℕ → ℕ
+excessOf offset = cond (ltb offset negativeFrom) 0 (2 * negativeFrom)
+
+unfoldable pub placeIn : ℕ → ℕ → Option ℕ
+placeIn p n = cond (leb (p + pointerSize) n) (some p) none
+
+-- live is 0 exactly at the null pairs, of the first n
+pub record Lives (pool : List ℕ) (r : Record) (live : List ℕ) (n : ℕ) : Type 0 where
+  pub at : (k : ℕ) → k < n → eqb (getD live k 0) 0 ≡ isNull pool (pairNumber r k)
+
+-- the answer to the question by address is the section's own refusal: neither found nor 10
+unfoldable pub ofSection : Found → Bool
+ofSection r = not (eqb (r .number) 0) && not (eqb (r .number) 10)

@@ -1,0 +1,28 @@
+-- The numbers of document 01, "Statepoints and relocation", each named once. The limits of the table and of the pairs are those
+-- of the crate below.
+use Prim.Native.Nat.{ℕ}
+
+-- an image's length
+abbrev pub imageMost : ℕ
+imageMost = 1048576
+
+-- RBP and RSP, by their DWARF numbers on AMD64
+abbrev pub RBP : ℕ
+RBP = 6
+
+abbrev pub RSP : ℕ
+RSP = 7
+
+-- location kinds: memory at register + offset, and the offset sign-extended
+abbrev pub kindIndirect : ℕ
+kindIndirect = 3
+
+abbrev pub kindConstant : ℕ
+kindConstant = 4
+
+-- the locations at a statepoint's head; the last of them holds the deopt count
+abbrev pub headLocations : ℕ
+headLocations = 3
+
+abbrev pub deoptAt : ℕ
+deoptAt = 2

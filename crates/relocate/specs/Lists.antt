@@ -1,0 +1,58 @@
+-- Lists of moves, and demand 3.
+use Prim.Native.Nat.{ℕ, _+_, _-_}
+use mathlib.Core.Path.{_≡_}
+use mathlib.Core.List.{List, [], _∷_, map, List·Memᴰ, List·Permᴰ}
+use lib.ListN.{length, getD}
+use Rattle.wire.specs.Word.{bytes}
+use Rattle.stackmap.specs.Check.{Accepted}
+use Rattle.moves.specs.declared.Move.{Move}
+use Rattle.moves.specs.Limits.{pointerSize}
+use Rattle.moves.specs.Window.{In}
+use Rattle.relocate.specs.declared.Frame.{Frame}
+use Rattle.relocate.specs.Relocation.{answer, moved, InExtent, Lists, newContent}
+
+-- the moves run one after another, each on the image as the last one left it
+module _ (s olds news : List ℕ) (first : ℕ) where
+  abbrev pub answers : List Frame → List ℕ → List Move
+  answers [] im = []
+  answers (f ∷ fs) im = answer s olds news first im f ∷ answers fs (moved s olds news first im f)
+
+  abbrev pub final : List Frame → List ℕ → List ℕ
+  final [] im = im
+  final (f ∷ fs) im = final fs (moved s olds news first im f)
+
+-- no two frames have extents that share a byte
+abbrev pub Disjoint : List ℕ → List Frame → Type 0
+Disjoint s [] = Unit {0}
+Disjoint s (f ∷ fs) = ((g : Frame) → List·Memᴰ g fs → (a : ℕ) → InExtent s f a → InExtent s g a → ⊥) × Disjoint s fs
+
+module _ (s olds news : List ℕ) (first : ℕ) (im : List ℕ) where
+  -- byte i of the image is in the derived slot at d, with the base slot at b, of an accepted frame of the list
+  pub record Written (fs : List Frame) (b d i : ℕ) : Type 0 where
+    pub frame : Frame
+    pub in-list : List·Memᴰ frame fs
+    pub accepted : answer s olds news first im frame .number ≡ 0
+    pub lists : Lists s frame b d
+    pub inside : In d pointerSize (first + i)
+
+  -- Each move's answer equals its frame's plain answer. In the final image, a byte in a derived slot of an accepted frame is
+  -- that byte of the slot's new content, worked out from the starting image. Every other byte is the starting image's.
+  pub record Holds (fs : List Frame) : Type 0 where
+    pub plain : answers s olds news first fs im ≡ map (answer s olds news first im) fs
+    pub same-length : length (final s olds news first fs im) ≡ length im
+    pub slot : (b d i : ℕ) → Written fs b d i
+        → getD (final s olds news first fs im) i 0 ≡ getD (bytes pointerSize (newContent olds news first im b d)) (first + i - d) 0
+    pub rest : (i : ℕ) → ((b d : ℕ) → Written fs b d i → ⊥) → getD (final s olds news first fs im) i 0 ≡ getD im i 0
+
+-- Demand 3, of lists of moves: on one accepted section, one table and one image, every list of frames of which no two have
+-- extents that share a byte gives the plain answers and the final image that these fix.
+abbrev pub Demand3 : Type 0
+Demand3 =
+    (s olds news : List ℕ) (first : ℕ) (im : List ℕ) → Accepted s
+    → (fs : List Frame) → Disjoint s fs → Holds s olds news first im fs
+
+-- And so the order of the moves doesn't count: any other order of such a list leaves the same image.
+abbrev pub OrderFree : Type 0
+OrderFree =
+    (s olds news : List ℕ) (first : ℕ) (im : List ℕ) → Accepted s
+    → (fs gs : List Frame) → List·Permᴰ fs gs → Disjoint s fs → final s olds news first fs im ≡ final s olds news first gs im

@@ -1,0 +1,72 @@
+-- What a frame is before any byte of the image is read: a refusal, or its extent in the image with its pointers. The order for
+-- a frame: 1 to 9, 13, 14, 10, 15, 12, 16, 17, then 18, 19, each over all pairs before the next.
+use Prim.Native.Nat.{ℕ, suc, _+_, _-_}
+use mathlib.Core.Bool.{Bool, true, false, not, _&&_}
+use mathlib.Core.List.{List, [], _∷_, map}
+use lib.ListN.{length}
+use lib.Dec.{eqb, leb}
+use Rattle.stackmap.specs.Layout.{addressMost, stackSizeUnknown}
+use Rattle.stackmap.specs.Section.{Record, Entry, entries, readSection}
+use Rattle.stackmap.specs.Check.{sectionCheck}
+use Rattle.moves.specs.Limits.{pairsMost}
+use Rattle.moves.specs.Table.{tableRight}
+use Rattle.moves.specs.Plan.{Plan, refuse, window}
+use Rattle.relocate.specs.declared.Frame.{Frame}
+use Rattle.relocate.specs.Limits.{imageMost}
+use Rattle.questions.specs.Questions.{ask, withAddress}
+use Rattle.relocate.specs.Statepoint.{isStatepoint, Pair, pairs, rightForm, inside, pointerOf}
+
+-- go on where the test holds, and else this refusal, at place 0
+unfoldable pub need : Bool → ℕ → Plan → Plan
+need true n k = k
+need false n k = refuse n 0
+
+-- exactly one record: 10 if none, 15 if more
+unfoldable pub only : List Entry → (Entry → Plan) → Plan
+only [] k = refuse 10 0
+only (e ∷ []) k = k e
+only (e ∷ e′ ∷ es) k = refuse 15 0
+
+-- go on where the test holds of every pair, and else this refusal, at the lowest pair of which it doesn't; the first has number i
+unfoldable pub every : (Pair → Bool) → ℕ → ℕ → List Pair → Plan → Plan
+every good n i [] k = k
+every good n i (p ∷ ps) k = elim (good p) [ true ↦ every good n (suc i) ps k | false ↦ refuse n i ]
+
+-- 13: image over 1,048,576 bytes, or first address + length over 2^64 - 1
+unfoldable pub imageRight : ℕ → ℕ → Bool
+imageRight first n = leb n imageMost && leb (first + n) addressMost
+
+abbrev pub stackSize : Entry → ℕ
+stackSize e = e .owner .function .stackSize
+
+-- 16: stack size unknown, or extent not inside the image of n bytes from `first`
+unfoldable pub extentRight : ℕ → ℕ → ℕ → ℕ → Bool
+extentRight first n rsp size =
+    not (eqb size stackSizeUnknown) && (leb first rsp && leb (rsp + size) (first + n))
+
+-- 18, 19, of the pairs of a frame whose extent is known: `size` bytes of the image, from `off`
+unfoldable pub planPairs : List ℕ → Frame → ℕ → ℕ → List Pair → Plan
+planPairs pool f off size ps =
+    every (rightForm pool) 18 0 ps
+    (every (inside pool f size) 19 0 ps
+    (window off size (map (pointerOf pool f) ps)))
+
+-- 12, 16, 17, 18, 19, of a frame whose one record is r, of a function with this stack size
+unfoldable pub planRecord : List ℕ → ℕ → ℕ → Frame → ℕ → Record → Plan
+planRecord pool first n f size r =
+    need (isStatepoint r) 12
+    (need (extentRight first n (f .rsp) size) 16
+    (need (leb (length (pairs r)) pairsMost) 17
+    (planPairs pool f (f .rsp - first) size (pairs r))))
+
+abbrev pub planEntry : List ℕ → ℕ → ℕ → Frame → Entry → Plan
+planEntry pool first n f e = planRecord pool first n f (stackSize e) (e .body)
+
+-- of a frame in an image of n bytes from `first`
+unfoldable pub plan : List ℕ → List ℕ → List ℕ → ℕ → ℕ → Frame → Plan
+plan s olds news first n f =
+    ask refuse
+    (need (imageRight first n) 13
+    (need (tableRight olds news) 14
+    (only (withAddress (f .address) (entries s)) (planEntry (readSection s .constants) first n f))))
+    (sectionCheck s)

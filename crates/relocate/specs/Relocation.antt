@@ -1,0 +1,65 @@
+-- One move: a call that relocates one frame.
+use Prim.Native.Nat.{ℕ, _+_, _-_, _%_, _^_, _≤_, _<_}
+use mathlib.Core.Path.{_≡_}
+use mathlib.Core.Bool.{false}
+use mathlib.Core.List.{List, [], _∷_, List·Memᴰ}
+use lib.ListN.{length}
+use Rattle.wire.specs.Word.{word}
+use Rattle.stackmap.specs.Layout.{stackSizeUnknown}
+use Rattle.stackmap.specs.Section.{Entry, entries, readSection}
+use Rattle.moves.specs.declared.Move.{Move}
+use Rattle.moves.specs.Limits.{pointerSize}
+use Rattle.moves.specs.Table.{lookUp}
+use Rattle.moves.specs.Pointers.{orZero}
+use Rattle.moves.specs.Plan.{says, leaves}
+use Rattle.relocate.specs.declared.Frame.{Frame}
+use Rattle.questions.specs.Questions.{withAddress}
+use Rattle.relocate.specs.Statepoint.{Pair, pairs, isNull, registerOf, excess}
+use Rattle.relocate.specs.Plan.{plan, stackSize}
+
+-- section, table and first address stay the same throughout
+module _ (s olds news : List ℕ) (first : ℕ) where
+  -- the answer: a refusal's number and place, or 0 and the number of pairs, null ones included
+  unfoldable pub answer : List ℕ → Frame → Move
+  answer im f = says (lookUp olds news) im (plan s olds news first (length im) f)
+
+  -- the image that it leaves
+  unfoldable pub moved : List ℕ → Frame → List ℕ
+  moved im f = leaves (lookUp olds news) im (plan s olds news first (length im) f)
+
+  -- an answer, and the image that is left, are those of a move
+  pub record Relocates (im : List ℕ) (f : Frame) (r : Move) (after : List ℕ) : Type 0 where
+    pub answer-is : r ≡ answer im f
+    pub image-is : after ≡ moved im f
+
+-- the frame's address is that of exactly one record
+abbrev pub OneRecord : List ℕ → Frame → Entry → Type 0
+OneRecord s f e = withAddress (f .address) (entries s) ≡ e ∷ []
+
+-- Its extent is the bytes from RSP up to, not including, RSP plus its function's stack size, without wrapping. A frame without
+-- exactly one record, or with stack size unknown, has no extent. The byte at the address a is in it:
+pub record InExtent (s : List ℕ) (f : Frame) (a : ℕ) : Type 0 where
+  pub entry : Entry
+  pub one : OneRecord s f entry
+  pub known : stackSize entry ≡ stackSizeUnknown → ⊥
+  pub low : f .rsp ≤ a
+  pub high : a < f .rsp + stackSize entry
+
+-- The frame's statepoint lists a pair that is not null, whose base slot starts at the address b and whose derived slot at d.
+pub record Lists (s : List ℕ) (f : Frame) (b d : ℕ) : Type 0 where
+  pub entry : Entry
+  pub one : OneRecord s f entry
+  pub pair : Pair
+  pub listed : List·Memᴰ pair (pairs (entry .body))
+  pub not-null : isNull (readSection s .constants) pair ≡ false
+  pub base-at : b + excess (pair .base) ≡ registerOf f (pair .base) + pair .base .offset
+  pub derived-at : d + excess (pair .derived) ≡ registerOf f (pair .derived) + pair .derived .offset
+
+-- where an object is now: base content 0 moves to 0
+unfoldable pub newStart : List ℕ → List ℕ → ℕ → ℕ
+newStart olds news v = orZero (lookUp olds news v)
+
+-- The new content of a derived slot at the address d with its base slot at b: old derived + new base - old base, modulo 2^64.
+unfoldable pub newContent : List ℕ → List ℕ → ℕ → List ℕ → ℕ → ℕ → ℕ
+newContent olds news first im b d =
+    (word pointerSize im (d - first) + newStart olds news (word pointerSize im (b - first)) + (2 ^ 64 - word pointerSize im (b - first))) % 2 ^ 64

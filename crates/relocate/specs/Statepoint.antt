@@ -1,0 +1,101 @@
+-- Statepoints and their pairs, in the words and order of document 01, "Statepoints and relocation".
+use Prim.Native.Nat.{ℕ, _+_, _-_, _*_, _%_}
+use mathlib.Core.Bool.{Bool, cond, _&&_, _||_}
+use mathlib.Core.List.{List, [], _∷_}
+use lib.ListN.{length, getD, drop}
+use lib.Dec.{eqb, ltb, leb}
+use Rattle.stackmap.specs.Layout.{kindConstIndex, negativeFrom}
+use Rattle.stackmap.specs.Section.{Location, Record}
+use Rattle.moves.specs.Limits.{pointerSize}
+use Rattle.moves.specs.Pointers.{Pointer, null, slots}
+use Rattle.relocate.specs.declared.Frame.{Frame}
+use Rattle.relocate.specs.Limits.{RBP, RSP, kindIndirect, kindConstant, headLocations, deoptAt}
+use Rattle.questions.specs.Questions.{constantOf}
+
+-- what is read past the last location
+abbrev pub noLocation : Location
+noLocation = record { kind = 0; size = 0; register = 0; offset = 0 }
+
+abbrev pub locationAt : Record → ℕ → Location
+locationAt r i = getD (r .locations) i noLocation
+
+-- the deopt count D: the third location
+unfoldable pub deoptCount : Record → ℕ
+deoptCount r = locationAt r deoptAt .offset
+
+-- the number of the first location that is of a pair: 3 + D
+abbrev pub pairsAt : Record → ℕ
+pairsAt r = headLocations + deoptCount r
+
+abbrev pub isConstant : Location → Bool
+isConstant l = eqb (l .kind) kindConstant
+
+unfoldable pub constantHead : Record → Bool
+constantHead r = isConstant (locationAt r 0) && (isConstant (locationAt r 1) && isConstant (locationAt r 2))
+
+-- D is not negative, 3 + D is at most NumLocations, an even number remains, and there are no live-outs
+unfoldable pub pairedRest : Record → Bool
+pairedRest r =
+    ltb (deoptCount r) negativeFrom
+    && (leb (pairsAt r) (length (r .locations))
+    && (eqb ((length (r .locations) - pairsAt r) % 2) 0
+    && eqb (length (r .liveOuts)) 0))
+
+-- A record is a statepoint if it has at least three locations, the first three have kind 4, and the rest is so.
+unfoldable pub isStatepoint : Record → Bool
+isStatepoint r = leb headLocations (length (r .locations)) && (constantHead r && pairedRest r)
+
+-- the locations of a pair, base first
+pub record Pair : Type 0 where
+  pub base : Location
+  pub derived : Location
+
+unfoldable pub pairUp : List Location → List Pair
+pairUp [] = []
+pairUp (b ∷ []) = []
+pairUp (b ∷ d ∷ ls) = record { base = b; derived = d } ∷ pairUp ls
+
+-- the rest are pairs, base first, numbered from 0
+unfoldable pub pairs : Record → List Pair
+pairs r = pairUp (drop (pairsAt r) (r .locations))
+
+-- a constant equal to 0 (kind 4 or 5)
+unfoldable pub isZero : List ℕ → Location → Bool
+isZero pool l = eqb (constantOf pool l) 0 && (eqb (l .kind) kindConstant || eqb (l .kind) kindConstIndex)
+
+-- a pair is null if both locations are constants equal to 0
+unfoldable pub isNull : List ℕ → Pair → Bool
+isNull pool p = isZero pool (p .base) && isZero pool (p .derived)
+
+-- kind 3, size 8 and register 6 or 7
+unfoldable pub isSlot : Location → Bool
+isSlot l = eqb (l .kind) kindIndirect && (eqb (l .size) pointerSize && (eqb (l .register) RBP || eqb (l .register) RSP))
+
+-- otherwise both must be slots
+unfoldable pub rightForm : List ℕ → Pair → Bool
+rightForm pool p = isNull pool p || (isSlot (p .base) && isSlot (p .derived))
+
+-- the register that a slot names
+unfoldable pub registerOf : Frame → Location → ℕ
+registerOf f l = cond (eqb (l .register) RBP) (f .rbp) (f .rsp)
+
+-- a signed offset is held as its 32 bits: those of a negative one are 2 ^ 32 too much
+unfoldable pub excess : Location → ℕ
+excess l = cond (ltb (l .offset) negativeFrom) 0 (2 * negativeFrom)
+
+-- A slot is 8 bytes at register plus offset, worked out as a whole number without wrapping. It starts so many bytes after RSP:
+unfoldable pub slotAt : Frame → Location → ℕ
+slotAt f l = registerOf f l + l .offset - (f .rsp + excess l)
+
+-- it lies wholly in the n bytes from RSP
+unfoldable pub slotInside : Frame → ℕ → Location → Bool
+slotInside f n l =
+    leb (f .rsp + excess l) (registerOf f l + l .offset)
+    && leb (registerOf f l + l .offset + pointerSize) (f .rsp + n + excess l)
+
+unfoldable pub inside : List ℕ → Frame → ℕ → Pair → Bool
+inside pool f n p = isNull pool p || (slotInside f n (p .base) && slotInside f n (p .derived))
+
+-- each pair is one pointer: its slots, counted from RSP
+unfoldable pub pointerOf : List ℕ → Frame → Pair → Pointer
+pointerOf pool f p = cond (isNull pool p) null (slots (slotAt f (p .base)) (slotAt f (p .derived)))

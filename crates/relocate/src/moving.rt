@@ -1,0 +1,144 @@
+// A move after the question by address, one stage of the plan a function.
+ghost use mathlib.Core.Path.{_≡_};
+ghost use mathlib.Core.Bool.{true};
+ghost use Prim.Native.Nat.{_+_, _≤_};
+ghost use lib.ListN.{length};
+ghost use Rattle.stackmap.specs.Section.{entries};
+ghost use Rattle.stackmap.specs.Check.{Accepted};
+ghost use Rattle.questions.specs.Questions.{withAddress, firstOf};
+ghost use Rattle.moves.specs.Limits.{pairsMost};
+ghost use Rattle.moves.specs.Table.{tableRight, lookUp};
+ghost use Rattle.moves.specs.Settle.{refusedMove};
+ghost use Rattle.moves.specs.Plan.{Follows};
+ghost use Rattle.relocate.specs.Limits.{imageMost};
+ghost use Rattle.relocate.specs.Statepoint as spec;
+ghost use Rattle.relocate.specs.Plan.{imageRight, only, planPairs, planRecord, planEntry};
+ghost use Rattle.relocate.specs.Code.{recordOf, poolOf, Stands, Paired};
+use crate::Frame;
+use crate::extent;
+use crate::pairs;
+use crate::statepoint;
+use moves::Move;
+use moves::PAIRS_MOST;
+use questions::Found;
+use stackmap::layout;
+
+// A function's stack size, after its address.
+const STACK_SIZE_AT: usize = 8;
+
+// A refusal, with count 0.
+pub fn refused(number: u8, place: usize) -> Move
+    ensures { λ r. ⌜ r ≡ refusedMove number place ⌝ }
+{
+    Move {
+        number,
+        place,
+        count: 0,
+    }
+}
+
+// 18, 19, and the move of the window of `size` bytes from `off`. The record at `at` has `count` pairs, from location `start` on.
+fn move_pairs(
+    s: &[u8],
+    at: usize,
+    start: usize,
+    count: usize,
+    image: &mut [u8],
+    off: usize,
+    size: usize,
+    olds: &[u64],
+    news: &[u64],
+    frame: Frame,
+) -> Move
+    requires { ⌜ Paired (now s) at start count × (count ≤ pairsMost) × (off + size ≤ length (now image)) × (size ≤ imageMost) × (tableRight (now olds) (now news) ≡ true) ⌝ }
+    ensures { λ r. ⌜ Follows r (now (image .exit)) (lookUp (now (olds .entry)) (now (news .entry))) (now (image .entry)) (planPairs (poolOf (now (s .entry))) frame off size (spec.pairs (recordOf (now (s .entry)) at))) ⌝ }
+{
+    let wrong = pairs::wrong_form(s, at, start, count);
+    if wrong < count {
+        return refused(18, wrong);
+    }
+    let out = pairs::outside(s, at, start, count, frame, size);
+    if out < count {
+        return refused(19, out);
+    }
+    let live = pairs::live_pairs(s, at, start, count);
+    let bases = pairs::slots_of(s, at, start, count, frame, size, &live);
+    let derived = pairs::slots_of(s, at, start + 1, count, frame, size, &live);
+    moves::move_window(
+        image,
+        off,
+        off + size,
+        &live,
+        &bases,
+        &derived,
+        count,
+        olds,
+        news,
+    )
+}
+
+// 12, 16, 17 and what follows, of the record at `at`, of a function with this stack size.
+fn move_record(
+    s: &[u8],
+    at: usize,
+    size: u64,
+    image: &mut [u8],
+    first: u64,
+    olds: &[u64],
+    news: &[u64],
+    frame: Frame,
+) -> Move
+    requires { ⌜ Stands (now s) at × (imageRight first (length (now image)) ≡ true) × (tableRight (now olds) (now news) ≡ true) ⌝ }
+    ensures { λ r. ⌜ Follows r (now (image .exit)) (lookUp (now (olds .entry)) (now (news .entry))) (now (image .entry)) (planRecord (poolOf (now (s .entry))) first (length (now (image .entry))) frame size (recordOf (now (s .entry)) at)) ⌝ }
+{
+    if statepoint::is_statepoint(s, at) {
+        if extent::extent_right(first, image.len(), frame.rsp, size) {
+            let p = statepoint::pairs_of(s, at);
+            let count = p.count;
+            if count > PAIRS_MOST {
+                return refused(17, 0);
+            }
+            let off = (frame.rsp - first) as usize;
+            return move_pairs(
+                s,
+                at,
+                p.start,
+                count,
+                image,
+                off,
+                size as usize,
+                olds,
+                news,
+                frame,
+            );
+        }
+        return refused(16, 0);
+    }
+    refused(12, 0)
+}
+
+// 10, 15 and what follows, of an accepted section.
+pub fn move_found(
+    s: &[u8],
+    found: Found,
+    image: &mut [u8],
+    first: u64,
+    olds: &[u64],
+    news: &[u64],
+    frame: Frame,
+) -> Move
+    requires { ⌜ Accepted (now s) × (found ≡ firstOf (withAddress (frame .address) (entries (now s)))) × (imageRight first (length (now image)) ≡ true) × (tableRight (now olds) (now news) ≡ true) ⌝ }
+    ensures { λ r. ⌜ Follows r (now (image .exit)) (lookUp (now (olds .entry)) (now (news .entry))) (now (image .entry)) (only (withAddress (frame .address) (entries (now (s .entry)))) (planEntry (poolOf (now (s .entry))) first (length (now (image .entry))) frame)) ⌝ }
+{
+    if found.number != 0 {
+        return refused(10, 0);
+    }
+    if found.sharing != 1 {
+        return refused(15, 0);
+    }
+    let size = wire::u64_at(
+        s,
+        layout::HEADER_SIZE + layout::FUNCTION_SIZE * found.function + STACK_SIZE_AT,
+    );
+    move_record(s, found.first, size, image, first, olds, news, frame)
+}
