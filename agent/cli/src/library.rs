@@ -1,8 +1,8 @@
 //! All that is asked of the library, and nothing else.
 //!
-//! The check and the question by address are the proved ones. The functions marked SWITCH give the
-//! answers of the second implementation until the crate `treskibben` has them; each then becomes
-//! the one line that its mark names, and nothing outside this file changes.
+//! The check, the question by address and the conversions are the proved ones. The move is the
+//! second implementation's until the crate `treskibben` has it: what is marked SWITCH changes then,
+//! and nothing outside this file.
 
 /// A stopped frame: where it stands and what its two registers hold.
 #[derive(Clone, Copy, Debug, PartialEq, Eq)]
@@ -59,23 +59,14 @@ pub fn find(section: &[u8], address: u64) -> Result<Found, Refusal> {
     Ok(treskibben::find(section, address)?)
 }
 
-/// The listing of a section. SWITCH: `Ok(treskibben::listing_of(section)?)`
+/// The listing of a section.
 pub fn listing_of(section: &[u8]) -> Result<Vec<u8>, Refusal> {
-    check(section)?;
-    // A listing is at most 9/8 of its section, and one byte.
-    let mut listing = vec![0; section.len() + section.len() / 8 + 1];
-    let length = reference::to_listing(section, &mut listing).map_err(second)?;
-    listing.truncate(length);
-    Ok(listing)
+    Ok(treskibben::listing_of(section)?)
 }
 
-/// The section of a listing. SWITCH: `Ok(treskibben::section_of(listing)?)`
+/// The section of a listing: refusals 1, 22, 23, and 5 to 8 of the section to be built.
 pub fn section_of(listing: &[u8]) -> Result<Vec<u8>, Refusal> {
-    const LARGEST: usize = 16_777_216;
-    let mut section = vec![0; LARGEST];
-    let length = reference::to_section(listing, &mut section).map_err(second)?;
-    section.truncate(length);
-    Ok(section)
+    Ok(treskibben::section_of(listing)?)
 }
 
 /// Moves one frame, and gives its number of pairs. SWITCH: call `treskibben::relocate`.
@@ -101,7 +92,7 @@ pub struct Table {
     pub new: Vec<u64>,
 }
 
-/// SWITCH: goes, with `CAUSES`.
+/// SWITCH: goes, with `CAUSES`, and `reference` goes from Cargo.toml.
 fn second(refusal: reference::Refusal) -> Refusal {
     let index = usize::try_from(refusal.number - 1).ok();
     Refusal {
