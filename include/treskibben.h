@@ -215,6 +215,75 @@ treskibben_answer treskibben_to_listing(const uint8_t *section, size_t length, u
 treskibben_answer treskibben_to_section(const uint8_t *listing, size_t length, uint8_t *output,
                                         size_t room);
 
+/*
+ * The move of one frame.
+ *
+ * A frame of a stopped thread: the address that its record has, which is the one that the call in it
+ * returns to, and what two registers hold.
+ *
+ * rbp: the content of RBP, DWARF register 6.
+ * rsp: the content of RSP, DWARF register 7, where the frame's part of the stack begins; the stack
+ *      size of its function says how long it is.
+ */
+typedef struct treskibben_frame {
+    uint64_t address;
+    uint64_t rbp;
+    uint64_t rsp;
+} treskibben_frame;
+
+/*
+ * Moves the pointers of one frame. `value` is the number of pairs that its statepoint lists, null
+ * ones included.
+ *
+ * `image` is a copy of the stack, `image_length` bytes from the address `first` on. The objects that
+ * have moved are in two lists, entry by entry: where each was, `old_count` numbers at `old_starts`,
+ * and where it is now, `new_count` numbers at `new_starts`.
+ *
+ * A record is a statepoint if it has at least three locations, the first three are of kind 4, the
+ * third isn't negative and says how many deoptimisation values follow, an even number of locations
+ * is left after those, and there are no live-outs. Those left are pairs, numbered from 0: the slot
+ * of a base, which is the start of an object, and the slot of a pointer derived from it. A pair of
+ * two constants 0 is null, and has no slots.
+ *
+ * Where the call is accepted, each derived slot is set to its content plus the new start of its base
+ * minus the old one, modulo 2^64. Everything is taken from the image as it was before the call, in
+ * whatever order the pairs are. A base of 0 stays 0. All other bytes of the image are left
+ * untouched, and on a refusal all of them are.
+ *
+ * `section` and each list are lent as a section is to treskibben_check, and `image` as an output is
+ * to a conversion: no pointer may be NULL, the lists must be aligned, and the image must share no
+ * byte with the section or with a list. The two lists may share theirs.
+ *
+ * The answer is the first of these that holds, in this order; 18 to 21 are each looked for in all
+ * pairs before the next, and the place is the lowest pair with the fault:
+ *
+ *   number  when                                                     place
+ *   1 to 9  the refusal that treskibben_check gives the section      as there
+ *   13      image over 1,048,576 bytes, or first address + length    0
+ *           over 2^64 - 1
+ *   14      lists unequal, over 65,536 entries, old starts not       0
+ *           strictly rising, or a 0 in either
+ *   10      no record of that address                                0
+ *   15      more than one record at the address                      0
+ *   12      not a statepoint                                         0
+ *   16      stack size unknown (2^64 - 1), or the frame not inside   0
+ *           the image
+ *   17      over 256 pairs                                           0
+ *   18      pair of wrong form: not null, and not two locations of   the pair
+ *           kind 3, size 8 and register 6 or 7
+ *   19      a slot not wholly inside the frame; nothing wraps        the pair
+ *   20      collision: two slots overlap without being equal, or     the pair
+ *           a slot is derived from bases that differ, with this
+ *           pair or one before it
+ *   21      base neither 0 nor an old start                          the pair
+ *   0       the frame is moved                                       0
+ */
+treskibben_answer treskibben_relocate(const uint8_t *section, size_t length, uint8_t *image,
+                                      size_t image_length, uint64_t first,
+                                      const uint64_t *old_starts, size_t old_count,
+                                      const uint64_t *new_starts, size_t new_count,
+                                      treskibben_frame frame);
+
 #ifdef __cplusplus
 }
 #endif

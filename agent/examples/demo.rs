@@ -1,6 +1,7 @@
 //! Checks the section files that its arguments name, and says of each what the check finds. After
-//! `--at ADDRESS` the next file is asked instead which record has that address and what it says, and
-//! after `--listing` it is converted to its listing and back.
+//! `--at ADDRESS` the next file is asked instead which record has that address and what it says, after
+//! `--listing` it is converted to its listing and back, and after `--move ADDRESS` a sample frame is
+//! moved that stands at the record with that address.
 //!
 //! The exit status is 0 where every file could be read, whatever was found in it.
 
@@ -12,14 +13,22 @@ use std::ffi::OsString;
 use std::fs;
 use std::path::Path;
 use std::process::ExitCode;
-use treskibben::{Location, LocationKind, Refusal};
+use treskibben::{Frame, Location, LocationKind, MoveTable, Refusal};
 
-/// What is done with a file: the check, the question by this address, or both conversions.
+/// What is done with a file: the check, the question by this address, both conversions, or the move of
+/// a frame there.
 enum Task {
     Check,
     Find(u64),
     List,
+    Move(u64),
 }
+
+/// The sample frame: where the stack begins, its three slots, and the object that was moved.
+const STACK: u64 = 0x7000;
+const SLOTS: [u64; 3] = [7, 0x50000, 0x54e20];
+const OLD_START: u64 = 0x50000;
+const NEW_START: u64 = 0x90000;
 
 /// The number that an argument writes, in decimal or in hexadecimal after 0x.
 fn number(argument: &OsString) -> Option<u64> {
@@ -39,6 +48,7 @@ fn tasks(arguments: impl Iterator<Item = OsString>) -> Option<Vec<(Task, OsStrin
         tasks.push(match argument.to_str() {
             Some("--at") => (Task::Find(number(&arguments.next()?)?), arguments.next()?),
             Some("--listing") => (Task::List, arguments.next()?),
+            Some("--move") => (Task::Move(number(&arguments.next()?)?), arguments.next()?),
             _ => (Task::Check, argument),
         });
     }
@@ -95,6 +105,27 @@ fn describe(section: &[u8], address: u64) -> Result<String, Refusal> {
     Ok(text)
 }
 
+/// Moves the sample frame, and says what its slots hold before and after.
+fn moved(section: &[u8], address: u64) -> Result<String, Refusal> {
+    let mut image = SLOTS.map(u64::to_le_bytes).concat();
+    let table = MoveTable::new(&[OLD_START], &[NEW_START]);
+    let frame = Frame {
+        address,
+        rbp: STACK,
+        rsp: STACK,
+    };
+    let pairs = treskibben::relocate(section, &mut image, STACK, table, frame)?;
+    let mut text = format!("{OLD_START:#x} is moved to {NEW_START:#x}; {pairs} pairs");
+    for (nth, (before, after)) in SLOTS.iter().zip(image.chunks_exact(8)).enumerate() {
+        let after = after
+            .iter()
+            .rev()
+            .fold(0, |sum, byte| sum << 8 | u64::from(*byte));
+        text += &format!("\n  RSP + {:<2}: {before:#x} -> {after:#x}", 8 * nth);
+    }
+    Ok(text)
+}
+
 /// What there is to say of a file, or why it cannot be read.
 fn report(task: &Task, path: &Path) -> Result<String, std::io::Error> {
     let section = fs::read(path)?;
@@ -114,14 +145,20 @@ fn report(task: &Task, path: &Path) -> Result<String, std::io::Error> {
             let answer = answer.unwrap_or_else(|refusal| refusal.to_string());
             format!(": {answer}")
         }
+        Task::Move(address) => {
+            let answer = moved(&section, *address);
+            let answer = answer.unwrap_or_else(|refusal| refusal.to_string());
+            format!(", a frame at {address:#x}: {answer}")
+        }
     })
 }
 
 fn main() -> ExitCode {
     let Some(tasks) = tasks(env::args_os().skip(1)) else {
-        eprintln!("usage: demo [--at ADDRESS | --listing] FILE ..");
+        eprintln!("usage: demo [--at ADDRESS | --listing | --move ADDRESS] FILE ..");
         eprintln!("Each file has the bytes of one stack map section. It is checked, or asked for");
-        eprintln!("the record at the address that stands before it, or listed.");
+        eprintln!("the record at the address that stands before it, or listed, or a sample frame");
+        eprintln!("is moved that stands there.");
         return ExitCode::from(2);
     };
     let mut code = ExitCode::SUCCESS;

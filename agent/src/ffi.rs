@@ -3,7 +3,7 @@
 //! This module has all the unsafe code of the crate. The proofs of the library cover every byte
 //! slice, so a safe function here has nothing to test; it only has to hand over a true slice.
 
-use crate::Refusal;
+use crate::{Frame, Refusal};
 use std::mem::offset_of;
 
 #[cfg(test)]
@@ -26,7 +26,7 @@ impl Verdict {
     }
 }
 
-/// What the check and the conversions answer: the struct `treskibben_answer` of `treskibben.h`.
+/// What the check, the conversions and the move answer: the struct `treskibben_answer` of `treskibben.h`.
 #[repr(C)]
 pub(crate) struct Answer {
     verdict: Verdict,
@@ -89,6 +89,8 @@ const _: () = {
     assert!(offset_of!(Location, register) == 30 && offset_of!(Location, kind) == 32);
     assert!(size_of::<LiveOut>() == 24 && offset_of!(LiveOut, register) == 16);
     assert!(offset_of!(LiveOut, size) == 18);
+    assert!(size_of::<Frame>() == 24 && offset_of!(Frame, address) == 0);
+    assert!(offset_of!(Frame, rbp) == 8 && offset_of!(Frame, rsp) == 16);
 };
 
 extern "C" {
@@ -118,6 +120,18 @@ extern "C" {
         length: usize,
         output: *mut u8,
         room: usize,
+    ) -> Answer;
+    fn treskibben_relocate(
+        section: *const u8,
+        length: usize,
+        image: *mut u8,
+        image_length: usize,
+        first: u64,
+        olds: *const u64,
+        old_count: usize,
+        news: *const u64,
+        new_count: usize,
+        frame: Frame,
     ) -> Answer;
 }
 
@@ -171,4 +185,36 @@ pub(crate) fn to_section(listing: &[u8], output: &mut [u8]) -> Answer {
     let (to, room) = (output.as_mut_ptr(), output.len());
     // SAFETY: as in `to_listing`. Every listing may be lent.
     unsafe { treskibben_to_section(listing.as_ptr(), listing.len(), to, room) }
+}
+
+/// The move of one frame.
+pub(crate) fn relocate(
+    section: &[u8],
+    image: &mut [u8],
+    first: u64,
+    olds: &[u64],
+    news: &[u64],
+    frame: Frame,
+) -> Answer {
+    let (stack, bytes) = (image.as_mut_ptr(), image.len());
+    // SAFETY: of the section as in `check`, and of the image as of the output in `to_listing`: it
+    // shares no byte with the section or with a list. Each list's pointer and number of entries are
+    // those of one slice of `u64`, which is borrowed for the whole call; the pointer is aligned and
+    // never null. The two numbers are handed over each by itself, so that lists of unequal length
+    // are read as far as each goes. Every first address and every frame may be asked for, and the
+    // frame, a struct of `treskibben.h`, is handed over by value.
+    unsafe {
+        treskibben_relocate(
+            section.as_ptr(),
+            section.len(),
+            stack,
+            bytes,
+            first,
+            olds.as_ptr(),
+            olds.len(),
+            news.as_ptr(),
+            news.len(),
+            frame,
+        )
+    }
 }

@@ -3,8 +3,9 @@
 //! [`check`] says whether a section keeps the layout, and of one that doesn't, which rule it breaks
 //! and at which byte. The questions read a section without decoding it: [`find`] a record by its
 //! address, [`record()`] its bytes, [`location()`] and [`live_out`] what they say. [`to_listing`]
-//! writes a section as a plain row of items, and [`to_section`] writes the section again. Every
-//! slice of bytes gets an answer; none makes a function panic, read or write beyond its slices or
+//! writes a section as a plain row of items, and [`to_section`] writes the section again.
+//! [`relocate()`] moves the pointers of one stopped frame in a copy of its stack. Every slice of
+//! bytes gets an answer; none makes a function panic, read or write beyond its slices or
 //! run without end.
 //!
 //! ```
@@ -28,11 +29,13 @@ mod conversions;
 mod ffi;
 mod questions;
 mod refusal;
+mod relocate;
 
 pub use answers::{Found, LiveOut, Location, LocationKind};
 pub use conversions::{listing_of, section_of, to_listing, to_section};
 pub use questions::{find, live_out, location, record};
 pub use refusal::Refusal;
+pub use relocate::{relocate, Frame, MoveTable};
 
 /// Checks that `section` is a whole version 3 stack map section and nothing else.
 ///

@@ -6,7 +6,8 @@ use std::fmt;
 /// Why an input was refused, and where.
 ///
 /// The number names the cause. What the place counts depends on the cause: mostly it is a byte of
-/// the section or of the listing, counted from 0, and it is 0 where no byte is to blame.
+/// the section or of the listing, or a pair of a statepoint, counted from 0, and it is 0 where
+/// neither is to blame.
 #[derive(Clone, Copy, Debug, PartialEq, Eq, Hash)]
 pub struct Refusal {
     number: u64,
@@ -53,7 +54,8 @@ impl Refusal {
     }
 
     /// Where the fault is: the byte that [`check`](crate::check) names for a section and
-    /// [`to_section`](crate::to_section()) for a listing.
+    /// [`to_section`](crate::to_section()) for a listing, and the pair that
+    /// [`relocate`](crate::relocate()) names for a frame.
     pub fn place(&self) -> u64 {
         self.place
     }

@@ -4,6 +4,7 @@
 //! `cargo --offline run --release -p bench [ROUNDS] [--svg DIR]`; with a folder, the rows are drawn there too.
 
 mod conversions;
+mod frame;
 mod measure;
 mod parser;
 mod section;
@@ -38,6 +39,7 @@ fn main() {
     let last = agree(&bytes);
     rows(rounds, &bytes, &last);
     conversions::rows(rounds, &bytes);
+    frame::rows(rounds, &bytes);
 }
 
 /// The last record: its number and its address, which is the highest.

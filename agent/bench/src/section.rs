@@ -134,6 +134,23 @@ impl Parts {
     }
 }
 
+/// A section of one statepoint, at 0x40_0010, with so many pairs of slots: RSP + 16 n, which is its own base and that
+/// of the slot behind it, in turn.
+pub fn statepoint_with_pairs(pairs: usize) -> Vec<u8> {
+    let mut parts = Parts::default();
+    let mut locations = vec![constant(0); 3];
+    for pair in 0..pairs as i32 {
+        let base = (3, 8, RSP, 8 * (pair & !1));
+        locations.extend([base, (3, 8, RSP, 8 * pair)]);
+    }
+    parts.write_record(0, &locations, 0);
+    for field in [0x40_0000, 8 * pairs as u64, 1] {
+        parts.functions.extend(field.to_le_bytes());
+    }
+    parts.record_count = 1;
+    parts.bytes()
+}
+
 /// Kind, size, register, offset.
 type Location = (u8, u16, u16, i32);
 

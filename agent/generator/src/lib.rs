@@ -8,6 +8,7 @@ pub mod aimed;
 pub mod asked;
 pub mod damage;
 pub mod edges;
+pub mod frames;
 pub mod largest;
 pub mod layout;
 pub mod listings;

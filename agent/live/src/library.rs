@@ -1,13 +1,13 @@
 //! All that is asked of the library, and nothing else.
 //!
-//! The check is the proved one. The crate `treskibben` has no questions and no move yet: the
-//! functions marked SWITCH give the answers of the second implementation instead, and will call
-//! the library as soon as it has them. Nothing outside this file changes then.
+//! The check, the questions and the move are the proved ones. The second implementation's move
+//! stands beside them for the mover `second`.
 
 use crate::heap::Table;
+use treskibben::MoveTable;
 
 /// A stopped frame: its address, RBP and RSP.
-pub use reference::Frame;
+pub use treskibben::Frame;
 
 /// A refusal: its number and its place.
 pub type Refusal = (u64, u64);
@@ -40,18 +40,15 @@ pub struct Location {
 
 /// The check of a map. The second implementation has to say the same.
 pub fn check(map: &[u8]) -> Result<(), Refusal> {
-    let proved = treskibben::check(map).map_err(|refusal| (refusal.number(), refusal.place()));
-    assert_eq!(
-        proved,
-        reference::check(map).map_err(plain),
-        "the two checks"
-    );
+    let proved = treskibben::check(map).map_err(plain);
+    let second = reference::check(map).map_err(second_plain);
+    assert_eq!(proved, second, "the two checks");
     proved
 }
 
-/// The question by address. SWITCH to `treskibben::find`.
+/// The question by address.
 pub fn find(map: &[u8], address: u64) -> Result<Found, Refusal> {
-    let found = reference::by_address(map, address).map_err(plain)?;
+    let found = treskibben::find(map, address).map_err(plain)?;
     Ok(Found {
         record: found.record,
         function: found.function,
@@ -59,16 +56,16 @@ pub fn find(map: &[u8], address: u64) -> Result<Found, Refusal> {
     })
 }
 
-/// The question by record number: the record's bytes. SWITCH to `treskibben::record`.
+/// The question by record number: the record's bytes.
 pub fn record(map: &[u8], number: u64) -> Result<&[u8], Refusal> {
-    reference::record(map, number).map_err(plain)
+    treskibben::record(map, number).map_err(plain)
 }
 
-/// The question by record and location number. SWITCH to `treskibben::location`.
+/// The question by record and location number.
 pub fn location(map: &[u8], record: u64, number: u64) -> Result<Location, Refusal> {
-    let answer = reference::location(map, record, number).map_err(plain)?;
+    let answer = treskibben::location(map, record, number).map_err(plain)?;
     Ok(Location {
-        kind: answer.kind,
+        kind: answer.kind.number(),
         size: answer.size,
         register: answer.register,
         offset: answer.offset,
@@ -77,9 +74,6 @@ pub fn location(map: &[u8], record: u64, number: u64) -> Result<Location, Refusa
 }
 
 /// The library's move of one frame: its number of pairs.
-///
-/// SWITCH: this is the one function to change when the library has its move. Until then it is the
-/// second implementation's, and the mover `library` is the mover `second`.
 pub fn relocate(
     map: &[u8],
     image: &mut [u8],
@@ -87,7 +81,9 @@ pub fn relocate(
     table: &Table,
     frame: Frame,
 ) -> Result<u64, Refusal> {
-    second_relocate(map, image, first, table, frame)
+    let table = MoveTable::new(&table.old, &table.new);
+    let pairs = treskibben::relocate(map, image, first, table, frame).map_err(plain)?;
+    Ok(pairs as u64)
 }
 
 /// The second implementation's move of one frame.
@@ -98,9 +94,15 @@ pub fn second_relocate(
     table: &Table,
     frame: Frame,
 ) -> Result<u64, Refusal> {
-    reference::relocate(map, image, first, &table.old, &table.new, frame).map_err(plain)
+    let Frame { address, rbp, rsp } = frame;
+    let frame = reference::Frame { address, rbp, rsp };
+    reference::relocate(map, image, first, &table.old, &table.new, frame).map_err(second_plain)
 }
 
-fn plain(refusal: reference::Refusal) -> Refusal {
+fn plain(refusal: treskibben::Refusal) -> Refusal {
+    (refusal.number(), refusal.place())
+}
+
+fn second_plain(refusal: reference::Refusal) -> Refusal {
     (refusal.number, refusal.place)
 }

@@ -1,6 +1,8 @@
 //! What the safe interface leaves out: the other fields of a refused answer.
 
 use super::*;
+use generator::frames::faults::{aim, NUMBERS};
+use generator::frames::Scene;
 use generator::questions::{question, Question};
 use generator::{case_of, listings, valid, Rng};
 
@@ -79,5 +81,33 @@ fn a_refused_conversion_has_length_0_and_an_accepted_one_no_place() {
     }
     for number in (0..10).chain([22, 24]) {
         assert!(counts[number] > 100, "{number}: {counts:?}");
+    }
+}
+
+#[test]
+fn a_refused_move_has_0_pairs_and_an_accepted_one_no_place() {
+    let mut rng = Rng::new(1);
+    let mut counts = [0; 22];
+    for _ in 0..20_000 {
+        let mut scene = Scene::one(&mut rng);
+        let number = rng.pick(&NUMBERS);
+        aim(&mut rng, number, &mut scene, 0);
+        let section = scene.section.encode();
+        let stop = scene.stops[0];
+        let frame = Frame {
+            address: stop.address,
+            rbp: stop.rbp,
+            rsp: stop.rsp,
+        };
+        let (olds, news) = (&scene.table.olds, &scene.table.news);
+        let answer = relocate(&section, &mut scene.image, scene.first, olds, news, frame);
+        counts[answer.verdict.number as usize] += 1;
+        match answer.verdict.number {
+            0 => assert_eq!(answer.verdict.place, 0, "{scene:?}"),
+            _ => assert_eq!(answer.value, 0, "{scene:?}"),
+        }
+    }
+    for number in NUMBERS {
+        assert!(counts[number as usize] > 100, "{number}: {counts:?}");
     }
 }

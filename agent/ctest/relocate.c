@@ -1,0 +1,174 @@
+/*
+ * Moves frames from C: the worked rows I to L, and those beside them that are refused or at a limit.
+ */
+#include "rows.h"
+#include "treskibben.h"
+
+#include <inttypes.h>
+#include <stdio.h>
+#include <stdlib.h>
+#include <string.h>
+
+/* The frame lies in memory as that of the library does: C99 has no other static assertion. */
+#define FIELD(field, at)                                                                           \
+    typedef char frame_##field[offsetof(treskibben_frame, field) == (at) &&                        \
+                                       sizeof(((treskibben_frame *)0)->field) == 8                 \
+                                   ? 1                                                             \
+                                   : -1]
+
+typedef char whole_frame[sizeof(treskibben_frame) == 24 ? 1 : -1];
+FIELD(address, 0);
+FIELD(rbp, 8);
+FIELD(rsp, 16);
+
+/* Where the first pair of row H stands, and the bytes of a location and of a pair. */
+enum { PAIRS = 92, LOCATION = 12, PAIR = 24, LAST_OFFSET = 136, SLOTS = 3 };
+
+/* What fills the slot that no pair has. */
+#define OTHER UINT64_C(0xeeeeeeeeeeeeeeee)
+
+/* A row: what differs from row I, and the answer and the slots after it. */
+struct row {
+    const char *name;
+    int exchanged;       /* whether the pairs are */
+    int8_t last_offset;  /* of the second derived slot */
+    uint64_t slots[2];   /* at RSP + 8 and RSP + 16 */
+    uint64_t new_start;  /* of the object at 0x50000 */
+    size_t old_count, new_count;
+    uint64_t first;
+    treskibben_frame frame;
+    uint64_t answer[3];
+    uint64_t after[2];
+};
+
+#define AT_I 0x7000, {0x1020, 0, 0x7000}
+
+static const struct row rows[] = {
+    {"I", 0, 16, {0x50000, 0x54e20}, 0x90000, 1, 1, AT_I, {0, 0, 2}, {0x90000, 0x94e20}},
+    {"J", 1, 16, {0x50000, 0x54e20}, 0x90000, 1, 1, AT_I, {0, 0, 2}, {0x90000, 0x94e20}},
+    {"K", 0, 16, {0x50000, 0x4b1e0}, 0x90000, 1, 1, AT_I, {0, 0, 2}, {0x90000, 0x8b1e0}},
+    {"L", 0, 16, {0x50000, 0x4ffe0}, 0x10, 1, 1, AT_I, {0, 0, 2}, {0x10, (uint64_t)0 - 16}},
+    {"base 0", 0, 16, {0, 0x54e20}, 0x90000, 1, 1, AT_I, {0, 0, 2}, {0, 0x54e20}},
+    {"base 0x50008", 0, 16, {0x50008, 0x54e20}, 0x90000, 1, 1, AT_I, {21, 0, 0}, {0x50008, 0x54e20}},
+    {"no table", 0, 16, {0x50000, 0x54e20}, 0x90000, 0, 0, AT_I, {21, 0, 0}, {0x50000, 0x54e20}},
+    {"offset 17", 0, 17, {0x50000, 0x54e20}, 0x90000, 1, 1, AT_I, {19, 1, 0}, {0x50000, 0x54e20}},
+    {"offset -1", 0, -1, {0x50000, 0x54e20}, 0x90000, 1, 1, AT_I, {19, 1, 0}, {0x50000, 0x54e20}},
+    {"offset 12", 0, 12, {0x50000, 0x54e20}, 0x90000, 1, 1, AT_I, {20, 1, 0}, {0x50000, 0x54e20}},
+    {"fewer old", 0, 16, {0x50000, 0x54e20}, 0x90000, 0, 1, AT_I, {14, 0, 0}, {0x50000, 0x54e20}},
+    {"fewer new", 0, 16, {0x50000, 0x54e20}, 0x90000, 1, 0, AT_I, {14, 0, 0}, {0x50000, 0x54e20}},
+    {"new start 0", 0, 16, {0x50000, 0x54e20}, 0, 1, 1, AT_I, {14, 0, 0}, {0x50000, 0x54e20}},
+    {"no record", 0, 16, {0x50000, 0x54e20}, 0x90000, 1, 1, 0x7000, {0x1021, 0, 0x7000},
+     {10, 0, 0}, {0x50000, 0x54e20}},
+    {"RSP above", 0, 16, {0x50000, 0x54e20}, 0x90000, 1, 1, 0x7000, {0x1020, 0, 0x7001},
+     {16, 0, 0}, {0x50000, 0x54e20}},
+    {"RSP below", 0, 16, {0x50000, 0x54e20}, 0x90000, 1, 1, 0x7000, {0x1020, 0, 0x6fff},
+     {16, 0, 0}, {0x50000, 0x54e20}},
+    {"top", 0, 16, {0x50000, 0x54e20}, 0x90000, 1, 1, (uint64_t)0 - 25,
+     {0x1020, 0, (uint64_t)0 - 25}, {0, 0, 2}, {0x90000, 0x94e20}},
+    {"past the top", 0, 16, {0x50000, 0x54e20}, 0x90000, 1, 1, (uint64_t)0 - 24,
+     {0x1020, 0, (uint64_t)0 - 24}, {13, 0, 0}, {0x50000, 0x54e20}},
+};
+
+static void put(uint8_t *bytes, uint64_t word)
+{
+    size_t i;
+
+    for (i = 0; i < 8; i++) {
+        bytes[i] = (uint8_t)(word >> 8 * i);
+    }
+}
+
+static void put_slots(uint8_t *image, const uint64_t *slots)
+{
+    put(image, OTHER);
+    put(image + 8, slots[0]);
+    put(image + 16, slots[1]);
+}
+
+/* Says what went wrong in a row, and gives whether nothing did. */
+static int passed(const char *name, const uint64_t *expected, treskibben_answer answer, int image)
+{
+    if (image && answer.number == expected[0] && answer.place == expected[1] &&
+        answer.value == expected[2]) {
+        return 1;
+    }
+    fprintf(stderr, "%s: %" PRIu64 " at %" PRIu64 ", value %" PRIu64 ", image %s\n", name,
+            answer.number, answer.place, answer.value, image ? "right" : "wrong");
+    return 0;
+}
+
+/* Moves the row's frame; the section must stay as it is. */
+static int passes(const struct row *row)
+{
+    static const uint64_t old_start = 0x50000;
+    uint8_t section[sizeof row_h], copy[sizeof row_h], image[8 * SLOTS], after[8 * SLOTS];
+    treskibben_answer answer;
+    int same;
+
+    memcpy(section, row_h, sizeof section);
+    memset(section + LAST_OFFSET, row->last_offset < 0 ? 255 : 0, 4);
+    section[LAST_OFFSET] = (uint8_t)row->last_offset;
+    if (row->exchanged) {
+        memcpy(copy, section + PAIRS, PAIR);
+        memcpy(section + PAIRS, section + PAIRS + PAIR, PAIR);
+        memcpy(section + PAIRS + PAIR, copy, PAIR);
+    }
+    memcpy(copy, section, sizeof copy);
+    put_slots(image, row->slots);
+    put_slots(after, row->after);
+    answer = treskibben_relocate(section, sizeof section, image, sizeof image, row->first,
+                                 &old_start, row->old_count, &row->new_start, row->new_count,
+                                 row->frame);
+    same = memcmp(image, after, sizeof image) == 0 && memcmp(section, copy, sizeof copy) == 0;
+    return passed(row->name, row->answer, answer, same);
+}
+
+/* Row I with `count` pairs, all of them the first one of row H; without any, nothing is moved. */
+static int passes_with(size_t count, uint64_t number)
+{
+    static const uint64_t old_start = 0x50000, new_start = 0x90000, slots[2] = {0x50000, 0x54e20};
+    static const treskibben_frame frame = {0x1020, 0, 0x7000};
+    const size_t locations = 3 + 2 * count, length = PAIRS + PAIR * count + LOCATION;
+    const uint64_t moved[2] = {count > 0 && number == 0 ? new_start : slots[0], slots[1]};
+    const uint64_t expected[3] = {number, 0, number == 0 ? count : 0};
+    uint8_t *section = calloc(length, 1), image[8 * SLOTS], after[8 * SLOTS];
+    treskibben_answer answer;
+    char name[32];
+    size_t i;
+
+    if (section == NULL) {
+        fprintf(stderr, "no memory\n");
+        return 0;
+    }
+    memcpy(section, row_h, PAIRS);
+    section[54] = (uint8_t)locations;
+    section[55] = (uint8_t)(locations >> 8);
+    for (i = 0; i < count; i++) {
+        memcpy(section + PAIRS + PAIR * i, row_h + PAIRS, PAIR);
+    }
+    put_slots(image, slots);
+    put_slots(after, moved);
+    answer = treskibben_relocate(section, length, image, sizeof image, 0x7000, &old_start, 1,
+                                 &new_start, 1, frame);
+    free(section);
+    sprintf(name, "%u pairs", (unsigned)count);
+    return passed(name, expected, answer, memcmp(image, after, sizeof image) == 0);
+}
+
+int main(void)
+{
+    size_t count = sizeof rows / sizeof rows[0] + 5;
+    size_t passed = 0;
+    size_t i;
+
+    for (i = 0; i < sizeof rows / sizeof rows[0]; i++) {
+        passed += (size_t)passes(&rows[i]);
+    }
+    passed += (size_t)passes_with(0, 0);
+    passed += (size_t)passes_with(1, 0);
+    passed += (size_t)passes_with(255, 0);
+    passed += (size_t)passes_with(256, 0);
+    passed += (size_t)passes_with(257, 17);
+    printf("%zu passed, %zu failed\n", passed, count - passed);
+    return passed == count ? EXIT_SUCCESS : EXIT_FAILURE;
+}

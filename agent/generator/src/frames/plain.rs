@@ -1,0 +1,90 @@
+//! What becomes of the image, worked out plainly from the scene: one more opinion beside those of
+//! the library and of the second implementation.
+
+use super::{Scene, RBP};
+use crate::layout::{Location, Record};
+
+/// The slots of a pair, base first, by their first byte counted from RSP; a null pair has none.
+pub type Slots = Option<[i128; 2]>;
+
+/// The number of the location that the pairs of a statepoint begin with; nothing where the record
+/// is no statepoint.
+pub fn first_pair(record: &Record) -> Option<usize> {
+    let count = record.locations.len();
+    let constants = count >= 3 && record.locations[..3].iter().all(|one| one.kind == 4);
+    if !constants || !record.live_outs.is_empty() {
+        return None;
+    }
+    let deopt = i64::from(record.locations[2].offset as i32);
+    let left = count as i64 - 3 - deopt;
+    (deopt >= 0 && left >= 0 && left % 2 == 0).then_some((3 + deopt) as usize)
+}
+
+/// The slots of a frame's pairs, each of which is null or has the right form.
+pub fn slots(scene: &Scene, stop: usize) -> Vec<Slots> {
+    let stop = scene.stops[stop];
+    let record = &scene.section.records[stop.record];
+    let first = first_pair(record).expect("a statepoint");
+    let place = |location: &Location| {
+        let register = match location.register {
+            RBP => stop.rbp,
+            _ => stop.rsp,
+        };
+        i128::from(register) + i128::from(location.offset as i32) - i128::from(stop.rsp)
+    };
+    let pair = |pair: &[Location]| (pair[0].kind == 3).then(|| [place(&pair[0]), place(&pair[1])]);
+    record.locations[first..]
+        .chunks_exact(2)
+        .map(pair)
+        .collect()
+}
+
+/// The content of a slot of a frame.
+pub fn content(scene: &Scene, stop: usize, slot: i128) -> u64 {
+    let at = usize::try_from(scene.start(stop) + slot).expect("a slot in the image");
+    let bytes = scene.image[at..at + 8].try_into().expect("eight bytes");
+    u64::from_le_bytes(bytes)
+}
+
+/// The answer of a frame whose pairs all have slots inside it: 20, 21 or accepted.
+pub fn answer(scene: &Scene, stop: usize) -> (u64, u64) {
+    let pairs = slots(scene, stop);
+    let base = |pair: [i128; 2]| content(scene, stop, pair[0]);
+    let near = |one: i128, two: i128| one != two && (one - two).abs() < 8;
+    for (nth, pair) in pairs.iter().enumerate() {
+        let Some(pair) = *pair else { continue };
+        for other in pairs[..=nth].iter().copied().flatten() {
+            let overlap = [pair[0], pair[1], other[0], other[1]]
+                .iter()
+                .any(|one| pair.iter().any(|two| near(*one, *two)));
+            if overlap || pair[1] == other[1] && base(pair) != base(other) {
+                return (20, nth as u64);
+            }
+        }
+    }
+    let lost = |pair: &Slots| pair.is_some_and(|pair| scene.table.moved(base(pair)).is_none());
+    match pairs.iter().position(lost) {
+        Some(nth) => (21, nth as u64),
+        None => (0, 0),
+    }
+}
+
+/// The image after the moves of these frames, all of which are accepted: every new content is that
+/// of the starting image.
+pub fn moved(scene: &Scene, stops: impl IntoIterator<Item = usize>) -> Vec<u8> {
+    let mut image = scene.image.clone();
+    for stop in stops {
+        for [base, derived] in slots(scene, stop).into_iter().flatten() {
+            let old = content(scene, stop, base);
+            let new = scene
+                .table
+                .moved(old)
+                .expect("the base of an accepted frame");
+            let pointer = content(scene, stop, derived);
+            let pointer = pointer.wrapping_sub(old).wrapping_add(new);
+            let at = (scene.start(stop) + derived) as usize;
+            image[at..at + 8].copy_from_slice(&pointer.to_le_bytes());
+        }
+    }
+    image
+}

@@ -1,0 +1,168 @@
+//! The move of one frame.
+
+use crate::{ffi, Refusal};
+
+/// A frame of a stopped thread: the address that its record has, and what two registers hold.
+#[derive(Clone, Copy, Debug, PartialEq, Eq, Hash)]
+#[repr(C)]
+pub struct Frame {
+    /// The address of its record: the one that the call in it returns to.
+    pub address: u64,
+    /// The content of RBP (DWARF 6).
+    pub rbp: u64,
+    /// The content of RSP (DWARF 7), where the frame's part of the stack begins.
+    pub rsp: u64,
+}
+
+/// Where each object was and where it is now: two lists of starts, which belong together entry by
+/// entry.
+///
+/// Nothing is tested here. [`relocate`] refuses a table by 14 whose lists have unequal lengths, or
+/// over 65,536 entries, or a 0, or whose old starts don't rise strictly.
+///
+/// # Examples
+///
+/// ```
+/// use treskibben::MoveTable;
+///
+/// let table = MoveTable::new(&[0x50000, 0x60000], &[0x90000, 0x80000]);
+/// assert_eq!((table.old_starts()[1], table.new_starts()[1]), (0x60000, 0x80000));
+///
+/// // The same, of pairs.
+/// let moves = [(0x50000, 0x90000), (0x60000, 0x80000)];
+/// let lists: (Vec<u64>, Vec<u64>) = moves.into_iter().unzip();
+/// assert_eq!(MoveTable::from(&lists), table);
+/// ```
+#[derive(Clone, Copy, Debug, Default, PartialEq, Eq)]
+pub struct MoveTable<'a> {
+    old: &'a [u64],
+    new: &'a [u64],
+}
+
+impl<'a> MoveTable<'a> {
+    /// The table of these old starts and these new ones.
+    pub fn new(old: &'a [u64], new: &'a [u64]) -> MoveTable<'a> {
+        MoveTable { old, new }
+    }
+
+    /// The old starts.
+    pub fn old_starts(&self) -> &'a [u64] {
+        self.old
+    }
+
+    /// The new starts.
+    pub fn new_starts(&self) -> &'a [u64] {
+        self.new
+    }
+}
+
+/// The table of old starts and new ones.
+impl<'a> From<(&'a [u64], &'a [u64])> for MoveTable<'a> {
+    fn from((old, new): (&'a [u64], &'a [u64])) -> MoveTable<'a> {
+        MoveTable { old, new }
+    }
+}
+
+/// The table of the two lists that [`unzip`](Iterator::unzip) makes of pairs.
+impl<'a> From<&'a (Vec<u64>, Vec<u64>)> for MoveTable<'a> {
+    fn from((old, new): &'a (Vec<u64>, Vec<u64>)) -> MoveTable<'a> {
+        MoveTable { old, new }
+    }
+}
+
+/// Moves the pointers of one frame, and gives its statepoint's number of pairs, null ones included.
+///
+/// `image` is a copy of the stack, from the address `first` on. The frame's record is a statepoint:
+/// after three constants, the last of which says how many deoptimisation values follow, it lists
+/// pairs of slots, a base pointer and one that is derived from it. Each derived slot is set to its
+/// content plus the new start of its base minus the old one, modulo 2^64; everything is taken from
+/// the image as it was before the call. A base of 0 stays 0. All other bytes of the image are left
+/// as they are, also those of a base slot that no pair derives.
+///
+/// # Errors
+///
+/// The first of these that holds, and 18 to 21 each over all pairs before the next. A refusal
+/// leaves all of the image unchanged.
+///
+/// | Number | Cause | Place |
+/// |---|---|---|
+/// | 1 to 9 | the refusal of [`check`](crate::check) | as there |
+/// | 13 | image over 1,048,576 bytes, or first address + length over 2^64 - 1 | 0 |
+/// | 14 | lists unequal, over 65,536 entries, old starts not strictly rising, or a 0 in either | 0 |
+/// | 10 | no record of that address | 0 |
+/// | 15 | more than one record at the address | 0 |
+/// | 12 | not a statepoint | 0 |
+/// | 16 | stack size unknown, or the frame not inside the image | 0 |
+/// | 17 | over 256 pairs | 0 |
+/// | 18 | pair of wrong form | the pair |
+/// | 19 | a slot not wholly inside the frame | the pair |
+/// | 20 | two slots overlap without being equal, or one is derived from bases that differ | the pair |
+/// | 21 | base neither 0 nor an old start | the pair |
+///
+/// Pairs are counted from 0, and the place is the lowest pair with the fault.
+///
+/// # Examples
+///
+/// ```
+/// use treskibben::{relocate, Frame, MoveTable};
+/// # fn main() -> Result<(), Box<dyn std::error::Error>> {
+/// // A statepoint at 0x1020 in a function with 24 bytes of stack. It has two pairs: the slot at
+/// // RSP + 8 with itself as base, and the one at RSP + 16, which is derived from that.
+/// let section = std::fs::read("../samples/h-statepoint.section")?;
+/// let frame = Frame { address: 0x1020, rbp: 0, rsp: 0x7000 };
+///
+/// // The object at 0x50000 has been moved to 0x90000.
+/// let table = MoveTable::new(&[0x50000], &[0x90000]);
+/// let stack = |slots: [u64; 3]| slots.map(u64::to_le_bytes).concat();
+/// let mut image = stack([7, 0x50000, 0x54e20]);
+/// assert_eq!(relocate(&section, &mut image, 0x7000, table, frame), Ok(2));
+/// assert_eq!(image, stack([7, 0x90000, 0x94e20]));
+///
+/// // The frame is moved now: its base is no old start any more.
+/// let refusal = relocate(&section, &mut image, 0x7000, table, frame).unwrap_err();
+/// assert_eq!(refusal.to_string(), "refused 21 at 0: base neither 0 nor an old start");
+/// assert_eq!(image, stack([7, 0x90000, 0x94e20]));
+/// # Ok(())
+/// # }
+/// ```
+pub fn relocate(
+    section: &[u8],
+    image: &mut [u8],
+    first: u64,
+    table: MoveTable,
+    frame: Frame,
+) -> Result<usize, Refusal> {
+    let pairs = ffi::relocate(section, image, first, table.old, table.new, frame).outcome()?;
+    Ok(number(pairs))
+}
+
+/// The number of pairs, of which the library is proved to accept at most 256.
+fn number(pairs: u64) -> usize {
+    match usize::try_from(pairs) {
+        Ok(number) if number <= 256 => number,
+        _ => {
+            panic!("libtreskibben answers that it moved {pairs} pairs, and a frame has at most 256")
+        }
+    }
+}
+
+#[cfg(test)]
+mod tests {
+    use super::number;
+
+    #[test]
+    fn up_to_256_pairs_are_a_number() {
+        for pairs in [0, 1, 255, 256] {
+            assert_eq!(number(pairs as u64), pairs);
+        }
+    }
+
+    #[test]
+    fn more_pairs_are_a_panic_that_says_so() {
+        for pairs in [257, 1 << 32, u64::MAX] {
+            let payload = std::panic::catch_unwind(|| number(pairs)).expect_err("a panic");
+            let text = *payload.downcast::<String>().expect("a panic with a text");
+            assert!(text.contains(&format!("moved {pairs} pairs, ")), "{text}");
+        }
+    }
+}

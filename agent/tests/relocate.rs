@@ -1,0 +1,188 @@
+//! The move of one frame by the proved library and by the second implementation: random frames,
+//! frames with faults of every number, frames at the limits, and lists of moves.
+//!
+//! Answers and whole images are compared, also where a frame is refused. Of a frame without fault,
+//! and of one with a fault that was aimed at, the generator knows both beforehand, and that is
+//! compared too. The random frames follow from a seed. It is printed; `TRESKIBBEN_SEED` sets it.
+
+mod common;
+
+#[path = "relocate/calls.rs"]
+mod calls;
+#[path = "relocate/limits.rs"]
+mod limits;
+#[path = "relocate/lists.rs"]
+mod lists;
+#[path = "relocate/orders.rs"]
+mod orders;
+#[path = "relocate/shapes.rs"]
+mod shapes;
+#[path = "relocate/worked.rs"]
+mod worked;
+
+use calls::{Call, Outcome};
+use common::{count_parts, say, seed};
+use generator::frames::faults::{aim, NUMBERS};
+use generator::frames::{plain, Scene};
+use generator::{aimed, damage, valid, Rng};
+use shapes::SHAPES;
+
+/// Frames in a run, made in parts that each have a source of random numbers.
+const PARTS: u64 = 1_000;
+const FRAMES_A_PART: u64 = 250;
+
+/// The faults of a frame, those first that the library looks for last: of several, the one that was
+/// made last is given.
+const LAST_FIRST: [u64; 11] = [21, 20, 19, 18, 17, 16, 12, 15, 10, 14, 13];
+
+/// How often each number was the answer, 0 to 21, and then how often each shape was seen.
+type Counts = [u64; 22 + shapes::COUNT];
+
+/// What is known of a frame beforehand: number and place, or that it is accepted.
+type Known = Option<(u64, u64)>;
+
+/// Makes these faults, and gives the answer of the frame.
+fn make(rng: &mut Rng, scene: &mut Scene, numbers: &[u64]) -> (u64, u64) {
+    let mut answer = (0, 0);
+    for number in LAST_FIRST {
+        if numbers.contains(&number) {
+            if let Some(place) = aim(rng, number, scene, 0) {
+                answer = (number, place);
+            }
+        }
+    }
+    answer
+}
+
+/// A random frame, whole or with faults, the bytes of its section, and what is known of it.
+fn case(rng: &mut Rng) -> (Scene, Vec<u8>, Known) {
+    let mut scene = Scene::one(rng);
+    let mut known = Some((0, 0));
+    let mut section_number = None;
+    match rng.below(16) {
+        0..=3 => {}
+        4..=9 => {
+            let number = rng.pick(&NUMBERS);
+            known = Some(make(rng, &mut scene, &[number]));
+        }
+        10 | 11 => {
+            let numbers = [(); 3].map(|()| rng.pick(&NUMBERS));
+            known = Some(make(rng, &mut scene, &numbers));
+        }
+        12 | 13 => section_number = Some(1 + rng.below(9) as u64),
+        _ => known = None,
+    }
+    let mut built = scene.section.build();
+    if let Some(number) = section_number {
+        if rng.one_in(2) {
+            let number = rng.pick(&NUMBERS);
+            known = Some(make(rng, &mut scene, &[number]));
+            built = scene.section.build();
+        }
+        if let Some(place) = aimed::aim(rng, number, &scene.section, &mut built) {
+            known = Some((number, place as u64));
+        }
+    }
+    if known.is_none() {
+        disturb(rng, &mut scene);
+        if rng.one_in(2) {
+            let other = valid::section(rng).encode();
+            damage::damage(rng, &mut built, &other);
+        }
+    }
+    (scene, built.bytes, known)
+}
+
+/// Changes anything but the section, with no word on what that does.
+fn disturb(rng: &mut Rng, scene: &mut Scene) {
+    let near =
+        |rng: &mut Rng, number: u64| number.wrapping_add(rng.below(33) as u64).wrapping_sub(16);
+    match rng.below(6) {
+        0 => scene.stops[0].rsp = near(rng, scene.stops[0].rsp),
+        1 => scene.stops[0].rbp = near(rng, scene.stops[0].rbp),
+        2 => scene.first = near(rng, scene.first),
+        3 => drop(scene.image.pop()),
+        4 => {
+            let olds = &mut scene.table.olds;
+            if !olds.is_empty() {
+                let nth = rng.below(olds.len());
+                olds[nth] = near(rng, olds[nth]);
+            }
+        }
+        _ => {
+            if !scene.image.is_empty() {
+                let nth = rng.below(scene.image.len());
+                scene.image[nth] = rng.byte();
+            }
+        }
+    }
+}
+
+/// Moves a random frame, and compares all that is known of it.
+fn run(rng: &mut Rng, counts: &mut Counts) {
+    let (scene, section, known) = case(rng);
+    let outcome = Call::of(&scene, &section, 0).compare();
+    counts[outcome.number as usize] += 1;
+    let Some((number, place)) = known else {
+        return;
+    };
+    let call = Call::of(&scene, &section, 0);
+    if (outcome.number, outcome.place) != (number, place) {
+        call.fail(&format!(
+            "{outcome:?}, known beforehand {number} at {place}"
+        ));
+    }
+    if number == 0 {
+        accepted(&scene, &call, &outcome);
+    }
+    for (count, (_, shows)) in counts[22..].iter_mut().zip(SHAPES) {
+        *count += u64::from(shows(&scene, number));
+    }
+}
+
+/// What holds of an accepted frame: the count, the image, and how far each pointer is from its base
+/// where the base is moved too.
+fn accepted(scene: &Scene, call: &Call, outcome: &Outcome) {
+    let slots = plain::slots(scene, 0);
+    if outcome.count != slots.len() as u64 || outcome.image != plain::moved(scene, [0]) {
+        call.fail(&format!(
+            "{outcome:?}, which is not what was worked out beforehand"
+        ));
+    }
+    let after = Scene {
+        image: outcome.image.clone(),
+        ..scene.clone()
+    };
+    let distance = |scene: &Scene, [base, derived]: [i128; 2]| {
+        let base = plain::content(scene, 0, base);
+        plain::content(scene, 0, derived).wrapping_sub(base)
+    };
+    for pair in slots.iter().copied().flatten() {
+        if slots.contains(&Some([pair[0]; 2])) && distance(scene, pair) != distance(&after, pair) {
+            call.fail(&format!(
+                "{outcome:?}, and the pair {pair:?} has grown or shrunk"
+            ));
+        }
+    }
+}
+
+#[test]
+fn random_frames() {
+    let seed = seed("random frames");
+    let counts = count_parts(seed, PARTS, |rng, counts: &mut Counts| {
+        for _ in 0..FRAMES_A_PART {
+            run(rng, counts);
+        }
+    });
+    let (numbers, shapes) = counts.split_at(22);
+    let frames: u64 = numbers.iter().sum();
+    say(&format!("{frames} frames, {} accepted", numbers[0]));
+    say(&format!("refused by 1 to 21: {:?}", &numbers[1..]));
+    say(&format!("shapes: {shapes:?}"));
+    assert_eq!(numbers[11], 0, "11 is no answer of a frame");
+    let others = [&numbers[..11], &numbers[12..]].concat();
+    common::assert_often(&others, |nth| {
+        format!("answers of number {}", nth + nth / 11)
+    });
+    common::assert_often(shapes, |nth| SHAPES[nth].0.to_string());
+}

@@ -1,0 +1,263 @@
+//! Frames at the limits: of tables, of images, of the number of pairs, and of slots that pairs share.
+
+use crate::calls::{Call, Outcome};
+use crate::common::seed;
+use generator::frames::{plain, Scene, Size, Stop, Table};
+use generator::frames::{MOST_IMAGE, MOST_MOVES, MOST_PAIRS};
+use generator::layout::{Function, Location, Record, Section};
+use generator::Rng;
+
+/// Compares the move of the only frame, which is accepted exactly if no number is given.
+fn expect(scene: &Scene, number: u64) -> Outcome {
+    let section = scene.section.encode();
+    let outcome = Call::of(scene, &section, 0).compare();
+    let place = if number < 18 { 0 } else { outcome.place };
+    assert_eq!((outcome.number, outcome.place), (number, place));
+    if number == 0 {
+        assert_eq!(outcome.count, plain::slots(scene, 0).len() as u64);
+        assert!(outcome.image == plain::moved(scene, [0]));
+    }
+    outcome
+}
+
+const FEW: Size = Size { cells: 6, pairs: 8 };
+
+#[test]
+fn tables_at_their_limit() {
+    let mut rng = Rng::new(seed("tables at their limit"));
+    for count in [0, 1, 2, MOST_MOVES - 1, MOST_MOVES] {
+        for _ in 0..40 {
+            let table = Table::of(&mut rng, count);
+            let mut scene = Scene::of(&mut rng, table, &[FEW]);
+            expect(&scene, 0);
+            // The first, the last and the middle entry, one after the other, in every base.
+            for nth in [0, count / 2, count.saturating_sub(1)] {
+                if let Some(old) = scene.table.olds.get(nth).copied() {
+                    set_bases(&mut scene, old);
+                    expect(&scene, 0);
+                }
+            }
+            if count == MOST_MOVES {
+                scene.table.news.push(1);
+                expect(&scene, 14);
+                let last = scene.table.olds[count - 1];
+                scene.table.olds.push(last.wrapping_add(1));
+                expect(&scene, 14);
+            }
+        }
+    }
+}
+
+/// Sets every base slot to this content. Shared derived slots keep bases that are equal.
+fn set_bases(scene: &mut Scene, old: u64) {
+    let at = (scene.stops[0].rsp - scene.first) as usize;
+    for [base, _] in plain::slots(scene, 0).into_iter().flatten() {
+        let at = at + base as usize;
+        scene.image[at..at + 8].copy_from_slice(&old.to_le_bytes());
+    }
+}
+
+#[test]
+fn lists_of_every_two_lengths() {
+    let mut rng = Rng::new(1);
+    let lengths = [0, 1, 2, MOST_MOVES - 1, MOST_MOVES, MOST_MOVES + 1];
+    let mut scene = Scene::of(&mut rng, Table::default(), &[Size { cells: 0, pairs: 1 }]);
+    for olds in lengths {
+        for news in lengths {
+            scene.table.olds = (1..=olds as u64).collect();
+            scene.table.news = vec![u64::MAX; news];
+            let fits = olds == news && olds <= MOST_MOVES;
+            expect(&scene, if fits { 0 } else { 14 });
+        }
+    }
+}
+
+#[test]
+fn images_at_their_limit() {
+    let mut rng = Rng::new(seed("images at their limit"));
+    for length in [0, 1, 7, 8, MOST_IMAGE - 1, MOST_IMAGE, MOST_IMAGE + 1] {
+        let most = u64::MAX - length as u64;
+        for first in [0, 1, 0x7000, most - 1, most, most.wrapping_add(1)] {
+            let over =
+                length > MOST_IMAGE || u128::from(first) + length as u128 > u128::from(u64::MAX);
+            let cells = if length < 256 { 0 } else { 6 };
+            let table = Table::of(&mut rng, 3);
+            let mut scene = Scene::of(&mut rng, table, &[Size { cells, pairs: 8 }]);
+            let stretch = stretch_of(&scene);
+            scene.section.functions[scene.stops[0].function].stack_size = stretch.len() as u64;
+            if stretch.len() > length {
+                continue;
+            }
+            // At the image's first byte, at its last, and one past that.
+            for at in [0, length - stretch.len(), length - stretch.len() + 1] {
+                let Some(rsp) = first.checked_add(at as u64) else {
+                    continue;
+                };
+                let mut scene = moved_to(&scene, first, length, rsp);
+                let inside = at + stretch.len() <= length;
+                if inside {
+                    scene.image[at..at + stretch.len()].copy_from_slice(&stretch);
+                }
+                let number = match (over, inside) {
+                    (true, _) => 13,
+                    (false, false) => 16,
+                    (false, true) => 0,
+                };
+                expect(&scene, number);
+            }
+        }
+    }
+}
+
+/// The frame's own bytes; none where it has no slots.
+fn stretch_of(scene: &Scene) -> Vec<u8> {
+    let at = (scene.stops[0].rsp - scene.first) as usize;
+    let size = scene.section.functions[scene.stops[0].function].stack_size as usize;
+    let slots = plain::slots(scene, 0).into_iter().flatten().count();
+    match slots {
+        0 => Vec::new(),
+        _ => scene.image[at..at + size].to_vec(),
+    }
+}
+
+/// The scene with an image of zeros and the frame elsewhere, all its slots counted from RSP.
+fn moved_to(scene: &Scene, first: u64, length: usize, rsp: u64) -> Scene {
+    let mut scene = scene.clone();
+    let slots = plain::slots(&scene, 0);
+    let record = &mut scene.section.records[scene.stops[0].record];
+    let from = plain::first_pair(record).expect("a statepoint");
+    for (pair, slots) in record.locations[from..].chunks_exact_mut(2).zip(slots) {
+        for (location, slot) in pair.iter_mut().zip(slots.into_iter().flatten()) {
+            location.register = 7;
+            location.offset = slot as u32;
+        }
+    }
+    scene.first = first;
+    scene.image = vec![0; length];
+    scene.stops[0].rsp = rsp;
+    scene.stops[0].rbp = rsp;
+    scene
+}
+
+#[test]
+fn pairs_at_their_limit() {
+    let mut rng = Rng::new(seed("pairs at their limit"));
+    for count in [
+        0,
+        1,
+        2,
+        MOST_PAIRS - 1,
+        MOST_PAIRS,
+        MOST_PAIRS + 1,
+        1_000,
+        32_700,
+    ] {
+        for cells in [0, 1, 40, 256] {
+            let table = Table::of(&mut rng, 4);
+            let scene = Scene::of(
+                &mut rng,
+                table,
+                &[Size {
+                    cells,
+                    pairs: count,
+                }],
+            );
+            expect(&scene, if count > MOST_PAIRS { 17 } else { 0 });
+        }
+    }
+}
+
+/// A frame of these pairs of offsets from RSP, with these words on the stack; 0x50000 is moved to
+/// 0x90000, and 0x60000 to 0x10.
+fn frame(pairs: &[[i32; 2]], words: &[u64]) -> Scene {
+    let constant = Location {
+        kind: 4,
+        size: 8,
+        register: 0,
+        offset: 0,
+    };
+    let mut locations = vec![constant; 3];
+    locations.extend(pairs.iter().flatten().map(|offset| Location {
+        kind: 3,
+        size: 8,
+        register: 7,
+        offset: *offset as u32,
+    }));
+    let record = Record {
+        id: 7,
+        offset: 0x20,
+        locations,
+        live_outs: Vec::new(),
+    };
+    let stack_size = 8 * words.len() as u64;
+    let function = Function {
+        address: 0x1000,
+        stack_size,
+        record_count: 1,
+    };
+    Scene {
+        section: Section {
+            functions: vec![function],
+            constants: Vec::new(),
+            records: vec![record],
+        },
+        image: words.iter().flat_map(|word| word.to_le_bytes()).collect(),
+        first: 0x7000,
+        table: Table {
+            olds: vec![0x50000, 0x60000],
+            news: vec![0x90000, 0x10],
+        },
+        stops: vec![Stop {
+            address: 0x1020,
+            rbp: 0,
+            rsp: 0x7000,
+            record: 0,
+            function: 0,
+        }],
+    }
+}
+
+#[test]
+fn shared_derived_slots() {
+    // Two base slots with the same base, which share a derived slot.
+    let scene = frame(&[[0, 16], [8, 16]], &[0x50000, 0x50000, 0x50008]);
+    let image = frame(&[], &[0x50000, 0x50000, 0x90008]).image;
+    assert_eq!(expect(&scene, 0).image, image);
+    // The bases differ, though both are old starts; and where neither is one.
+    for bases in [[0x50000, 0x60000], [0x50000, 0], [1, 2]] {
+        let scene = frame(&[[0, 16], [8, 16]], &[bases[0], bases[1], 0x50008]);
+        assert_eq!(expect(&scene, 20).place, 1);
+    }
+    // Both bases are the same that is no old start.
+    let scene = frame(&[[0, 16], [8, 16]], &[1, 1, 0x50008]);
+    assert_eq!(expect(&scene, 21).place, 0);
+    // Each derives the other: both are read before either is written.
+    let scene = frame(&[[0, 8], [8, 0]], &[0x50000, 0x60000]);
+    let image = frame(&[], &[0x50000u64.wrapping_sub(0x5fff0), 0x60000 + 0x40000]).image;
+    assert_eq!(expect(&scene, 0).image, image);
+    // Base slots that overlap collide too; the pair's own two do.
+    let scene = frame(&[[0, 24], [4, 24]], &[0, 0, 0, 0]);
+    assert_eq!(expect(&scene, 20).place, 1);
+    let scene = frame(&[[0, 24], [8, 1]], &[0, 0, 0, 0]);
+    assert_eq!(expect(&scene, 20).place, 1);
+    let scene = frame(&[[7, 0], [0, 0]], &[0, 0, 0, 0]);
+    assert_eq!(expect(&scene, 20).place, 0);
+}
+
+#[test]
+fn every_offset_around_a_frame() {
+    for offset in -20..45 {
+        for pair in [[offset, 0], [0, offset], [offset; 2]] {
+            let scene = frame(&[[0, 0], pair], &[0; 3]);
+            let outside = !(0..=16).contains(&offset);
+            let apart = offset == 0 || offset >= 8;
+            let number = match (outside, apart) {
+                (true, _) => 19,
+                (false, false) => 20,
+                (false, true) => 0,
+            };
+            let outcome = expect(&scene, number);
+            assert_eq!(outcome.place, u64::from(number != 0));
+        }
+    }
+}

@@ -1,0 +1,107 @@
+//! What must not count: the order of pairs, and the bytes outside the slots.
+
+use crate::calls::Call;
+use crate::common::{count_parts, say, seed};
+use crate::make;
+use generator::frames::faults::NUMBERS;
+use generator::frames::{plain, Scene};
+use generator::Rng;
+
+const PARTS: u64 = 200;
+const FRAMES_A_PART: u64 = 200;
+
+/// How often each number was the answer, 0 to 21.
+type Counts = [u64; 22];
+
+fn frame(rng: &mut Rng) -> (Scene, Vec<u8>, u64) {
+    let mut scene = Scene::one(rng);
+    let mut number = 0;
+    if !rng.one_in(3) {
+        let faults = [rng.pick(&NUMBERS), rng.pick(&NUMBERS)];
+        let few = 1 + usize::from(rng.one_in(4));
+        number = make(rng, &mut scene, &faults[..few]).0;
+    }
+    let section = scene.section.encode();
+    (scene, section, number)
+}
+
+/// Another order of pairs changes nothing but the place of 18 to 21.
+fn permuted(rng: &mut Rng, counts: &mut Counts) {
+    let (scene, section, number) = frame(rng);
+    let outcome = Call::of(&scene, &section, 0).compare();
+    let other = scene.permuted(rng).encode();
+    let call = Call::of(&scene, &other, 0);
+    let mut other = call.compare();
+    if number >= 18 {
+        other.place = outcome.place;
+    }
+    if outcome != other {
+        call.fail(&format!(
+            "{other:?}, and with the pairs in another order {outcome:?}"
+        ));
+    }
+    counts[outcome.number as usize] += 1;
+}
+
+/// The bytes outside the slots change no answer and no new content. Where a refusal comes before
+/// the slots are read, no byte of the image changes it.
+fn complemented(rng: &mut Rng, counts: &mut Counts) {
+    let (scene, section, number) = frame(rng);
+    let mut listed = vec![false; scene.image.len()];
+    if [0, 20, 21].contains(&number) {
+        let at = (scene.stops[0].rsp - scene.first) as usize;
+        for slot in plain::slots(&scene, 0).into_iter().flatten().flatten() {
+            listed[at + slot as usize..][..8].fill(true);
+        }
+    }
+    let complement = |image: &[u8]| -> Vec<u8> {
+        let bytes = image.iter().zip(&listed);
+        bytes
+            .map(|(byte, listed)| if *listed { *byte } else { !byte })
+            .collect()
+    };
+    let outcome = Call::of(&scene, &section, 0).compare();
+    let image = complement(&scene.image);
+    let call = Call {
+        image: &image,
+        ..Call::of(&scene, &section, 0)
+    };
+    let mut other = call.compare();
+    other.image = complement(&other.image);
+    if outcome != other {
+        call.fail(&format!(
+            "{other:?} back again, and with other bytes outside the slots {outcome:?}"
+        ));
+    }
+    counts[outcome.number as usize] += 1;
+}
+
+/// The refusals of a frame itself must occur: those from 12 on.
+fn often(counts: &Counts) {
+    let number = |nth| format!("answers of number {}", nth + 12);
+    crate::common::assert_often(&counts[12..], number);
+}
+
+#[test]
+fn pairs_in_another_order() {
+    let seed = seed("pairs in another order");
+    let counts = count_parts(seed, PARTS, |rng, counts: &mut Counts| {
+        (0..FRAMES_A_PART).for_each(|_| permuted(rng, counts));
+    });
+    say(&format!(
+        "pairs in another order, answers 0 to 21: {counts:?}"
+    ));
+    often(&counts);
+}
+
+#[test]
+fn bytes_outside_the_slots() {
+    let seed = seed("bytes outside the slots");
+    let counts = count_parts(seed, PARTS, |rng, counts: &mut Counts| {
+        (0..FRAMES_A_PART).for_each(|_| complemented(rng, counts));
+    });
+    say(&format!(
+        "bytes outside the slots, answers 0 to 21: {counts:?}"
+    ));
+    often(&counts);
+}
