@@ -1,8 +1,12 @@
 //! Checks the section files that its arguments name, and says of each what the check finds. After
-//! `--at ADDRESS` the next file is asked instead which record has that address and what it says.
-//! After `--move ADDRESS` a sample frame is moved that stands at the record with that address.
+//! `--at ADDRESS` the next file is asked instead which record has that address and what it says, after
+//! `--listing` it is converted to its listing and back, and after `--move ADDRESS` a sample frame is
+//! moved that stands at the record with that address.
 //!
 //! The exit status is 0 where every file could be read, whatever was found in it.
+
+#[path = "demo/listing.rs"]
+mod listing;
 
 use std::env;
 use std::ffi::OsString;
@@ -11,10 +15,12 @@ use std::path::Path;
 use std::process::ExitCode;
 use treskibben::{Frame, Location, LocationKind, MoveTable, Refusal};
 
-/// What is done with a file: the check, the question by this address, or the move of a frame there.
+/// What is done with a file: the check, the question by this address, both conversions, or the move of
+/// a frame there.
 enum Task {
     Check,
     Find(u64),
+    List,
     Move(u64),
 }
 
@@ -41,6 +47,7 @@ fn tasks(arguments: impl Iterator<Item = OsString>) -> Option<Vec<(Task, OsStrin
     while let Some(argument) = arguments.next() {
         tasks.push(match argument.to_str() {
             Some("--at") => (Task::Find(number(&arguments.next()?)?), arguments.next()?),
+            Some("--listing") => (Task::List, arguments.next()?),
             Some("--move") => (Task::Move(number(&arguments.next()?)?), arguments.next()?),
             _ => (Task::Check, argument),
         });
@@ -133,6 +140,11 @@ fn report(task: &Task, path: &Path) -> Result<String, std::io::Error> {
             let answer = answer.unwrap_or_else(|refusal| refusal.to_string());
             format!(" at {address:#x}: {answer}")
         }
+        Task::List => {
+            let answer = listing::describe(&section);
+            let answer = answer.unwrap_or_else(|refusal| refusal.to_string());
+            format!(": {answer}")
+        }
         Task::Move(address) => {
             let answer = moved(&section, *address);
             let answer = answer.unwrap_or_else(|refusal| refusal.to_string());
@@ -143,12 +155,10 @@ fn report(task: &Task, path: &Path) -> Result<String, std::io::Error> {
 
 fn main() -> ExitCode {
     let Some(tasks) = tasks(env::args_os().skip(1)) else {
-        eprintln!("usage: demo [--at ADDRESS | --move ADDRESS] FILE ..");
+        eprintln!("usage: demo [--at ADDRESS | --listing | --move ADDRESS] FILE ..");
         eprintln!("Each file has the bytes of one stack map section. It is checked, or asked for");
-        eprintln!(
-            "the record at the address that stands before it, or a sample frame is moved that"
-        );
-        eprintln!("stands there.");
+        eprintln!("the record at the address that stands before it, or listed, or a sample frame");
+        eprintln!("is moved that stands there.");
         return ExitCode::from(2);
     };
     let mut code = ExitCode::SUCCESS;

@@ -19,7 +19,7 @@ use generator::{case_of, edges, largest, valid, Case, Rng, Section};
 use outputs::{Outputs, Way};
 
 /// Random inputs in a run, made in parts that each have a source of random numbers.
-const PARTS: u64 = 400;
+const PARTS: u64 = 800;
 const CASES_A_PART: u64 = 500;
 
 /// Parts of the tests with long listings, and how many each part has of every sort.
@@ -168,7 +168,7 @@ fn largest_sections_and_longest_listings() {
     let mut outputs = Outputs::new(&mut Rng::new(seed));
     let mut accepted = [0; 2];
     largest::all(seed, &mut |case| {
-        accepted[0] += u64::from(outputs.known(Way::ToListing, &case, None).is_ok());
+        accepted[0] += u64::from(outputs.explore(Way::ToListing, &case, None) == 0);
     });
     listings::largest::all(seed, &mut |case| {
         accepted[1] += u64::from(outputs.explore(Way::ToSection, &case, None) == 0);
@@ -195,8 +195,11 @@ fn random_listings_that_are_too_long() {
             assert_eq!(answer, Err((1, 0)));
             counts[1] += 1;
             if nth % 8 == 4 {
-                let (listing, number, place) = large.faulty(rng);
-                let answer = outputs.convert(Way::ToSection, "largest, faulty", listing, room);
+                let (listing, number, place) = match rng.below(2) {
+                    0 => large.broken(rng),
+                    _ => large.faulty(rng),
+                };
+                let answer = outputs.convert(Way::ToSection, "largest", listing, room);
                 let known = if number == 0 { 24 } else { number };
                 assert_eq!(answer, Err((known, place as u64)));
                 counts[2] += 1;

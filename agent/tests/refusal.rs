@@ -62,6 +62,34 @@ fn each_refusal_prints_number_place_and_cause() {
 }
 
 #[test]
+fn refusals_of_conversions_print_too() {
+    let listing = |items: usize| {
+        let mut listing = vec![2, 0, 0, 0, 0, 0, 0, 0, 0];
+        listing.extend([3, 7, 0, 0, 0, 0, 0, 0, 0, 0, 0, 0, 0]);
+        listing.extend([5, 3, 0, 8].repeat(items));
+        listing.push(6);
+        listing
+    };
+    let print = |listing: &[u8], room| {
+        let refusal = treskibben::to_section(listing, &mut vec![0; room]).unwrap_err();
+        assert!(refusal.to_string().ends_with(refusal.cause()));
+        refusal.to_string()
+    };
+    assert_eq!(
+        print(&[6, 0], 16),
+        "refused 22 at 1: listing breaks its grammar"
+    );
+    let overfull = "refused 23 at 9: over 65,535 locations or live-outs in a record";
+    assert_eq!(print(&listing(65_536), 0), overfull);
+    let counts = "refused 5 at 12: record counts, added exactly, differ from NumRecords";
+    assert_eq!(print(&listing(65_535), 0), counts);
+    assert_eq!(
+        print(&[6], 15),
+        "refused 24 at 0: output shorter than the whole result"
+    );
+}
+
+#[test]
 fn a_refusal_is_an_error() {
     fn load(bytes: &[u8]) -> Result<(), Box<dyn Error + Send + Sync>> {
         check(bytes)?;

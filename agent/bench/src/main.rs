@@ -1,8 +1,9 @@
-//! Benchmarks of the proved library beside LLVM's own parser, the second implementation and a plain read of the
-//! bytes. All rows are measured in one run, in turn, because only ratios of one run say anything.
+//! Benchmarks of the proved library beside LLVM's own parser, the second implementation and a plain read or copy of
+//! the bytes. All rows of a table are measured in turn, because only ratios of one run say anything.
 //!
 //! `cargo --offline run --release -p bench [ROUNDS] [--svg DIR]`; with a folder, the rows are drawn there too.
 
+mod conversions;
 mod frame;
 mod measure;
 mod parser;
@@ -37,6 +38,7 @@ fn main() {
     let bytes = section::build(LIMIT);
     let last = agree(&bytes);
     rows(rounds, &bytes, &last);
+    conversions::rows(rounds, &bytes);
     frame::rows(rounds, &bytes);
 }
 

@@ -85,11 +85,13 @@ impl Listed {
                 register,
                 offset,
             } = *location;
-            let numbers = [(1, kind.into()), (2, size.into()), (2, register.into())];
-            self.item(
-                LOCATION,
-                &[numbers[0], numbers[1], numbers[2], (4, offset.into())],
-            );
+            let numbers = [
+                (1, kind.into()),
+                (2, size.into()),
+                (2, register.into()),
+                (4, offset.into()),
+            ];
+            self.item(LOCATION, &numbers);
         }
         for LiveOut { register, size } in &record.live_outs {
             self.item(LIVE_OUT, &[(2, (*register).into()), (1, (*size).into())]);

@@ -112,4 +112,4 @@ module _ (live bs ds : List ℕ) (n : ℕ) where
         }
 
 pub within-more : (m m′ n : ℕ) (live bs ds : List ℕ) → m ≤ m′ → Within m n live bs ds → Within m′ n live bs ds
-within-more m m′ n live bs ds h r = record { base = λ k a l. omega (arith, r .base k a l); slot = λ k a l. omega (arith, r .slot k a l) }
+within-more m m′ n live bs ds h r = record { base-in = λ k a l. omega (arith, r .base-in k a l); derived-in = λ k a l. omega (arith, r .derived-in k a l) }

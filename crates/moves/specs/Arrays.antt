@@ -36,8 +36,8 @@ pointersOf n live bases derived = listFrom (pointerAt live bases derived) n 0
 
 -- each slot of the first n ends in a window of m bytes
 pub record Within (m n : ℕ) (live bases derived : List ℕ) : Type 0 where
-  pub base : (k : ℕ) → k < n → (getD live k 0 ≡ 0 → ⊥) → getD bases k 0 + pointerSize ≤ m
-  pub slot : (k : ℕ) → k < n → (getD live k 0 ≡ 0 → ⊥) → getD derived k 0 + pointerSize ≤ m
+  pub base-in : (k : ℕ) → k < n → (getD live k 0 ≡ 0 → ⊥) → getD bases k 0 + pointerSize ≤ m
+  pub derived-in : (k : ℕ) → k < n → (getD live k 0 ≡ 0 → ⊥) → getD derived k 0 + pointerSize ≤ m
 
 -- the first n of vs hold f's values, null pairs apart
 pub record Filled (f : ℕ → ℕ) (live vs : List ℕ) (n : ℕ) : Type 0 where

@@ -22,5 +22,5 @@ promises =
       pair-order = Reorder.pair-order;
       keeps-distance = Consequences.keeps-distance;
       only-slots-count = Consequences.only-slots-count;
-      worked = Worked.worked
+      worked = Worked.worked;
     }

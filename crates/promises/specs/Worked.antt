@@ -130,6 +130,26 @@ table =
     (check (header 3 1 0 0) ⇒ refused 4 16) ∷
     {- H -}
     (check (encodeSection H) ⇒ accepted 152) ∷
+    {- H -}
+    (listingOf (encodeSection H) ⇒ gives 109 listingH) ∷
+    {- H -}
+    (sectionOf listingH ⇒ gives 152 (encodeSection H)) ∷
+    {- I -}
+    (moveIn H 0x50000 0x90000 (image 0x50000 0x54E20) ⇒ gives 2 (image 0x90000 0x94E20)) ∷
+    {- J -}
+    (moveIn exchanged 0x50000 0x90000 (image 0x50000 0x54E20) ⇒ gives 2 (image 0x90000 0x94E20)) ∷
+    {- K -}
+    (moveIn H 0x50000 0x90000 (image 0x50000 0x4B1E0) ⇒ gives 2 (image 0x90000 0x8B1E0)) ∷
+    {- L -}
+    (moveIn H 0x50000 0x10 (image 0x50000 0x4FFE0) ⇒ gives 2 (image 0x10 0xFFFFFFFFFFFFFFF0)) ∷
+    {- also: base 0x50008 -}
+    (moveIn H 0x50000 0x90000 (image 0x50008 0x54E20) ⇒ refused 21 0) ∷
+    {- last offset 17 -}
+    (moveIn (pairsTo 17) 0x50000 0x90000 (image 0x50000 0x54E20) ⇒ refused 19 1) ∷
+    {- last offset 12 -}
+    (moveIn (pairsTo 12) 0x50000 0x90000 (image 0x50000 0x54E20) ⇒ refused 20 1) ∷
+    {- no pairs -}
+    (moveIn (withPairs []) 0x50000 0x90000 (image 0x50000 0x54E20) ⇒ gives 0 (image 0x50000 0x54E20)) ∷
     []
 
 abbrev pub WorkedTable : Type 0

@@ -112,8 +112,8 @@ module _ (pool : List ℕ) (r : Record) (f : Frame) (start n : ℕ) (live bases 
     pub arrays-within : Within size n live bases derived
     arrays-within =
         record {
-          base = λ k h l. let q = not-null k h l in rw (base-here k h q) (from-slots pool f size (pairNumber r k) (insides k h) q .base-in);
-          slot = λ k h l. let q = not-null k h l in rw (derived-here k h q) (from-slots pool f size (pairNumber r k) (insides k h) q .derived-in);
+          base-in = λ k h l. let q = not-null k h l in rw (base-here k h q) (from-slots pool f size (pairNumber r k) (insides k h) q .base-in);
+          derived-in = λ k h l. let q = not-null k h l in rw (derived-here k h q) (from-slots pool f size (pairNumber r k) (insides k h) q .derived-in);
         }
       where
         not-null : (k : ℕ) → k < n → (getD live k 0 ≡ 0 → ⊥) → isNull pool (pairNumber r k) ≡ false

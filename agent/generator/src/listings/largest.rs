@@ -99,26 +99,36 @@ impl Large {
         self.with(&Listed::of(&section).bytes)
     }
 
-    /// A listing whose section has exactly the largest length, or is too long, with a known fault:
-    /// the listing and its number and place.
+    /// A listing that breaks the grammar and whose section would have the largest length or be too
+    /// long; also number and place of its answer.
+    pub fn broken(&mut self, rng: &mut Rng) -> (&[u8], u64, usize) {
+        let mut section = valid::section(rng);
+        self.pad(&mut section, rng.below(2) * layout::CONSTANT);
+        let mut listed = Listed::of(&section);
+        let cause = rng.pick(&[
+            Cause::UnknownKind,
+            Cause::WrongOrder,
+            Cause::MissingEnd,
+            Cause::AfterTheEnd,
+        ]);
+        let place = break_by(rng, cause, &mut listed).expect("these can break any listing");
+        let place = self.base + place;
+        (self.with(&listed.bytes), 22, place)
+    }
+
+    /// A listing whose section has the largest length and, where it can, a fault; also number and
+    /// place of its answer, both 0 where it has none.
     pub fn faulty(&mut self, rng: &mut Rng) -> (&[u8], u64, usize) {
         let mut section = valid::section(rng);
-        if rng.one_in(2) {
-            self.pad(&mut section, rng.below(2) * layout::CONSTANT);
-            let mut listed = Listed::of(&section);
-            let cause = rng.pick(&[Cause::UnknownKind, Cause::WrongOrder, Cause::AfterTheEnd]);
-            let place = break_by(rng, cause, &mut listed).expect("these can break any listing");
-            let place = self.base + place;
-            return (self.with(&listed.bytes), 22, place);
-        }
         while self.length(&section) > self.left {
             section = valid::section(rng);
         }
         self.pad(&mut section, 0);
         let number = 5 + rng.below(4) as u64;
         let place = faults::fault(rng, number, &mut section);
+        // A record more, which is one of the faults, makes the section too long.
         let fits = self.length(&section) == self.left;
-        // A function stands before this section's parts, so its places are further on, but for 12.
+        // The places of this section's parts are those after the functions; 12 is in the header.
         let place = place.map(|place| match place {
             12 => place,
             _ => place + LARGEST - HEADER - self.left,

@@ -47,7 +47,7 @@ moved-requires c κs = search needs
 put-all-requires : tie.Need-put-all-requires
 put-all-requires c κs =
     let s = c .before .before .before .before .before .before .before .before .before .before .before .before .before .before .before .before .before .before in
-    (s .pre .0, s .pre .1 .slot)
+    (s .pre .0, s .pre .1 .derived-in)
 
 same-length-3 : tie.Need-same-length-3
 same-length-3 c = search needs

@@ -1,25 +1,17 @@
 -- The answer of the move, field by field, and the image as it leaves it.
-use mathlib.Core.Path.{_≡_, refl}
 use borrow.Author.Needs.{needs}
 use Rattle.treskibben.proofs.treskibben_relocate.Statement.{statement}
 use Rattle.treskibben.proofs.treskibben_relocate.Tie as tie
-use Rattle.treskibben.proofs.treskibben_relocate.Reads as reads
-use Rattle.treskibben.proofs.treskibben_relocate.Lts as lts
-use Rattle.relocate.proofs.relocate.Reads as relocate-reads
 
--- src/lib.rt:190:9
 relocate-requires : tie.Need-relocate-requires
 relocate-requires c κs = search needs
 
--- src/lib.rt:192:17
 cast-t11 : tie.Need-cast-t11
 cast-t11 c = search needs
 
--- src/lib.rt:174:1
 same-length : tie.Need-same-length
 same-length c = search needs
 
--- src/lib.rt:174:1
 returns : tie.Need-returns
 returns c =
     let t = c .before .before .before .relocate .ensures in

@@ -60,7 +60,7 @@ clash-requires c κs =
     let a = s .args in
     let lp = c .before .before .before .before .before .before .before .before .if1 .left in
     let lq = c .before .before .before .before .before .before .if2 .left in
-    (omega (arith, w .base (a .p) (s .pre .1) lp), omega (arith, w .slot (a .p) (s .pre .1) lp), omega (arith, w .base (a .q) (s .pre .2) lq), omega (arith, w .slot (a .q) (s .pre .2) lq))
+    (omega (arith, w .base-in (a .p) (s .pre .1) lp), omega (arith, w .derived-in (a .p) (s .pre .1) lp), omega (arith, w .base-in (a .q) (s .pre .2) lq), omega (arith, w .derived-in (a .q) (s .pre .2) lq))
 
 returns-3 : tie.Need-returns-3
 returns-3 c = c .clash .ensures ∙ clash-live _ _ _ _ _ _ (c .before .before .before .before .before .before .before .before .before .if1 .left) (c .before .before .before .before .before .before .before .if2 .left)

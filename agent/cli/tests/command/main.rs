@@ -1,0 +1,11 @@
+//! The program as people use it: its files, its output, its exit status.
+
+mod build;
+mod check;
+mod cut;
+mod document;
+mod fixtures;
+mod list;
+mod restore;
+mod run;
+mod usage;

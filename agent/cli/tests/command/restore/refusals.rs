@@ -1,0 +1,201 @@
+//! Every refusal that a restore can give, and their order.
+
+use super::Restore;
+use crate::fixtures::{
+    constant, location, of_pairs, one_function, row_h, rsp, statepoint, with, words,
+};
+
+/// Row I on another section.
+fn on(section: Vec<u8>) -> Restore {
+    Restore {
+        section,
+        ..Restore::row_i()
+    }
+}
+
+/// Row I with another move table.
+fn moved_by(moves: impl Into<String>) -> Restore {
+    Restore {
+        moves: moves.into(),
+        ..Restore::row_i()
+    }
+}
+
+/// Row H with the address of its function.
+fn at(address: u64) -> Vec<u8> {
+    let mut section = row_h();
+    section[16..24].copy_from_slice(&address.to_le_bytes());
+    section
+}
+
+#[test]
+fn refusals_of_the_section() {
+    for (section, number, place) in [
+        (vec![], 1, 0),
+        (row_h()[..15].to_vec(), 1, 0),
+        (with(row_h(), 0, 1), 2, 0),
+        (with(row_h(), 3, 1), 3, 3),
+        (with(row_h(), 143, 1), 3, 143),
+        (row_h()[..151].to_vec(), 4, 40),
+        (with(row_h(), 12, 2), 5, 12),
+        (with(row_h(), 56, 6), 6, 56),
+        (with(row_h(), 56, 5), 7, 56),
+        (at(u64::MAX - 0x1F), 8, 40),
+        ([row_h(), vec![0]].concat(), 9, 152),
+    ] {
+        let words = on(section).refused(number, place);
+        assert!(words.starts_with("section: "), "{words}");
+    }
+}
+
+#[test]
+fn refusals_of_the_image() {
+    let mut long = Restore::row_i();
+    long.image.resize(1_048_576, 7);
+    long.done("1 frame moved, 2 pairs");
+    long.image.push(7);
+    let words = long.refused(13, 0);
+    assert!(
+        words.starts_with("image: image over 1,048,576 bytes"),
+        "{words}"
+    );
+    let mut high = Restore::row_i();
+    high.first = u64::MAX - 24;
+    high.frames = format!("1020 0 {:x}", high.first);
+    high.done("1 frame moved, 2 pairs");
+    high.first += 1;
+    high.frames = format!("1020 0 {:x}", high.first);
+    high.refused(13, 0);
+}
+
+#[test]
+fn refusals_of_the_moves() {
+    for moves in [
+        "50000 90000\n50000 90000\n",
+        "50000 90000\n40000 80000\n",
+        "0 0\n50000 90000\n",
+        "50000 0\n",
+    ] {
+        let words = moved_by(moves).refused(14, 0);
+        assert!(
+            words.starts_with("moves: lists unequal, over 65,536"),
+            "{words}"
+        );
+    }
+    let table = |entries: u64| -> String {
+        let old = 0x50000;
+        (old..old + entries)
+            .map(|old| format!("{old:x} 90000\n"))
+            .collect()
+    };
+    moved_by(table(65_536)).done("1 frame moved, 2 pairs");
+    moved_by(table(65_537)).refused(14, 0);
+}
+
+#[test]
+fn refusals_of_where_the_frame_stands() {
+    let frame = Restore {
+        frames: "1021 0 7000\n".to_string(),
+        ..Restore::row_i()
+    };
+    let words = frame.refused(10, 0);
+    assert!(
+        words.starts_with("frame 0 (frames:1, address 0x1021, "),
+        "{words}"
+    );
+
+    let pairs = [[rsp(8), rsp(8)]];
+    let twice = vec![statepoint(0x20, &pairs), statepoint(0x20, &pairs)];
+    let words = on(one_function(24, twice).encode()).refused(15, 0);
+    assert!(
+        words.ends_with(": more than one record at the address"),
+        "{words}"
+    );
+
+    let words = on(with(row_h(), 56, 1)).refused(12, 0);
+    assert!(words.ends_with(": not a statepoint"), "{words}");
+
+    on(of_pairs(u64::MAX, &pairs)).refused(16, 0);
+    on(of_pairs(25, &pairs)).refused(16, 0);
+    for rsp in ["6fff", "7001", "0", "ffffffffffffffff"] {
+        let frame = Restore {
+            frames: format!("1020 0 {rsp}"),
+            ..Restore::row_i()
+        };
+        let words = frame.refused(16, 0);
+        assert!(words.ends_with("or extent not inside the image"), "{words}");
+    }
+}
+
+#[test]
+fn refusals_of_the_pairs() {
+    let good = [rsp(8), rsp(8)];
+    on(of_pairs(24, &vec![good.clone(); 257])).refused(17, 0);
+    for bad in [
+        [rsp(8), location(3, 4, 7, 8)],
+        [location(1, 8, 7, 0), rsp(8)],
+        [rsp(8), location(3, 8, 5, 8)],
+        [constant(0), rsp(8)],
+        [constant(1), constant(1)],
+    ] {
+        on(of_pairs(24, &[good.clone(), bad])).refused(18, 1);
+    }
+    for offset in [17, -1, i32::MIN, i32::MAX] {
+        on(of_pairs(24, &[good.clone(), [rsp(8), rsp(offset)]])).refused(19, 1);
+    }
+    on(of_pairs(24, &[good.clone(), [rsp(8), rsp(1)]])).refused(20, 1);
+    let other_base = [rsp(0), rsp(8)];
+    on(of_pairs(24, &[good.clone(), other_base])).refused(20, 1);
+    on(of_pairs(24, &[good, [rsp(16), rsp(16)]])).refused(21, 1);
+}
+
+#[test]
+fn null_pairs_and_bases_of_zero() {
+    let pairs = [[constant(0), constant(0)], [rsp(0), rsp(16)]];
+    let row = Restore {
+        section: of_pairs(24, &pairs),
+        image: words(&[0, 7, 0x1234]),
+        moves: "# nothing has moved\n".to_string(),
+        ..Restore::row_i()
+    };
+    assert_eq!(row.done("1 frame moved, 2 pairs"), row.image);
+}
+
+/// Faults of what all frames share come before those of a frame, and they come in their order.
+#[test]
+fn order() {
+    let mut all = Restore {
+        section: with(row_h(), 0, 1),
+        image: vec![0; 1_048_577],
+        moves: "0 0".to_string(),
+        frames: "1020 0 7000\n1020 0 7000\n9999 0 0\n".to_string(),
+        first: 0x7000,
+    };
+    all.refused(2, 0);
+    all.section = row_h();
+    all.refused(13, 0);
+    all.image = Restore::row_i().image;
+    all.refused(14, 0);
+    all.moves = "50000 90000".to_string();
+    all.refused(26, 1);
+    all.frames = "1020 0 7000\n9999 0 0\n1020 0 0\n".to_string();
+    all.refused(10, 0);
+    all.frames = "1020 0 7000\n1020 0 0\n".to_string();
+    all.refused(16, 0);
+}
+
+/// A list of none moves nothing, and what all frames share is looked at all the same.
+#[test]
+fn no_frames() {
+    let mut none = Restore {
+        frames: "# no frames\n".to_string(),
+        ..Restore::row_i()
+    };
+    assert_eq!(none.done("0 frames moved, 0 pairs"), none.image);
+    none.moves = "1 0".to_string();
+    none.refused(14, 0);
+    none.image = vec![0; 1_048_577];
+    none.refused(13, 0);
+    none.section.push(0);
+    none.refused(9, 152);
+}
