@@ -1,19 +1,8 @@
 //! All that is asked of the library, and nothing else.
 //!
-//! The check, the question by address and the conversions are the proved ones. The move is the
-//! second implementation's until the crate `treskibben` has it: what is marked SWITCH changes then,
-//! and nothing outside this file.
+//! Every answer on a section, a listing or a frame comes from the crate `treskibben`.
 
-/// A stopped frame: where it stands and what its two registers hold.
-#[derive(Clone, Copy, Debug, PartialEq, Eq)]
-pub struct Frame {
-    /// The address that its record has.
-    pub address: u64,
-    /// The content of RBP.
-    pub rbp: u64,
-    /// The content of RSP.
-    pub rsp: u64,
-}
+use treskibben::MoveTable;
 
 /// Why a call was refused: number, place and cause.
 #[derive(Clone, Copy, Debug, PartialEq, Eq)]
@@ -23,8 +12,8 @@ pub struct Refusal {
     pub cause: &'static str,
 }
 
-/// The record that has an address.
-pub use treskibben::Found;
+/// The record that has an address, and a stopped frame.
+pub use treskibben::{Found, Frame};
 
 impl Refusal {
     /// Two frames of a list have extents that share a byte: the number that the customer's papers
@@ -69,7 +58,7 @@ pub fn section_of(listing: &[u8]) -> Result<Vec<u8>, Refusal> {
     Ok(treskibben::section_of(listing)?)
 }
 
-/// Moves one frame, and gives its number of pairs. SWITCH: call `treskibben::relocate`.
+/// Moves one frame, and gives its number of pairs.
 pub fn relocate(
     section: &[u8],
     image: &mut [u8],
@@ -77,12 +66,9 @@ pub fn relocate(
     table: &Table,
     frame: Frame,
 ) -> Result<u64, Refusal> {
-    let frame = reference::Frame {
-        address: frame.address,
-        rbp: frame.rbp,
-        rsp: frame.rsp,
-    };
-    reference::relocate(section, image, first, &table.old, &table.new, frame).map_err(second)
+    let moves = MoveTable::new(&table.old, &table.new);
+    let pairs = treskibben::relocate(section, image, first, moves, frame)?;
+    Ok(pairs as u64)
 }
 
 /// Where each object was and where it is now, entry by entry.
@@ -91,41 +77,3 @@ pub struct Table {
     pub old: Vec<u64>,
     pub new: Vec<u64>,
 }
-
-/// SWITCH: goes, with `CAUSES`, and `reference` goes from Cargo.toml.
-fn second(refusal: reference::Refusal) -> Refusal {
-    let index = usize::try_from(refusal.number - 1).ok();
-    Refusal {
-        number: refusal.number,
-        place: refusal.place,
-        cause: index.and_then(|index| CAUSES.get(index)).unwrap_or(&""),
-    }
-}
-
-/// The words that the crate `treskibben` has for its refusals, the first for number 1.
-const CAUSES: [&str; 24] = [
-    "section under 16 or over 16,777,216 bytes, or listing over 33,554,432 bytes",
-    "version not 3",
-    "a byte required to be zero isn't",
-    "a function, constant or record isn't wholly inside",
-    "record counts, added exactly, differ from NumRecords",
-    "location kind not 1 to 5",
-    "ConstIndex offset negative or not below NumConstants",
-    "record address over 2^64 - 1",
-    "bytes after the last record",
-    "no record of that number or address",
-    "no location or live-out of that number",
-    "not a statepoint",
-    "image over 1,048,576 bytes, or first address + length over 2^64 - 1",
-    "lists unequal, over 65,536 entries, old starts not strictly rising, or a 0 in either",
-    "more than one record at the address",
-    "stack size unknown, or extent not inside the image",
-    "over 256 pairs",
-    "pair of wrong form",
-    "a slot not wholly inside the extent",
-    "collision",
-    "base neither 0 nor an old start",
-    "listing breaks its grammar",
-    "over 65,535 locations or live-outs in a record",
-    "output shorter than the whole result",
-];
