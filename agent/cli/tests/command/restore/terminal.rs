@@ -6,7 +6,9 @@ use crate::fixtures::{one_function, rsp, statepoint};
 use crate::run::{skipped, Folder, Ran, PROGRAM};
 use std::process::{Command, Stdio};
 
-const FRAMES: u64 = 120;
+/// So many frames that moving them takes well over a second.
+const FRAMES: u64 = 800;
+const DONE: &str = "image: 800 frames moved, 1600 pairs";
 
 /// A thread whose section takes long to walk.
 fn slow() -> Restore {
@@ -23,7 +25,7 @@ fn a_long_restore_tells_how_far_it_is_on_a_terminal_only() {
     let (row, folder) = (slow(), Folder::new());
     row.put(&folder);
     let mut quiet = folder.command();
-    Ran::of(row.call(&mut quiet)).done("image: 120 frames moved, 240 pairs\n");
+    Ran::of(row.call(&mut quiet)).done(&format!("{DONE}\n"));
     assert!(folder.get("image") == moved(FRAMES));
 
     row.put(&folder);
@@ -41,9 +43,9 @@ fn a_long_restore_tells_how_far_it_is_on_a_terminal_only() {
     let text = ran.text();
     assert_eq!(ran.status, Some(0), "{text}");
     assert!(text.contains("\r\x1b[Kframes moved: "), "{text:?}");
-    assert!(text.contains(" of 120"), "{text:?}");
+    assert!(text.contains(" of 800"), "{text:?}");
     assert!(
-        text.ends_with("\r\x1b[Kimage: 120 frames moved, 240 pairs\r\n"),
+        text.ends_with(&format!("\r\x1b[K{DONE}\r\n")),
         "{text:?}"
     );
     assert!(folder.get("image") == moved(FRAMES));
