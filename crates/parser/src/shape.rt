@@ -1,4 +1,5 @@
-// A record of a listing: how many items it has, and how many bytes in a section.
+// A record of a listing: how many items it has, and how many bytes in a section. For `builder`
+// too, and no entry point: a record item has been seen at the place that is required.
 ghost use mathlib.Core.Path.{_≡_};
 ghost use Prim.Native.Nat.{_+_, _≤_};
 ghost use lib.ListN.{length};
