@@ -11,7 +11,7 @@ use lib.Dec.{eqb}
 use lib.ListN.{length, getD}
 use Rattle.wire.specs.Word.{word}
 use Rattle.moves.specs.Pointers.{Pointer, null, slots, slotsClash, clash, unknown, newDerived, newContent}
-use Rattle.moves.specs.Settle.{refusedMove, acceptedMove, put, first20, first21, write1, write, answerFor, bytesFor, settled, settle, Settles}
+use Rattle.moves.specs.Settle.{refusedMove, acceptedMove, put, first20, first21, write1, write, answerFor, bytesFor, settled, settle, settleIf, Settles}
 use Rattle.moves.specs.Arrays.{pointerAt, listFrom, pointersOf, clashAt, firstClash, Within, Filled, unknownAt, firstUnknown, putOne, puts}
 use Rattle.moves.proofs.Searches.{lowest-ext, any-ext}
 
@@ -84,7 +84,7 @@ module _ (live bs ds : List ℕ) (n : ℕ) where
       puts-meet (suc k) i cur h = rw (put-meets i cur (omega arith)) (puts-meet k (suc i) (write1 table w cur (pointerAt live bs ds i)) (omega arith))
 
       pub done : (p u : ℕ) → p ≡ firstClash live bs ds vs n → n ≤ p → u ≡ firstUnknown table live vs n → n ≤ u
-          → Settles table (acceptedMove n) (puts live ds cs n 0 w) (pointersOf n live bs ds) w
+          → Settles table true (acceptedMove n) (puts live ds cs n 0 w) (pointersOf n live bs ds) w
       unfolding settled settle answerFor bytesFor pointersOf
       done p u a b d e =
           record {
@@ -94,21 +94,33 @@ module _ (live bs ds : List ℕ) (n : ℕ) where
                 (puts-meet n 0 w (omega arith));
           }
 
-    pub stop20 : (p : ℕ) → p ≡ firstClash live bs ds vs n → p < n → Settles table (refusedMove 20 p) w (pointersOf n live bs ds) w
+    -- only judged: accepted, and nothing is written
+    pub fine : (p u : ℕ) → p ≡ firstClash live bs ds vs n → n ≤ p → u ≡ firstUnknown table live vs n → n ≤ u
+        → Settles table false (acceptedMove n) w (pointersOf n live bs ds) w
+    unfolding settled answerFor
+    fine p u a b d e =
+        record { answer = rw (← first20-meets, ← first21-meets, ← a, ← d, pointers-length, le-ltb p n b, le-ltb u n e); left = refl }
+
+    -- a refusal leaves the window, moved or judged
+    stays : (write : Bool) (ps : List Pointer) → w ≡ settle table ps w → w ≡ settleIf table write ps w
+    stays true ps h = h
+    stays false ps h = refl
+
+    pub stop20 : (write : Bool) (p : ℕ) → p ≡ firstClash live bs ds vs n → p < n → Settles table write (refusedMove 20 p) w (pointersOf n live bs ds) w
     unfolding settled settle answerFor bytesFor
-    stop20 p a b =
+    stop20 write p a b =
         record {
           answer = rw (← first20-meets, ← a, pointers-length, lt-ltb p n b);
-          left = rw (← first20-meets, ← a, pointers-length, lt-ltb p n b);
+          left = stays write (pointersOf n live bs ds) (rw (← first20-meets, ← a, pointers-length, lt-ltb p n b));
         }
 
-    pub stop21 : (p u : ℕ) → p ≡ firstClash live bs ds vs n → n ≤ p → u ≡ firstUnknown table live vs n → u < n
-        → Settles table (refusedMove 21 u) w (pointersOf n live bs ds) w
+    pub stop21 : (write : Bool) (p u : ℕ) → p ≡ firstClash live bs ds vs n → n ≤ p → u ≡ firstUnknown table live vs n → u < n
+        → Settles table write (refusedMove 21 u) w (pointersOf n live bs ds) w
     unfolding settled settle answerFor bytesFor
-    stop21 p u a b d e =
+    stop21 write p u a b d e =
         record {
           answer = rw (← first20-meets, ← first21-meets, ← a, ← d, pointers-length, le-ltb p n b, lt-ltb u n e);
-          left = rw (← first20-meets, ← first21-meets, ← a, ← d, pointers-length, le-ltb p n b, lt-ltb u n e);
+          left = stays write (pointersOf n live bs ds) (rw (← first20-meets, ← first21-meets, ← a, ← d, pointers-length, le-ltb p n b, lt-ltb u n e));
         }
 
 pub within-more : (m m′ n : ℕ) (live bs ds : List ℕ) → m ≤ m′ → Within m n live bs ds → Within m′ n live bs ds

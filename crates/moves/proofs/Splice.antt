@@ -1,13 +1,18 @@
 -- Parts of an image, and what replacing one changes.
 use Prim.Native.Nat.{ℕ, _+_, _-_, _≤_, _<_}
-use mathlib.Core.Path.{_≡_, sym, ap, _∙_}
+use mathlib.Core.Path.{_≡_, refl, sym, ap, _∙_}
+use mathlib.Core.Bool.{Bool, true, false}
+use mathlib.Core.Option.{Option}
 use mathlib.Core.Logic.{_⊎_, inl, inr}
 use mathlib.Core.List.{List, _++_}
 use native.Mathlib.Omega.{arith}
 use native.Mathlib.Decide.{decLe, decLt}
-use lib.ListN.{length, take, drop, getD, length-append, length-take, length-drop, List·getD-append}
+use lib.ListN.{length, take, drop, getD, take-append-drop, length-append, length-take, length-drop, List·getD-append}
 use lib.Seq.{getD-append-add, getD-drop, getD-take, ext-getD, length-take-le, drop-drop}
 use Rattle.moves.specs.Window.{part, splice, In}
+use Rattle.moves.specs.Pointers.{Pointer}
+use Rattle.moves.specs.Settle.{settleIf}
+use Rattle.moves.specs.Plan.{window, leavesIf}
 
 pub in? : (a n i : ℕ) → In a n i ⊎ (In a n i → ⊥)
 in? a n i = go (decLe a i) (decLt i (a + n))
@@ -79,3 +84,14 @@ module _ (im : List ℕ) (a n : ℕ) (w : List ℕ) (fits : a + n ≤ length im)
 pub splice-mid : (im : List ℕ) (a n : ℕ) (v w : List ℕ) → v ≡ w → take a im ++ (v ++ drop n (drop a im)) ≡ splice im a n w
 unfolding splice
 splice-mid im a n v w e = rw (e, drop-drop n a im)
+
+-- a part that is left as it was leaves the image
+splice-same : (im : List ℕ) (a n : ℕ) → splice im a n (part im a n) ≡ im
+unfolding splice
+splice-same im a n = rw (← drop-drop n a im, take-append-drop n (drop a im), take-append-drop a im)
+
+-- the image after a window is settled or judged
+pub splice-if : (write : Bool) (table : ℕ → Option ℕ) (im : List ℕ) (a n : ℕ) (ps : List Pointer)
+    → splice im a n (settleIf table write ps (part im a n)) ≡ leavesIf write table im (window a n ps)
+splice-if true table im a n ps = refl
+splice-if false table im a n ps = splice-same im a n

@@ -1,6 +1,7 @@
 -- What a frame is before any byte of the image is read, and what its move does to an image.
 use Prim.Native.Nat.{ℕ}
 use mathlib.Core.Path.{_≡_}
+use mathlib.Core.Bool.{Bool, true, false}
 use mathlib.Core.Option.{Option}
 use mathlib.Core.List.{List}
 use Rattle.moves.specs.declared.Move.{Move}
@@ -23,7 +24,12 @@ abbrev pub leaves : (ℕ → Option ℕ) → List ℕ → Plan → List ℕ
 leaves table im (refuse n p) = im
 leaves table im (window off size ps) = splice im off size (settle table ps (part im off size))
 
+-- the image after a frame is moved, or is only judged
+abbrev pub leavesIf : Bool → (ℕ → Option ℕ) → List ℕ → Plan → List ℕ
+leavesIf true table im p = leaves table im p
+leavesIf false table im p = im
+
 -- an answer, and the image that is left, are what a plan on an image gives
-pub record Follows (r : Move) (after : List ℕ) (table : ℕ → Option ℕ) (im : List ℕ) (p : Plan) : Type 0 where
+pub record Follows (write : Bool) (r : Move) (after : List ℕ) (table : ℕ → Option ℕ) (im : List ℕ) (p : Plan) : Type 0 where
   pub answer : r ≡ says table im p
-  pub left : after ≡ leaves table im p
+  pub left : after ≡ leavesIf write table im p

@@ -69,7 +69,12 @@ module _ (table : ℕ → Option ℕ) where
   unfoldable pub settle : List Pointer → List ℕ → List ℕ
   settle ps w = bytesFor (first20 ps w) (first21 ps w) (length ps) w (write w w ps)
 
+  -- the window's bytes after the frame is moved, or is only judged
+  abbrev pub settleIf : Bool → List Pointer → List ℕ → List ℕ
+  settleIf true ps w = settle ps w
+  settleIf false ps w = w
+
   -- an answer, and the bytes that are left, are what the definitions say
-  pub record Settles (r : Move) (after : List ℕ) (ps : List Pointer) (w : List ℕ) : Type 0 where
+  pub record Settles (write : Bool) (r : Move) (after : List ℕ) (ps : List Pointer) (w : List ℕ) : Type 0 where
     pub answer : r ≡ settled ps w
-    pub left : after ≡ settle ps w
+    pub left : after ≡ settleIf write ps w

@@ -34,7 +34,8 @@ pub struct Move {
     pub count: usize,
 }
 
-// Refusals 20 and 21 of the pairs of a window, or their move: all is read before any of it is written.
+// Refusals 20 and 21 of the pairs of a window, or their move: all is read before any of it is written. Where `write` is false the
+// pairs are only judged.
 fn settle_pairs(
     window: &mut [u8],
     live: &[u8; PAIRS_MOST],
@@ -43,9 +44,10 @@ fn settle_pairs(
     pairs: usize,
     olds: &[u64],
     news: &[u64],
+    write: bool,
 ) -> Move
     requires { ⌜ (pairs ≤ pairsMost) × Within (length (now window)) pairs (now live) (now bases) (now derived) × (tableRight (now olds) (now news) ≡ true) ⌝ }
-    ensures { λ r. ⌜ Settles (lookUp (now (olds .entry)) (now (news .entry))) r (now (window .exit)) (pointersOf pairs (now (live .entry)) (now (bases .entry)) (now (derived .entry))) (now (window .entry)) ⌝ }
+    ensures { λ r. ⌜ Settles (lookUp (now (olds .entry)) (now (news .entry))) write r (now (window .exit)) (pointersOf pairs (now (live .entry)) (now (bases .entry)) (now (derived .entry))) (now (window .entry)) ⌝ }
 {
     let old_bases = slots::words(window, live, bases, pairs);
     let colliding = collisions::collision(live, bases, derived, &old_bases, pairs);
@@ -64,9 +66,11 @@ fn settle_pairs(
             count: 0,
         };
     }
-    let old_derived = slots::words(window, live, derived, pairs);
-    let new_derived = contents::moved(live, &old_derived, &old_bases, olds, news, pairs);
-    slots::put_all(window, live, derived, &new_derived, pairs);
+    if write {
+        let old_derived = slots::words(window, live, derived, pairs);
+        let new_derived = contents::moved(live, &old_derived, &old_bases, olds, news, pairs);
+        slots::put_all(window, live, derived, &new_derived, pairs);
+    }
     Move {
         number: 0,
         place: 0,
@@ -74,7 +78,7 @@ fn settle_pairs(
     }
 }
 
-// The move of a frame whose window is image[off..end].
+// The move of a frame whose window is image[off..end], or its judgement.
 pub fn move_window(
     image: &mut [u8],
     off: usize,
@@ -85,9 +89,10 @@ pub fn move_window(
     pairs: usize,
     olds: &[u64],
     news: &[u64],
+    write: bool,
 ) -> Move
     requires { ⌜ (off ≤ end) × (end ≤ length (now image)) × (pairs ≤ pairsMost) × Within (end - off) pairs (now live) (now bases) (now derived) × (tableRight (now olds) (now news) ≡ true) ⌝ }
-    ensures { λ r. ⌜ Follows r (now (image .exit)) (lookUp (now (olds .entry)) (now (news .entry))) (now (image .entry)) (window off (end - off) (pointersOf pairs (now (live .entry)) (now (bases .entry)) (now (derived .entry)))) ⌝ }
+    ensures { λ r. ⌜ Follows write r (now (image .exit)) (lookUp (now (olds .entry)) (now (news .entry))) (now (image .entry)) (window off (end - off) (pointersOf pairs (now (live .entry)) (now (bases .entry)) (now (derived .entry)))) ⌝ }
 {
     settle_pairs(
         &mut image[off..end],
@@ -97,5 +102,6 @@ pub fn move_window(
         pairs,
         olds,
         news,
+        write,
     )
 }

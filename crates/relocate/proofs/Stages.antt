@@ -1,7 +1,7 @@
 -- The stages of a plan, each by the tests that lead to it.
 use Prim.Native.Nat.{ℕ, _+_, _*_, _-_, _^_, _≤_, _<_}
 use mathlib.Core.Path.{_≡_, refl, _∙_}
-use mathlib.Core.Bool.{true, false, not, _&&_}
+use mathlib.Core.Bool.{Bool, true, false, not, _&&_}
 use mathlib.Core.Option.{Option}
 use mathlib.Core.List.{List, map}
 use native.Mathlib.Omega.{arith}
@@ -30,8 +30,10 @@ use Rattle.relocate.proofs.Following.{every-refused, every-passed}
 use Rattle.relocate.proofs.Asking.{section-refused, one-found, body-is, size-is}
 
 -- a refusal follows a plan that is one
-pub refuses : (r : Move) (table : ℕ → Option ℕ) (im : List ℕ) (p : Plan) (n i : ℕ) → r ≡ refusedMove n i → p ≡ refuse n i → Follows r im table im p
-refuses r table im p n i h e = rw (h, e) (record { answer = refl; left = refl })
+pub refuses : (write : Bool) (r : Move) (table : ℕ → Option ℕ) (im : List ℕ) (p : Plan) (n i : ℕ) → r ≡ refusedMove n i → p ≡ refuse n i
+    → Follows write r im table im p
+refuses true r table im p n i h e = rw (h, e) (record { answer = refl; left = refl })
+refuses false r table im p n i h e = rw (h, e) (record { answer = refl; left = refl })
 
 -- 13
 
@@ -139,7 +141,7 @@ entry-plan s a pool first n f r size k w e z one q =
 -- 1 to 9, 13, 14
 
 module _ (s olds news : List ℕ) (first : ℕ) (im : List ℕ) (f : Frame) where
-  pub relocates : (r : Move) (after : List ℕ) → Follows r after (lookUp olds news) im (plan s olds news first (length im) f)
+  pub relocates : (r : Move) (after : List ℕ) → Follows true r after (lookUp olds news) im (plan s olds news first (length im) f)
       → Relocates s olds news first im f r after
   unfolding answer moved
   relocates r after h = record { answer-is = h .answer; image-is = h .left }

@@ -8,8 +8,8 @@ use moves::table;
 use questions::Found;
 use questions::find;
 
-mod extent;
-mod moving;
+pub mod extent;
+pub mod moving;
 mod pairs;
 mod reader;
 mod slots;
@@ -56,7 +56,7 @@ pub fn relocate(
     }
     if extent::image_right(first, image.len()) {
         if table::table_right(olds, news) {
-            return moving::move_found(section, found, image, first, olds, news, frame);
+            return moving::move_found(section, found, image, first, olds, news, frame, true);
         }
         return moving::refused(14, 0);
     }

@@ -1,4 +1,4 @@
-// A move after the question by address, one stage of the plan a function.
+// A move after the question by address, one stage of the plan a function. Where `write` is false the frame is only judged.
 ghost use mathlib.Core.Path.{_≡_};
 ghost use mathlib.Core.Bool.{true};
 ghost use Prim.Native.Nat.{_+_, _≤_};
@@ -49,9 +49,10 @@ fn move_pairs(
     olds: &[u64],
     news: &[u64],
     frame: Frame,
+    write: bool,
 ) -> Move
     requires { ⌜ Paired (now s) at start count × (count ≤ pairsMost) × (off + size ≤ length (now image)) × (size ≤ imageMost) × (tableRight (now olds) (now news) ≡ true) ⌝ }
-    ensures { λ r. ⌜ Follows r (now (image .exit)) (lookUp (now (olds .entry)) (now (news .entry))) (now (image .entry)) (planPairs (poolOf (now (s .entry))) frame off size (spec.pairs (recordOf (now (s .entry)) at))) ⌝ }
+    ensures { λ r. ⌜ Follows write r (now (image .exit)) (lookUp (now (olds .entry)) (now (news .entry))) (now (image .entry)) (planPairs (poolOf (now (s .entry))) frame off size (spec.pairs (recordOf (now (s .entry)) at))) ⌝ }
 {
     let wrong = pairs::wrong_form(s, at, start, count);
     if wrong < count {
@@ -74,6 +75,7 @@ fn move_pairs(
         count,
         olds,
         news,
+        write,
     )
 }
 
@@ -87,9 +89,10 @@ fn move_record(
     olds: &[u64],
     news: &[u64],
     frame: Frame,
+    write: bool,
 ) -> Move
     requires { ⌜ Stands (now s) at × (imageRight first (length (now image)) ≡ true) × (tableRight (now olds) (now news) ≡ true) ⌝ }
-    ensures { λ r. ⌜ Follows r (now (image .exit)) (lookUp (now (olds .entry)) (now (news .entry))) (now (image .entry)) (planRecord (poolOf (now (s .entry))) first (length (now (image .entry))) frame size (recordOf (now (s .entry)) at)) ⌝ }
+    ensures { λ r. ⌜ Follows write r (now (image .exit)) (lookUp (now (olds .entry)) (now (news .entry))) (now (image .entry)) (planRecord (poolOf (now (s .entry))) first (length (now (image .entry))) frame size (recordOf (now (s .entry)) at)) ⌝ }
 {
     if statepoint::is_statepoint(s, at) {
         if extent::extent_right(first, image.len(), frame.rsp, size) {
@@ -110,6 +113,7 @@ fn move_record(
                 olds,
                 news,
                 frame,
+                write,
             );
         }
         return refused(16, 0);
@@ -126,9 +130,10 @@ pub fn move_found(
     olds: &[u64],
     news: &[u64],
     frame: Frame,
+    write: bool,
 ) -> Move
     requires { ⌜ Accepted (now s) × (found ≡ firstOf (withAddress (frame .address) (entries (now s)))) × (imageRight first (length (now image)) ≡ true) × (tableRight (now olds) (now news) ≡ true) ⌝ }
-    ensures { λ r. ⌜ Follows r (now (image .exit)) (lookUp (now (olds .entry)) (now (news .entry))) (now (image .entry)) (only (withAddress (frame .address) (entries (now (s .entry)))) (planEntry (poolOf (now (s .entry))) first (length (now (image .entry))) frame)) ⌝ }
+    ensures { λ r. ⌜ Follows write r (now (image .exit)) (lookUp (now (olds .entry)) (now (news .entry))) (now (image .entry)) (only (withAddress (frame .address) (entries (now (s .entry)))) (planEntry (poolOf (now (s .entry))) first (length (now (image .entry))) frame)) ⌝ }
 {
     if found.number != 0 {
         return refused(10, 0);
@@ -140,5 +145,5 @@ pub fn move_found(
         s,
         layout::HEADER_SIZE + layout::FUNCTION_SIZE * found.function + STACK_SIZE_AT,
     );
-    move_record(s, found.first, size, image, first, olds, news, frame)
+    move_record(s, found.first, size, image, first, olds, news, frame, write)
 }

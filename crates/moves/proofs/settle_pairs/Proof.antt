@@ -3,7 +3,7 @@ use mathlib.Core.Path.{_∙_}
 use native.Mathlib.Omega.{arith}
 use lib.ListN.{length}
 use Rattle.moves.specs.Table.{lookUp}
-use Rattle.moves.proofs.Meets.{done, stop20, stop21, within-more}
+use Rattle.moves.proofs.Meets.{done, fine, stop20, stop21, within-more}
 use borrow.Author.Needs.{needs}
 use Rattle.moves.proofs.settle_pairs.Statement.{statement}
 use Rattle.moves.proofs.settle_pairs.Tie as tie
@@ -23,7 +23,7 @@ returns : tie.Need-returns
 returns c =
     let a = c .before .before .before .before .before .before .before .before .args in
     stop20 (a .live .now) (a .bases .now) (a .derived .now) (a .pairs) (lookUp (a .olds .now) (a .news .now)) (a .window .now)
-    (c .before .before .before .words .result) (c .before .before .before .words .ensures) (c .before .collision .result) (c .before .collision .ensures) (c .if1 .taken)
+    (c .before .before .before .words .result) (c .before .before .before .words .ensures) (a .write) (c .before .collision .result) (c .before .collision .ensures) (c .if1 .taken)
 
 unknown-requires : tie.Need-unknown-requires
 unknown-requires c κs = search needs
@@ -35,7 +35,7 @@ returns-2 : tie.Need-returns-2
 returns-2 c =
     let a = c .before .before .before .before .before .before .before .before .before .before .before .args in
     stop21 (a .live .now) (a .bases .now) (a .derived .now) (a .pairs) (lookUp (a .olds .now) (a .news .now)) (a .window .now)
-    (c .before .before .before .before .before .before .words .result) (c .before .before .before .before .before .before .words .ensures) (c .before .before .before .before .collision .result) (c .before .unknown .result) (c .before .before .before .before .collision .ensures) (c .before .before .before .if1 .left)
+    (c .before .before .before .before .before .before .words .result) (c .before .before .before .before .before .before .words .ensures) (a .write) (c .before .before .before .before .collision .result) (c .before .unknown .result) (c .before .before .before .before .collision .ensures) (c .before .before .before .if1 .left)
     (c .before .unknown .ensures) (c .if2 .taken)
 
 words-requires-2 : tie.Need-words-requires-2
@@ -46,7 +46,7 @@ moved-requires c κs = search needs
 
 put-all-requires : tie.Need-put-all-requires
 put-all-requires c κs =
-    let s = c .before .before .before .before .before .before .before .before .before .before .before .before .before .before .before .before .before .before in
+    let s = c .before .before .before .before .before .before .before .before .before .before .before .before .before .before .before .before .before .before .before in
     (s .pre .0, s .pre .1 .derived-in)
 
 same-length-3 : tie.Need-same-length-3
@@ -54,11 +54,21 @@ same-length-3 c = search needs
 
 returns-3 : tie.Need-returns-3
 returns-3 c =
-    let a = c .before .before .before .before .before .before .before .before .before .before .before .before .before .before .before .before .before .before .before .before .before .args in
+    let a = c .before .before .before .before .before .before .before .before .before .before .before .before .before .before .before .before .before .before .before .before .before .before .args in
     let o = done (a .live .now) (a .bases .now) (a .derived .now) (a .pairs) (lookUp (a .olds .now) (a .news .now)) (a .window .now)
-    (c .before .before .before .before .before .before .before .before .before .before .before .before .before .before .before .before .words .result) (c .before .before .before .before .before .before .before .before .before .before .before .before .before .before .before .before .words .ensures) (c .before .before .before .before .before .before .before .before .words2 .result) (c .before .before .before .before .before .moved .result) (c .before .before .before .before .before .before .before .before .words2 .ensures) (c .before .before .before .before .before .moved .ensures)
-    (c .before .before .before .before .before .before .before .before .before .before .before .before .before .before .collision .result) (c .before .before .before .before .before .before .before .before .before .before .before .unknown .result) (c .before .before .before .before .before .before .before .before .before .before .before .before .before .before .collision .ensures) (c .before .before .before .before .before .before .before .before .before .before .before .before .before .if1 .left) (c .before .before .before .before .before .before .before .before .before .before .before .unknown .ensures) (c .before .before .before .before .before .before .before .before .before .before .if2 .left) in
-    record { answer = o .answer; left = c .before .before .put-all .ensures ∙ o .left }
+    (c .before .before .before .before .before .before .before .before .before .before .before .before .before .before .before .before .before .words .result) (c .before .before .before .before .before .before .before .before .before .before .before .before .before .before .before .before .before .words .ensures) (c .before .before .before .before .before .before .before .before .words2 .result) (c .before .before .before .before .before .moved .result) (c .before .before .before .before .before .before .before .before .words2 .ensures) (c .before .before .before .before .before .moved .ensures)
+    (c .before .before .before .before .before .before .before .before .before .before .before .before .before .before .before .collision .result) (c .before .before .before .before .before .before .before .before .before .before .before .before .unknown .result) (c .before .before .before .before .before .before .before .before .before .before .before .before .before .before .before .collision .ensures) (c .before .before .before .before .before .before .before .before .before .before .before .before .before .before .if1 .left) (c .before .before .before .before .before .before .before .before .before .before .before .before .unknown .ensures) (c .before .before .before .before .before .before .before .before .before .before .before .if2 .left) in
+    rw (c .before .before .before .before .before .before .before .before .before .before .if3 .taken) (record { answer = o .answer; left = c .before .before .put-all .ensures ∙ o .left })
+
+same-length-4 : tie.Need-same-length-4
+same-length-4 c = search needs
+
+returns-4 : tie.Need-returns-4
+returns-4 c =
+    let a = c .before .before .before .before .before .before .before .before .before .before .before .before .args in
+    rw (c .if3 .left)
+    (fine (a .live .now) (a .bases .now) (a .derived .now) (a .pairs) (lookUp (a .olds .now) (a .news .now)) (a .window .now)
+    (c .before .before .before .before .before .before .before .words .result) (c .before .before .before .before .before .before .before .words .ensures) (c .before .before .before .before .before .collision .result) (c .before .before .unknown .result) (c .before .before .before .before .before .collision .ensures) (c .before .before .before .before .if1 .left) (c .before .before .unknown .ensures) (c .before .if2 .left))
 
 pub settle-pairs-spec : {M : Type 1} → statement M
 settle-pairs-spec =
@@ -75,4 +85,6 @@ settle-pairs-spec =
     moved-requires
     put-all-requires
     same-length-3
-    returns-3)
+    returns-3
+    same-length-4
+    returns-4)

@@ -18,7 +18,7 @@ returns : tie.Need-returns
 returns c =
     let a = c .before .before .before .before .before .before .before .before .args in
     relocates (a .section .now) (a .olds .now) (a .news .now) (a .first) (a .image .now) (a .frame) _ _
-    (refuses _ _ _ _ _ _ (c .refused .ensures)
+    (refuses _ _ _ _ _ _ _ (c .refused .ensures)
     (plan-section (a .section .now) (a .olds .now) (a .news .now) (a .first) (a .image .now) (a .frame) (c .before .before .before .find .result) (c .before .before .before .find .ensures) (sym (c .before .before .of-section .ensures) ∙ c .before .if1 .taken)))
 
 image-right-requires : tie.Need-image-right-requires
@@ -56,7 +56,7 @@ returns-3 c =
     let a = c .before .before .before .before .before .before .before .before .before .before .before .before .args in
     let k = section-accepted (a .section .now) (a .frame .address) (c .before .before .before .before .before .before .before .find .result) (c .before .before .before .before .before .before .before .find .ensures) (sym (c .before .before .before .before .before .before .of-section .ensures) ∙ c .before .before .before .before .before .if1 .left) in
     relocates (a .section .now) (a .olds .now) (a .news .now) (a .first) (a .image .now) (a .frame) _ _
-    (refuses _ _ _ _ 14 0 (c .refused2 .ensures)
+    (refuses _ _ _ _ _ 14 0 (c .refused2 .ensures)
     (plan-14 (a .section .now) (a .olds .now) (a .news .now) (a .first) (a .image .now) (a .frame) k (sym (c .before .before .before .before .image-right .ensures) ∙ c .before .before .before .if2 .taken) (sym (c .before .before .table-right .ensures) ∙ c .before .if3 .left)))
 
 refused-requires-3 : tie.Need-refused-requires-3
@@ -67,7 +67,7 @@ returns-4 c =
     let a = c .before .before .before .before .before .before .before .before .before .before .args in
     let k = section-accepted (a .section .now) (a .frame .address) (c .before .before .before .before .before .find .result) (c .before .before .before .before .before .find .ensures) (sym (c .before .before .before .before .of-section .ensures) ∙ c .before .before .before .if1 .left) in
     relocates (a .section .now) (a .olds .now) (a .news .now) (a .first) (a .image .now) (a .frame) _ _
-    (refuses _ _ _ _ 13 0 (c .refused3 .ensures)
+    (refuses _ _ _ _ _ 13 0 (c .refused3 .ensures)
     (plan-13 (a .section .now) (a .olds .now) (a .news .now) (a .first) (a .image .now) (a .frame) k (sym (c .before .before .image-right .ensures) ∙ c .before .if2 .left)))
 
 pub relocate-spec : {M : Type 1} → statement M

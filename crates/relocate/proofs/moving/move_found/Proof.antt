@@ -17,7 +17,7 @@ refused-requires c κs = search needs
 returns : tie.Need-returns
 returns c =
     let s = c .before .before .before .before .before .before .before in
-    refuses _ _ _ _ 10 0 (c .refused .ensures) (none-found (s .args .found) (planEntry (poolOf (s .args .s .now)) (s .args .first) (length (s .args .image .now)) (s .args .frame)) (withAddress (s .args .frame .address) (entries (s .args .s .now))) (s .pre .1) (c .before .if1 .taken))
+    refuses _ _ _ _ _ 10 0 (c .refused .ensures) (none-found (s .args .found) (planEntry (poolOf (s .args .s .now)) (s .args .first) (length (s .args .image .now)) (s .args .frame)) (withAddress (s .args .frame .address) (entries (s .args .s .now))) (s .pre .1) (c .before .if1 .taken))
 
 refused-requires-2 : tie.Need-refused-requires-2
 refused-requires-2 c κs = search needs
@@ -25,7 +25,7 @@ refused-requires-2 c κs = search needs
 returns-2 : tie.Need-returns-2
 returns-2 c =
     let s = c .before .before .before .before .before .before .before .before .before in
-    refuses _ _ _ _ 15 0 (c .refused2 .ensures) (several-found (s .args .found) (planEntry (poolOf (s .args .s .now)) (s .args .first) (length (s .args .image .now)) (s .args .frame)) (withAddress (s .args .frame .address) (entries (s .args .s .now))) (s .pre .1) (c .before .before .before .if1 .left) (c .before .if2 .taken))
+    refuses _ _ _ _ _ 15 0 (c .refused2 .ensures) (several-found (s .args .found) (planEntry (poolOf (s .args .s .now)) (s .args .first) (length (s .args .image .now)) (s .args .frame)) (withAddress (s .args .frame .address) (entries (s .args .s .now))) (s .pre .1) (c .before .before .before .if1 .left) (c .before .if2 .taken))
 
 mul-u64-at : tie.Need-mul-u64-at
 mul-u64-at c =

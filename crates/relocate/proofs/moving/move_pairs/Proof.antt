@@ -19,7 +19,7 @@ refused-requires c κs = search needs
 returns : tie.Need-returns
 returns c =
     let s = c .before .before .before .before .before .before .before in
-    refuses _ _ _ _ 18 _ (c .refused .ensures)
+    refuses _ _ _ _ _ 18 _ (c .refused .ensures)
     (pairs-18 (poolOf (s .args .s .now)) (s .args .frame) (s .args .off) (s .args .size) (recordOf (s .args .s .now) (s .args .at)) (s .args .count) (s .pre .0 .counted) _ (c .before .before .wrong-form .ensures) (c .before .if1 .taken))
 
 outside-requires : tie.Need-outside-requires
@@ -31,7 +31,7 @@ refused-requires-2 c κs = search needs
 returns-2 : tie.Need-returns-2
 returns-2 c =
     let s = c .before .before .before .before .before .before .before .before .before in
-    refuses _ _ _ _ 19 _ (c .refused2 .ensures)
+    refuses _ _ _ _ _ 19 _ (c .refused2 .ensures)
     (pairs-19 (poolOf (s .args .s .now)) (s .args .frame) (s .args .off) (s .args .size) (recordOf (s .args .s .now) (s .args .at)) (s .args .count) (s .pre .0 .counted) _ (c .before .before .before .before .wrong-form .ensures) (c .before .before .before .if1 .left) _ (c .before .before .outside .ensures) (c .before .if2 .taken))
 
 live-pairs-requires : tie.Need-live-pairs-requires

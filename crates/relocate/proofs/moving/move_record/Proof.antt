@@ -22,7 +22,7 @@ refused-requires c κs = search needs
 returns : tie.Need-returns
 returns c =
     let s = c .before .before .before .before .before .before .before .before .before .before .before in
-    refuses _ _ _ _ 17 0 (c .refused .ensures)
+    refuses _ _ _ _ _ 17 0 (c .refused .ensures)
     (record-17 (poolOf (s .args .s .now)) (s .args .first) (length (s .args .image .now)) (s .args .frame) (s .args .size) (recordOf (s .args .s .now) (s .args .at))
     (sym (c .before .before .before .before .before .before .is-statepoint .ensures) ∙ c .before .before .before .before .before .if1 .taken) (sym (c .before .before .before .before .extent-right .ensures) ∙ c .before .before .before .if2 .taken) _ (c .before .before .pairs-of .ensures .counted) (c .before .if3 .taken))
 
@@ -55,7 +55,7 @@ refused-requires-2 c κs = search needs
 returns-3 : tie.Need-returns-3
 returns-3 c =
     let s = c .before .before .before .before .before .before .before .before .before in
-    refuses _ _ _ _ 16 0 (c .refused2 .ensures)
+    refuses _ _ _ _ _ 16 0 (c .refused2 .ensures)
     (record-16 (poolOf (s .args .s .now)) (s .args .first) (length (s .args .image .now)) (s .args .frame) (s .args .size) (recordOf (s .args .s .now) (s .args .at))
     (sym (c .before .before .before .before .is-statepoint .ensures) ∙ c .before .before .before .if1 .taken) (sym (c .before .before .extent-right .ensures) ∙ c .before .if2 .left))
 
@@ -65,7 +65,7 @@ refused-requires-3 c κs = search needs
 returns-4 : tie.Need-returns-4
 returns-4 c =
     let s = c .before .before .before .before .before .before .before in
-    refuses _ _ _ _ 12 0 (c .refused3 .ensures)
+    refuses _ _ _ _ _ 12 0 (c .refused3 .ensures)
     (record-12 (poolOf (s .args .s .now)) (s .args .first) (length (s .args .image .now)) (s .args .frame) (s .args .size) (recordOf (s .args .s .now) (s .args .at))
     (sym (c .before .before .is-statepoint .ensures) ∙ c .before .if1 .left))
 
