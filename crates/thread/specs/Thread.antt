@@ -1,0 +1,114 @@
+-- A whole thread in one call: document 02, request 1. All frames of the list move, or none does.
+use Prim.Native.Nat.{ℕ, zero, suc, _+_, _*_, _/_, _%_}
+use mathlib.Core.Path.{_≡_}
+use mathlib.Core.Bool.{Bool, cond, _&&_, _||_, false}
+use mathlib.Core.List.{List, [], _∷_, map}
+use lib.Dec.{eqb, leb}
+use lib.ListN.{length, getD}
+use Rattle.stackmap.specs.Layout.{stackSizeUnknown}
+use Rattle.stackmap.specs.Section.{Entry, entries}
+use Rattle.stackmap.specs.Check.{sectionCheck}
+use Rattle.questions.specs.Questions.{ask, withAddress}
+use Rattle.moves.specs.declared.Move.{Move}
+use Rattle.moves.specs.Table.{tableRight}
+use Rattle.moves.specs.Settle.{refusedMove, acceptedMove}
+use Rattle.relocate.specs.declared.Frame.{Frame}
+use Rattle.relocate.specs.Plan.{imageRight, stackSize}
+use Rattle.relocate.specs.Relocation.{answer}
+use Rattle.relocate.specs.Lists.{final}
+use Rattle.thread.specs.Stretches.{share}
+
+-- The list: three numbers a frame, address, RBP and RSP.
+
+abbrev pub framesMost : ℕ
+framesMost = 4096
+
+abbrev pub frameNumbers : ℕ
+frameNumbers = 3
+
+-- 25: the list's length isn't a multiple of three, or it holds over 4,096 frames
+unfoldable pub listRight : List ℕ → Bool
+listRight ns = eqb (length ns % frameNumbers) 0 && leb (length ns / frameNumbers) framesMost
+
+-- the frame at a position, counted from 0
+unfoldable pub frameAt : List ℕ → ℕ → Frame
+frameAt ns k =
+    record { address = getD ns (frameNumbers * k) 0; rbp = getD ns (frameNumbers * k + 1) 0; rsp = getD ns (frameNumbers * k + 2) 0 }
+
+-- n frames, from the position k on
+abbrev pub framesFrom : List ℕ → ℕ → ℕ → List Frame
+framesFrom ns zero k = []
+framesFrom ns (suc n) k = frameAt ns k ∷ framesFrom ns n (suc k)
+
+unfoldable pub framesOf : List ℕ → List Frame
+framesOf ns = framesFrom ns (length ns / frameNumbers) 0
+
+-- Extents, as stretches: from RSP up to, not including, RSP plus the stack size.
+
+pub record Extent : Type 0 where
+  pub start : ℕ
+  pub end : ℕ
+
+-- a frame without exactly one record, or with stack size unknown, has no extent: no byte is in it
+abbrev pub extentBy : ℕ → List Entry → Extent
+extentBy rsp [] = record { start = rsp; end = rsp }
+extentBy rsp (e ∷ []) =
+    record { start = rsp; end = cond (eqb (stackSize e) stackSizeUnknown) rsp (rsp + stackSize e) }
+extentBy rsp (e ∷ e′ ∷ es) = record { start = rsp; end = rsp }
+
+unfoldable pub extentOf : List ℕ → Frame → Extent
+extentOf s f = extentBy (f .rsp) (withAddress (f .address) (entries s))
+
+-- it shares a byte with one of these
+abbrev pub sharesOne : Extent → List Extent → Bool
+sharesOne x [] = false
+sharesOne x (y ∷ ys) = share (x .start) (x .end) (y .start) (y .end) || sharesOne x ys
+
+-- The call. Section, table, first address and image are those that were lent.
+
+-- go on where the test holds, and else this refusal, at place 0
+unfoldable pub demand : Bool → ℕ → Move → Move
+demand b n k = cond b k (refusedMove n 0)
+
+-- go on after an accepted frame; the number of a refused one is given with its position
+unfoldable pub passes : Move → ℕ → Move → Move
+passes m i k = cond (eqb (m .number) 0) k (refusedMove (m .number) i)
+
+-- 26 at the first frame whose extent shares a byte with an earlier one's; those of `earlier` are before the position i
+unfoldable pub apart : ℕ → List Extent → List Extent → Move → Move
+apart i earlier [] k = k
+apart i earlier (x ∷ xs) k =
+    let r = apart (suc i) (x ∷ earlier) xs k in
+    cond (sharesOne x earlier) (refusedMove 26 i) r
+
+module _ (s olds news : List ℕ) (first : ℕ) (im : List ℕ) where
+  -- the first refused frame's number with its position; each frame is judged by itself, and the first of these has the position i
+  unfoldable pub judged : ℕ → List Frame → Move → Move
+  judged i [] k = k
+  judged i (f ∷ fs) k = passes (answer s olds news first im f) i (judged (suc i) fs k)
+
+  -- the sum of the pairs, null ones included
+  unfoldable pub pairsIn : List Frame → ℕ
+  pairsIn [] = 0
+  pairsIn (f ∷ fs) = answer s olds news first im f .count + pairsIn fs
+
+  -- 1 to 9, 13, 14, 25, then the frames, then 26
+  unfoldable pub threadAnswer : List ℕ → Move
+  threadAnswer ns =
+      ask refusedMove
+      (demand (imageRight first (length im)) 13
+      (demand (tableRight olds news) 14
+      (demand (listRight ns) 25
+      (judged 0 (framesOf ns)
+      (apart 0 [] (map (extentOf s) (framesOf ns))
+      (acceptedMove (pairsIn (framesOf ns))))))))
+      (sectionCheck s)
+
+  -- the image got frame by frame in list order, or the image as lent
+  unfoldable pub threadImage : List ℕ → List ℕ
+  threadImage ns = cond (eqb (threadAnswer ns .number) 0) (final s olds news first (framesOf ns) im) im
+
+  -- an answer, and the image that is left, are those of the call
+  pub record Threads (ns : List ℕ) (r : Move) (after : List ℕ) : Type 0 where
+    pub answer-is : r ≡ threadAnswer ns
+    pub image-is : after ≡ threadImage ns
