@@ -197,7 +197,7 @@ module _ (s olds news : List ℕ) (first : ℕ) (e : ℕ) (k : sectionCheck s �
       go i (inl o) = run-hit tasks (o .1) im sf i (o .2) ∙ sym (run-hit tasks (perm-mem perm (o .1)) im sg i (o .2))
       go i (inr n) = run-miss tasks fs im sf i n ∙ sym (run-miss tasks gs im sg i (λ f m. n f (perm-mem (Permᴰ·symm perm) m)))
 
-disjoint-perm : (s : List ℕ) {fs gs : List Frame} → List·Permᴰ fs gs → Disjoint s fs → Disjoint s gs
+pub disjoint-perm : (s : List ℕ) {fs gs : List Frame} → List·Permᴰ fs gs → Disjoint s fs → Disjoint s gs
 disjoint-perm s List·Permᴰ·nil d = tt
 disjoint-perm s (List·Permᴰ·cons {a = f} {b = g} e p) d =
     (λ h m. rw (← e) (d .0 h (perm-mem (Permᴰ·symm p) m)), disjoint-perm s p (d .1))
