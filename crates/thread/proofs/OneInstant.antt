@@ -1,0 +1,165 @@
+-- A thread's call is one instant or none: from the definition of its answer, and from demand 3.
+use Prim.Native.Nat.{ℕ, suc}
+use mathlib.Core.Path.{_≡_, refl, sym, ap, _∙_}
+use mathlib.Core.Bool.{Bool, true, false, cond}
+use mathlib.Core.Logic.{⊎-elim}
+use mathlib.Core.List.{List, [], _∷_, map, List·Memᴰ, Memᴰ·of-map, List·Memᴰ·head, List·Memᴰ·tail, List·Memᴰ·not-nil, List·Memᴰ·cases-cons, List·Permᴰ, List·Permᴰ·nil, List·Permᴰ·cons, List·Permᴰ·swap, List·Permᴰ·trans, Permᴰ·symm}
+use native.Mathlib.Omega.{arith}
+use borrow.Author.Tests.{eqb-true, eqb-false, eq-eqb, ne-eqb}
+use lib.Dec.{eqb}
+use Rattle.stackmap.specs.declared.Verdict.{Verdict}
+use Rattle.stackmap.specs.declared.Verdict.the-variants.{Valid, Refused}
+use Rattle.stackmap.specs.Check.{sectionCheck}
+use Rattle.stackmap.proofs.Numbers.{Above, section-above}
+use Rattle.stackmap.proofs.Forth.{accepted-length}
+use Rattle.questions.specs.Questions.{ask}
+use Rattle.moves.specs.declared.Move.{Move}
+use Rattle.moves.specs.Settle.{refusedMove, acceptedMove}
+use Rattle.moves.proofs.Searches.{perm-mem}
+use Rattle.relocate.specs.declared.Frame.{Frame}
+use Rattle.relocate.specs.Relocation.{answer}
+use Rattle.relocate.specs.Lists.{final, Holds}
+use Rattle.relocate.proofs.Demand.{demand3, order-free, disjoint-perm}
+use Rattle.thread.specs.Thread.{listRight, framesOf, demand, passes, judged, pairsIn, threadAnswer, threadImage}
+use Rattle.thread.specs.Theorems.{Movable, total, AcceptedOnly, ByFrames, FrameByFrame, OrNone, AnyOrder, OneInstant}
+use Rattle.thread.proofs.Overlaps.{apart-passes, apart-tells}
+
+-- An answer with the number 0 has passed each step.
+
+ask-tells : (v : Verdict) (k : Move) → Above v → ask refusedMove k v .number ≡ 0 → ((e : ℕ) × (v ≡ Valid e)) × (k .number ≡ 0)
+unfolding ask
+ask-tells (Refused n p) k a h = absurd (omega (arith, a .above))
+ask-tells (Valid e) k a h = ((e, refl), h)
+
+demand-tells : (b : Bool) (n : ℕ) (k : Move) → demand b (suc n) k .number ≡ 0 → (b ≡ true) × (k .number ≡ 0)
+unfolding demand
+demand-tells true n k h = (refl, h)
+demand-tells false n k h = absurd (omega arith)
+
+passes-tells : (m : Move) (i : ℕ) (k : Move) → passes m i k .number ≡ 0 → (m .number ≡ 0) × (k .number ≡ 0)
+unfolding passes
+passes-tells m i k h = go (eqb (m .number) 0) refl h
+  where
+    go : (t : Bool) → eqb (m .number) 0 ≡ t → cond t k (refusedMove (m .number) i) .number ≡ 0 → (m .number ≡ 0) × (k .number ≡ 0)
+    go true e z = (eqb-true _ _ e, z)
+    go false e z = absurd (eqb-false _ _ e z)
+
+module _ (s olds news : List ℕ) (first : ℕ) (im : List ℕ) where
+  abbrev ans : Frame → Move
+  ans f = answer s olds news first im f
+
+  -- each of these frames is accepted by itself
+  abbrev Each : List Frame → Type 0
+  Each fs = (f : Frame) → List·Memᴰ f fs → ans f .number ≡ 0
+
+  judged-tells : (i : ℕ) (fs : List Frame) (k : Move) → judged s olds news first im i fs k .number ≡ 0 → Each fs × (k .number ≡ 0)
+  unfolding judged
+  judged-tells i [] k h = (λ f m. absurd (List·Memᴰ·not-nil m), h)
+  judged-tells i (f ∷ fs) k h =
+      let p = passes-tells (ans f) i (judged s olds news first im (suc i) fs k) h in
+      let r = judged-tells (suc i) fs k (p .1) in
+      (λ g m. ⊎-elim (λ e. rw e (p .0)) (λ n. r .0 g n) (List·Memᴰ·cases-cons m), r .1)
+
+  judged-passes : (i : ℕ) (fs : List Frame) (k : Move) → Each fs → judged s olds news first im i fs k ≡ k
+  unfolding judged passes
+  judged-passes i [] k a = refl
+  judged-passes i (f ∷ fs) k a =
+      rw (eq-eqb _ 0 (a f (List·Memᴰ·head refl))) (judged-passes (suc i) fs k (λ g m. a g (List·Memᴰ·tail m)))
+
+  -- the counts of the plain answers, added; and the same sum in any order
+  total-is : (fs : List Frame) → total (map ans fs) ≡ pairsIn s olds news first im fs
+  unfolding pairsIn
+  total-is [] = refl
+  total-is (f ∷ fs) = rw (total-is fs)
+
+  pairs-perm : {fs gs : List Frame} → List·Permᴰ fs gs → pairsIn s olds news first im fs ≡ pairsIn s olds news first im gs
+  unfolding pairsIn
+  pairs-perm List·Permᴰ·nil = refl
+  pairs-perm (List·Permᴰ·cons e p) = rw (e, pairs-perm p)
+  pairs-perm (List·Permᴰ·swap e₁ e₂) = rw (e₁, e₂) (omega arith)
+  pairs-perm (List·Permᴰ·trans p q) = pairs-perm p ∙ pairs-perm q
+
+  module _ (ns : List ℕ) where
+    accepted-tells : threadAnswer s olds news first im ns .number ≡ 0 → Movable s olds news first im ns
+    unfolding threadAnswer
+    accepted-tells h =
+        let v = ask-tells (sectionCheck s) _ (section-above s) h in
+        let i = demand-tells _ 12 _ (v .1) in
+        let t = demand-tells _ 13 _ (i .1) in
+        let l = demand-tells _ 24 _ (t .1) in
+        let j = judged-tells 0 (framesOf ns) _ (l .1) in
+        let d = apart-tells s (framesOf ns) _ (j .1) in
+        record {
+          section-right = v .0 .1 ∙ ap Valid (accepted-length s (v .0 .0) (v .0 .1) .0);
+          image-right = i .0;
+          table-right = t .0;
+          list-right = l .0;
+          each = j .0;
+          disjoint = d .0;
+        }
+
+    module _ (m : Movable s olds news first im ns) where
+      movable-answer : threadAnswer s olds news first im ns ≡ acceptedMove (pairsIn s olds news first im (framesOf ns))
+      unfolding threadAnswer ask demand
+      movable-answer =
+          rw (m .section-right, m .image-right, m .table-right, m .list-right)
+          (judged-passes 0 (framesOf ns) _ (m .each) ∙ apart-passes s (framesOf ns) _ (m .disjoint))
+
+      movable-image : threadImage s olds news first im ns ≡ final s olds news first (framesOf ns) im
+      unfolding threadImage
+      movable-image = rw movable-answer
+
+      holds : Holds s olds news first im (framesOf ns)
+      holds = demand3 s olds news first im (m .section-right) (framesOf ns) (m .disjoint)
+
+      by-frames : ByFrames s olds news first im ns
+      by-frames =
+          record {
+            image-is = movable-image;
+            each-accepted = λ r q.
+                let o = Memᴰ·of-map ans (framesOf ns) (rw (holds .plain) at q) in
+                rw (← (o .2)) (m .each (o .0) (o .1));
+            answer-is = movable-answer ∙ ap acceptedMove (sym (ap total (holds .plain) ∙ total-is (framesOf ns)));
+            bytes-are = holds;
+          }
+
+pub accepted-only : AcceptedOnly
+accepted-only = accepted-tells
+
+pub frame-by-frame : FrameByFrame
+frame-by-frame = by-frames
+
+pub or-none : OrNone
+unfolding threadImage
+or-none s olds news first im ns h = rw (ne-eqb _ 0 h)
+
+-- movable frames are movable in every order
+movable-perm : (s olds news : List ℕ) (first : ℕ) (im ns ns′ : List ℕ) → Movable s olds news first im ns → listRight ns′ ≡ true
+    → List·Permᴰ (framesOf ns) (framesOf ns′) → Movable s olds news first im ns′
+movable-perm s olds news first im ns ns′ m l p =
+    record {
+      section-right = m .section-right;
+      image-right = m .image-right;
+      table-right = m .table-right;
+      list-right = l;
+      each = λ f q. m .each f (perm-mem (Permᴰ·symm p) q);
+      disjoint = disjoint-perm s p (m .disjoint);
+    }
+
+pub any-order : AnyOrder
+any-order s olds news first im ns ns′ h l p =
+    let m = accepted-tells s olds news first im ns h in
+    let m′ = movable-perm s olds news first im ns ns′ m l p in
+    record {
+      same-answer =
+          movable-answer s olds news first im ns m ∙ ap acceptedMove (pairs-perm s olds news first im p)
+          ∙ sym (movable-answer s olds news first im ns′ m′);
+      same-image =
+          movable-image s olds news first im ns m
+          ∙ order-free s olds news first im (m .section-right) (framesOf ns) (framesOf ns′) p (m .disjoint)
+          ∙ sym (movable-image s olds news first im ns′ m′);
+    }
+
+pub one-instant : OneInstant
+one-instant =
+    record { accepted-only = accepted-only; frame-by-frame = frame-by-frame; or-none = or-none; any-order = any-order }
