@@ -30,7 +30,7 @@ fn refused(number: u8, place: usize) -> Found
 }
 
 // Notes the record `index` at `at`, of function number `function`, if it has the address.
-fn note(s: &[u8], address: u64, index: usize, function: usize, at: usize, hits: Hits) -> Hits
+pub fn note(s: &[u8], address: u64, index: usize, function: usize, at: usize, hits: Hits) -> Hits
     requires { ⌜ (constantsAt (now s) ≤ length (now s)) × (function < numFunctions (now s)) × (at + 16 ≤ length (now s)) × (hits .sharing ≤ index) × (index < 2 ^ 32) ⌝ }
     ensures { λ r. ⌜ (r ≡ noted address (entryAt (now (s .entry)) index function at) hits) × (r .sharing ≤ index + 1) ⌝ }
 {

@@ -1,2 +1,4 @@
 pub mod Overlaps
 pub mod OneInstant
+pub mod Gathering
+pub mod Marks

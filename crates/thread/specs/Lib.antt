@@ -1,3 +1,4 @@
 pub mod Stretches
 pub mod Thread
+pub mod Code
 pub mod Theorems

@@ -1,0 +1,107 @@
+-- The record's address is looked for, or is not.
+use Prim.Native.Nat.{_+_}
+use mathlib.Core.Path.{_≡_, sym, _∙_}
+use native.Mathlib.Omega.{arith}
+use Rattle.stackmap.specs.Section.{address}
+use Rattle.stackmap.specs.Walk.{entryAt}
+use Rattle.questions.proofs.Kept.{here-address}
+use Rattle.sorted.specs.Sorted.{LowerBound}
+use Rattle.thread.proofs.Marks.{marked, unmarked, counted-more, counted-stored}
+use borrow.Author.Needs.{needs}
+use Rattle.thread.proofs.search.mark.Statement.{statement}
+use Rattle.thread.proofs.search.mark.Tie as tie
+
+mul-u64-at : tie.Need-mul-u64-at
+mul-u64-at c = search needs
+
+add-u64-at : tie.Need-add-u64-at
+add-u64-at c = search needs
+
+u64-at-requires : tie.Need-u64-at-requires
+u64-at-requires c κs = search needs
+
+add-u32-at : tie.Need-add-u32-at
+add-u32-at c = search needs
+
+u32-at-requires : tie.Need-u32-at-requires
+u32-at-requires c κs = search needs
+
+cast-offset : tie.Need-cast-offset
+cast-offset c = search needs
+
+add-key : tie.Need-add-key
+add-key c =
+    let a = c .before .before .before .args in
+    let f = c .before .before .before .pre .4 in
+    let h = here-address (a .s .now) (a .index) (a .function) (a .at) in
+    omega (arith, f, h, c .before .u64-at .ensures, c .u32-at .ensures)
+
+lower-bound-requires : tie.Need-lower-bound-requires
+lower-bound-requires c κs = search needs
+
+mul-if2 : tie.Need-mul-if2
+mul-if2 c = search needs
+
+element-copy-out-if2 : tie.Need-element-copy-out-if2
+element-copy-out-if2 c = search needs
+
+hits-at-requires : tie.Need-hits-at-requires
+hits-at-requires c κs = search needs
+
+note-requires : tie.Need-note-requires
+note-requires c κs =
+    let s = c .before .before .before .before .before .before .before .before .before .before in
+    (s .pre .0, s .pre .1, s .pre .2, rw (c .hits-at .ensures) (s .pre .7 .most _), s .pre .3)
+
+store-requires : tie.Need-store-requires
+store-requires c κs = search needs
+
+returns : tie.Need-returns
+returns c =
+    let a = c .before .before .before .before .before .before .before .before .before .before .before .before .before .args in
+    let e = entryAt (a .s .now) (a .index) (a .function) (a .at) in
+    let x : address e ≡ c .before .before .before .before .before .before .before .before .before .before .before .u64-at .result + c .before .before .before .before .before .before .before .before .before .before .u32-at .result =
+    here-address (a .s .now) (a .index) (a .function) (a .at) ∙ rw (c .before .before .before .before .before .before .before .before .before .before .before .u64-at .ensures, c .before .before .before .before .before .before .before .before .before .before .u32-at .ensures) in
+    let l : LowerBound (a .keys .now) (a .count) (address e) (c .before .before .before .before .before .before .before .before .lower-bound .result) = rw x (c .before .before .before .before .before .before .before .before .lower-bound .ensures) in
+    (marked (a .keys .now) (a .count) e _ l _ _ (c .before .before .before .before .before .before .before .if1 .taken) (c .before .before .before .before .before .if2 .taken ∙ sym x)
+    (rw (x, ← c .before .before .before .hits-at .ensures, ← c .before .before .note .ensures .0) (c .store .ensures)),
+    counted-stored _ _ _ _ _ (c .store .ensures) (c .before .before .note .ensures .1) (c .before .before .before .before .before .before .before .before .before .before .before .before .before .pre .7))
+
+returns-2 : tie.Need-returns-2
+returns-2 c =
+    let a = c .before .before .before .before .before .before .before .before .args in
+    let e = entryAt (a .s .now) (a .index) (a .function) (a .at) in
+    let x : address e ≡ c .before .before .before .before .before .before .u64-at .result + c .before .before .before .before .before .u32-at .result =
+    here-address (a .s .now) (a .index) (a .function) (a .at) ∙ rw (c .before .before .before .before .before .before .u64-at .ensures, c .before .before .before .before .before .u32-at .ensures) in
+    let l : LowerBound (a .keys .now) (a .count) (address e) (c .before .before .before .lower-bound .result) = rw x (c .before .before .before .lower-bound .ensures) in
+    (unmarked (a .keys .now) (a .count) e _ l _ (λ m q. c .if2 .left (q ∙ x)), counted-more _ _ _ (omega arith) (c .before .before .before .before .before .before .before .before .pre .7))
+
+returns-3 : tie.Need-returns-3
+returns-3 c =
+    let a = c .before .before .before .before .before .before .args in
+    let e = entryAt (a .s .now) (a .index) (a .function) (a .at) in
+    let x : address e ≡ c .before .before .before .before .u64-at .result + c .before .before .before .u32-at .result =
+    here-address (a .s .now) (a .index) (a .function) (a .at) ∙ rw (c .before .before .before .before .u64-at .ensures, c .before .before .before .u32-at .ensures) in
+    let l : LowerBound (a .keys .now) (a .count) (address e) (c .before .lower-bound .result) = rw x (c .before .lower-bound .ensures) in
+    (unmarked (a .keys .now) (a .count) e _ l _ (λ m q. omega (arith, c .if1 .left)), counted-more _ _ _ (omega arith) (c .before .before .before .before .before .before .pre .7))
+
+pub mark-spec : {M : Type 1} → statement M
+mark-spec =
+    tie.close
+    (tie.spec
+    mul-u64-at
+    add-u64-at
+    u64-at-requires
+    add-u32-at
+    u32-at-requires
+    cast-offset
+    add-key
+    lower-bound-requires
+    mul-if2
+    element-copy-out-if2
+    hits-at-requires
+    note-requires
+    store-requires
+    returns
+    returns-2
+    returns-3)

@@ -1,0 +1,21 @@
+// The addresses of a list's frames, in order, with equal ones side by side.
+ghost use Prim.Native.Nat.{_*_, _≤_};
+ghost use lib.ListN.{length};
+ghost use Rattle.thread.specs.Thread.{framesMost, frameNumbers};
+ghost use Rattle.thread.specs.Code.{Gathered};
+use crate::FRAMES_MOST;
+use crate::FRAME_NUMBERS;
+
+// Puts the addresses of the first `count` frames in order.
+pub fn gather(frames: &[u64], count: usize, keys: &mut [u64; FRAMES_MOST])
+    requires { ⌜ (frameNumbers * count ≤ length (now frames)) × (count ≤ framesMost) ⌝ }
+    ensures { λ r. ⌜ Gathered (now (frames .entry)) (now (keys .exit)) count ⌝ }
+{
+    let mut k: usize = 0;
+    while k < count {
+        let address = frames[FRAME_NUMBERS * k];
+        let at = sorted::lower_bound(keys, k, address);
+        sorted::insert(keys, k, at, address);
+        k += 1;
+    }
+}

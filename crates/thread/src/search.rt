@@ -1,0 +1,172 @@
+// The records of all addresses that are looked for, found in one walk over the section. The addresses are in order; of equal ones the
+// first stands for all.
+ghost use mathlib.Core.Path.{_≡_};
+ghost use Prim.Native.Nat.{ℕ, _+_, _*_, _^_, _≤_, _<_};
+ghost use mathlib.Core.List.{List};
+ghost use lib.ListN.{length};
+ghost use Rattle.stackmap.specs.declared.Verdict.the-variants.{Valid};
+ghost use Rattle.stackmap.specs.Section.{numFunctions, constantsAt, recordsAt, address, entries};
+ghost use Rattle.stackmap.specs.Check.{walkCheck, sectionCheck};
+ghost use Rattle.stackmap.specs.Walk.{entryAt, Walkable};
+ghost use Rattle.questions.specs.declared.Hits as hitsType;
+ghost use Rattle.questions.specs.Kept.{noHits};
+ghost use Rattle.questions.specs.Questions.{withAddress, firstOf};
+ghost use Rattle.sorted.specs.Sorted.{Sorted, EntryOf};
+ghost use Rattle.thread.specs.Thread.{framesMost};
+ghost use Rattle.thread.specs.Code.{hitsAt, Stored, Holding, Counted, notedAll, foundBy, Sought};
+use crate::FRAMES_MOST;
+use questions::Found;
+use questions::Hits;
+use questions::find;
+use stackmap::Verdict;
+use stackmap::layout;
+use stackmap::tables;
+use stackmap::walk;
+use stackmap::walk::Turn;
+
+// The numbers of an address: index, function, sharing and first.
+const HIT_NUMBERS: usize = 4;
+
+pub const HITS_LENGTH: usize = HIT_NUMBERS * FRAMES_MOST;
+
+// What has been found of the address at the place i.
+fn hits_at(hits: &[usize; HITS_LENGTH], i: usize) -> Hits
+    requires { ⌜ i < framesMost ⌝ }
+    ensures { λ r. ⌜ r ≡ hitsAt (now (hits .entry)) i ⌝ }
+{
+    let p = HIT_NUMBERS * i;
+    Hits {
+        index: hits[p],
+        function: hits[p + 1],
+        sharing: hits[p + 2],
+        first: hits[p + 3],
+    }
+}
+
+fn store(hits: &mut [usize], i: usize, h: Hits)
+    requires { ⌜ 4 * i + 3 < length (now hits) ⌝ }
+    ensures { λ r. ⌜ Stored (now (hits .entry)) (now (hits .exit)) i h ⌝ }
+{
+    let p = HIT_NUMBERS * i;
+    hits[p] = h.index;
+    hits[p + 1] = h.function;
+    hits[p + 2] = h.sharing;
+    hits[p + 3] = h.first;
+}
+
+// Notes the record `index` at `at`, of function number `function`, if its address is one of those looked for.
+fn mark(
+    s: &[u8],
+    index: usize,
+    function: usize,
+    at: usize,
+    keys: &[u64; FRAMES_MOST],
+    count: usize,
+    hits: &mut [usize; HITS_LENGTH],
+)
+    requires { ⌜ (constantsAt (now s) ≤ length (now s)) × (function < numFunctions (now s)) × (at + 16 ≤ length (now s)) × (index < 2 ^ 32)
+        × (address (entryAt (now s) index function at) < 2 ^ 64) × (count ≤ framesMost) × Sorted (now keys) count × Counted (now hits) index ⌝ }
+    ensures { λ r. ⌜ ((h : ℕ → hitsType.Hits) → Holding (now (keys .entry)) count (now (hits .entry)) h
+        → Holding (now (keys .entry)) count (now (hits .exit)) (notedAll (entryAt (now (s .entry)) index function at) h))
+        × Counted (now (hits .exit)) (index + 1) ⌝ }
+{
+    let start = wire::u64_at(s, layout::HEADER_SIZE + layout::FUNCTION_SIZE * function);
+    let offset = wire::u32_at(s, at + layout::INSTRUCTION_OFFSET_AT) as u64;
+    let key = start + offset;
+    let i = sorted::lower_bound(keys, count, key);
+    if i < count {
+        if keys[i] == key {
+            let before = hits_at(hits, i);
+            let after = find::note(s, key, index, function, at, before);
+            store(hits, i, after);
+        }
+    }
+}
+
+// The walk from the first record's byte: all records, with what the search keeps; then 9.
+fn walk_all(
+    s: &[u8],
+    at: usize,
+    keys: &[u64; FRAMES_MOST],
+    count: usize,
+    hits: &mut [usize; HITS_LENGTH],
+) -> Verdict
+    requires { ⌜ Walkable (now s) × (at ≡ recordsAt (now s)) × (at ≤ length (now s)) × (count ≤ framesMost) × Sorted (now keys) count
+        × Holding (now keys) count (now hits) (λ a. noHits) × Counted (now hits) 0 ⌝ }
+    ensures { λ r. ⌜ (r ≡ walkCheck (now (s .entry))) × ((e : ℕ) → r ≡ Valid e → Sought (now (s .entry)) (now (keys .entry)) count (now (hits .exit))) ⌝ }
+{
+    let constants = wire::u32_at(s, layout::NUM_CONSTANTS_AT);
+    let mut remaining = wire::u32_at(s, layout::NUM_RECORDS_AT);
+    let mut index: usize = 0;
+    let mut turn = Turn { next: 0, left: 0 };
+    let mut p = at;
+    while remaining > 0 {
+        let t = walk::owner(s, turn);
+        let next = t.next;
+        match walk::record_at(s, constants, next - 1, p) {
+            Verdict::Refused(n, q) => return Verdict::Refused(n, q),
+            Verdict::Valid(end) => {
+                mark(s, index, next - 1, p, keys, count, hits);
+                p = end;
+            }
+        }
+        turn = Turn {
+            next,
+            left: t.left - 1,
+        };
+        index += 1;
+        remaining -= 1;
+    }
+    if p != s.len() {
+        return Verdict::Refused(9, p);
+    }
+    Verdict::Valid(p)
+}
+
+// The check of the section, and what it has of the addresses.
+pub fn find_all(
+    s: &[u8],
+    keys: &[u64; FRAMES_MOST],
+    count: usize,
+    hits: &mut [usize; HITS_LENGTH],
+) -> Verdict
+    requires { ⌜ (count ≤ framesMost) × Sorted (now keys) count × Holding (now keys) count (now hits) (λ a. noHits) × Counted (now hits) 0 ⌝ }
+    ensures { λ r. ⌜ (r ≡ sectionCheck (now (s .entry))) × ((e : ℕ) → r ≡ Valid e → Sought (now (s .entry)) (now (keys .entry)) count (now (hits .exit))) ⌝ }
+{
+    match tables::begin(s) {
+        Verdict::Refused(n, p) => Verdict::Refused(n, p),
+        Verdict::Valid(at) => walk_all(s, at, keys, count, hits),
+    }
+}
+
+// The answer to the question by address, for one that was looked for.
+pub fn found(
+    keys: &[u64; FRAMES_MOST],
+    count: usize,
+    hits: &[usize; HITS_LENGTH],
+    address: u64,
+) -> Found
+    requires { ⌜ (count ≤ framesMost) × Sorted (now keys) count × EntryOf (now keys) count address ⌝ }
+    ensures { λ r. ⌜ ((s : List ℕ) → Sought s (now (keys .entry)) count (now (hits .entry)) → r ≡ firstOf (withAddress address (entries s))) ⌝ }
+{
+    let i = sorted::lower_bound(keys, count, address);
+    let h = hits_at(hits, i);
+    if h.sharing == 0 {
+        return Found {
+            number: 10,
+            place: 0,
+            index: 0,
+            function: 0,
+            sharing: 0,
+            first: 0,
+        };
+    }
+    Found {
+        number: 0,
+        place: 0,
+        index: h.index,
+        function: h.function,
+        sharing: h.sharing,
+        first: h.first,
+    }
+}
