@@ -5,7 +5,7 @@ use mathlib.Core.Bool.{Bool, false, cond}
 use mathlib.Core.Option.{Option, none, some}
 use mathlib.Core.List.{List, [], _∷_}
 use lib.Dec.{eqb}
-use lib.ListN.{length, getD}
+use lib.ListN.{getD}
 use Rattle.moves.specs.declared.table.Found.{Found}
 use Rattle.moves.specs.declared.table.Found.the-variants.{At, Nothing}
 use Rattle.moves.specs.Limits.{pointerSize}
@@ -16,12 +16,6 @@ use Rattle.moves.specs.Settle.{put}
 abbrev pub asOption : Found → Option ℕ
 asOption (At n) = some n
 asOption Nothing = none
-
--- r of the numbers lie below x, and the others do not
-pub record Below (olds : List ℕ) (x r : ℕ) : Type 0 where
-  pub most : r ≤ length olds
-  pub below : (k : ℕ) → k < r → getD olds k 0 < x
-  pub above : (k : ℕ) → r ≤ k → k < length olds → x ≤ getD olds k 0
 
 -- the pointers that the arrays hold
 unfoldable pub pointerAt : List ℕ → List ℕ → List ℕ → ℕ → Pointer

@@ -2,7 +2,7 @@
 ghost use mathlib.Core.Path.{_≡_};
 ghost use mathlib.Core.Bool.{true};
 ghost use Rattle.moves.specs.Table.{rising, noZero, tableRight, lookUp};
-ghost use Rattle.moves.specs.Arrays.{asOption, Below};
+ghost use Rattle.moves.specs.Arrays.{asOption};
 use crate::TABLE_MOST;
 
 // Whether the numbers rise strictly from above 0.
@@ -50,31 +50,13 @@ pub fn table_right(olds: &[u64], news: &[u64]) -> bool
     false
 }
 
-// How many of the rising numbers lie below x, by halving.
-fn below(olds: &[u64], news: &[u64], x: u64) -> usize
-    requires { ⌜ tableRight (now olds) (now news) ≡ true ⌝ }
-    ensures { λ r. ⌜ Below (now (olds .entry)) x r ⌝ }
-{
-    let mut low: usize = 0;
-    let mut high = olds.len();
-    while low < high {
-        let middle = low + (high - low) / 2;
-        if olds[middle] < x {
-            low = middle + 1;
-        } else {
-            high = middle;
-        }
-    }
-    low
-}
-
 // Where an object is now.
 pub enum Found {
     At(u64),
     Nothing,
 }
 
-// Where the object of an old base is now; 0 stays 0.
+// Where the object of an old base is now, by halving; 0 stays 0.
 pub fn look_up(olds: &[u64], news: &[u64], base: u64) -> Found
     requires { ⌜ tableRight (now olds) (now news) ≡ true ⌝ }
     ensures { λ r. ⌜ asOption r ≡ lookUp (now (olds .entry)) (now (news .entry)) base ⌝ }
@@ -82,7 +64,7 @@ pub fn look_up(olds: &[u64], news: &[u64], base: u64) -> Found
     if base == 0 {
         return Found::At(0);
     }
-    let i = below(olds, news, base);
+    let i = sorted::lower_bound(olds, olds.len(), base);
     if i == olds.len() {
         return Found::Nothing;
     }

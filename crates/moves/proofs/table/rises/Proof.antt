@@ -4,7 +4,7 @@ use native.Mathlib.Omega.{arith}
 use lib.ListN.{length, drop}
 use borrow.Author.Needs.{needs}
 use Rattle.moves.specs.Table.{rising}
-use Rattle.moves.proofs.Halving.{rising-end, rising-stop, rising-on}
+use Rattle.moves.proofs.Tables.{rising-end, rising-stop, rising-on}
 use Rattle.moves.proofs.table.rises.Statement.{statement}
 use Rattle.moves.proofs.table.rises.Tie as tie
 

@@ -1,7 +1,7 @@
 use mathlib.Core.Path.{sym, _∙_}
 use borrow.Author.Tests.{eq-eqb, ne-eqb, lt-leb}
 use Rattle.moves.specs.Table.{tableRight}
-use Rattle.moves.proofs.Halving.{right-stop, right-rest}
+use Rattle.moves.proofs.Tables.{right-stop, right-rest}
 use borrow.Author.Needs.{needs}
 use Rattle.moves.proofs.table.table_right.Statement.{statement}
 use Rattle.moves.proofs.table.table_right.Tie as tie

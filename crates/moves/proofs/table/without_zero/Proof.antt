@@ -4,7 +4,7 @@ use native.Mathlib.Omega.{arith}
 use lib.ListN.{length, drop}
 use borrow.Author.Needs.{needs}
 use Rattle.moves.specs.Table.{noZero}
-use Rattle.moves.proofs.Halving.{zero-end, zero-stop, zero-on}
+use Rattle.moves.proofs.Tables.{zero-end, zero-stop, zero-on}
 use Rattle.moves.proofs.table.without_zero.Statement.{statement}
 use Rattle.moves.proofs.table.without_zero.Tie as tie
 

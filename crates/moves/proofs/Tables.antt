@@ -1,4 +1,4 @@
--- The move table: what the test of refusal 14 tells, and that a search by halving finds what the table's definition finds.
+-- The move table: what the test of refusal 14 tells, and that a lower bound finds what the table's definition finds.
 use Prim.Native.Nat.{ℕ, zero, suc, _+_, _-_, _≤_, _<_}
 use mathlib.Core.Path.{_≡_, refl, sym, ap, _∙_}
 use mathlib.Core.Bool.{Bool, true, false, _&&_, true≢false}
@@ -14,7 +14,8 @@ use lib.ListN.{length, getD, drop, drop-of-length-le}
 use lib.Seq.{getD-drop, drop-cons}
 use Rattle.moves.specs.Limits.{tableMost}
 use Rattle.moves.specs.Table.{rising, noZero, tableRight, found, lookUp}
-use Rattle.moves.specs.Arrays.{Below}
+use Rattle.sorted.specs.Sorted.{Sorted, LowerBound}
+use Rattle.sorted.proofs.Laws.{rising-sorted}
 
 and-true : (a b : Bool) → (a && b) ≡ true → (a ≡ true) × (b ≡ true)
 and-true true b h = (refl, h)
@@ -85,38 +86,8 @@ old-starts-rise olds news h =
     let c = noZero news in
     rises 0 olds (and-true b c (and-true a (b && c) (and-true (eqb (length olds) (length news)) (a && (b && c)) h .1) .1) .0)
 
--- Halving: those before `low` lie below x, and those from `high` on do not.
-
-pub record Halved (olds : List ℕ) (x low high : ℕ) : Type 0 where
-  pub order : low ≤ high
-  pub most : high ≤ length olds
-  pub below : (k : ℕ) → k < low → getD olds k 0 < x
-  pub above : (k : ℕ) → high ≤ k → k < length olds → x ≤ getD olds k 0
-
-module _ (olds news : List ℕ) (t : tableRight olds news ≡ true) (x : ℕ) where
-  pub halved-start : Halved olds x 0 (length olds)
-  halved-start =
-      record { order = omega arith; most = omega arith; below = λ k l. absurd (not-suc-le-zero l); above = λ k l m. absurd (omega arith) }
-
-  pub halved-up : (low high m : ℕ) → Halved olds x low high → m < high → getD olds m 0 < x → Halved olds x (m + 1) high
-  halved-up low high m h l e =
-      record { order = omega arith; most = h .most; below = λ k q. go k q (decLt k m); above = h .above }
-    where
-      go : (k : ℕ) → k < m + 1 → Dec (k < m) → getD olds k 0 < x
-      go k q (yes a) = omega (arith, old-starts-rise olds news t k m a (omega (arith, h .most)))
-      go k q (no a) = let z : k ≡ m = omega arith in rw z e
-
-  pub halved-down : (low high m : ℕ) → Halved olds x low high → low ≤ m → m < high → x ≤ getD olds m 0 → Halved olds x low m
-  halved-down low high m h l u e =
-      record { order = l; most = omega (arith, h .most); below = h .below; above = λ k q r. go k q r (decLt m k) }
-    where
-      go : (k : ℕ) → m ≤ k → k < length olds → Dec (m < k) → x ≤ getD olds k 0
-      go k q r (yes a) = omega (arith, old-starts-rise olds news t m k a r)
-      go k q r (no a) = let z : k ≡ m = omega arith in rw z e
-
-  pub halved-end : (low high : ℕ) → Halved olds x low high → high ≤ low → Below olds x low
-  halved-end low high h l =
-      record { most = omega (arith, h .order, h .most); below = h .below; above = λ k q r. h .above k (omega arith) r }
+pub old-starts-sorted : (olds news : List ℕ) → tableRight olds news ≡ true → Sorted olds (length olds)
+old-starts-sorted olds news h = rising-sorted olds (length olds) (old-starts-rise olds news h)
 
 -- What the table's definition finds.
 
@@ -136,7 +107,7 @@ pub look-zero : (olds news : List ℕ) (b : ℕ) → b ≡ 0 → some 0 ≡ look
 unfolding lookUp
 look-zero olds news b e = rw (eq-eqb b 0 e)
 
-module _ (olds news : List ℕ) (t : tableRight olds news ≡ true) (b i : ℕ) (n : b ≡ 0 → ⊥) (h : Below olds b i) where
+module _ (olds news : List ℕ) (t : tableRight olds news ≡ true) (b i : ℕ) (n : b ≡ 0 → ⊥) (h : LowerBound olds (length olds) b i) where
   pub look-past : i ≡ length olds → none ≡ lookUp olds news b
   unfolding lookUp
   look-past e = rw (ne-eqb b 0 n) (sym (found-none olds news b (λ k l q. omega (arith, h .below k (omega arith)))))
