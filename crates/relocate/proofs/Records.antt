@@ -10,9 +10,8 @@ use lib.Dec.{eqb}
 use lib.ListN.{length, drop, getElem?}
 use Rattle.wire.specs.Word.{word}
 use Rattle.wire.proofs.Laws.{word-drop}
-use Rattle.stackmap.specs.Section.{Location, locationFields, liveOutFields, numLocations, locationsEnd, numLiveOuts, liveOutsAt, recordLength, readLocation, readLiveOut, readRecord}
+use Rattle.stackmap.specs.Section.{Location, numLocations, locationsEnd, numLiveOuts, liveOutsAt, recordLength, readLocation, readLiveOut, readRecord}
 use Rattle.stackmap.proofs.Fields.{length-many}
-use Rattle.stackmap.proofs.Items.{location-size, live-out-size}
 use Rattle.questions.specs.declared.LocationAnswer.{LocationAnswer}
 use Rattle.questions.specs.Questions.{thisLocation}
 use Rattle.questions.proofs.Content.{getD-some, location-at}
@@ -42,11 +41,11 @@ module _ (s : List ℕ) (at : ℕ) where
 
   pub count-locations : length (recordOf s at .locations) ≡ numLocations (drop at s)
   unfolding readRecord
-  count-locations = length-many locationFields readLocation 12 location-size (drop at s) (numLocations (drop at s)) 16
+  count-locations = length-many readLocation 12 (numLocations (drop at s)) (drop at s) 16
 
   count-live-outs : length (recordOf s at .liveOuts) ≡ numLiveOuts (drop at s)
   unfolding readRecord
-  count-live-outs = length-many liveOutFields readLiveOut 4 live-out-size (drop at s) (numLiveOuts (drop at s)) (liveOutsAt (drop at s))
+  count-live-outs = length-many readLiveOut 4 (numLiveOuts (drop at s)) (drop at s) (liveOutsAt (drop at s))
 
   -- n locations stand before the live-outs
   module _ (n : ℕ) (e : n ≡ numLocations (drop at s)) where

@@ -1,8 +1,9 @@
 -- One turn of each definition that counts down, at a count that is above 0.
-use Prim.Native.Nat.{ℕ, zero, suc, _+_, _-_, _<_}
+use Prim.Native.Nat.{ℕ, zero, suc, _+_, _*_, _-_, _<_}
 use mathlib.Core.Path.{_≡_}
 use mathlib.Core.List.{List, _∷_, _++_}
 use native.Mathlib.Omega.{arith}
+use native.Mathlib.Nat.{mul-suc}
 use native.Mathlib.Numerals.{add-one}
 use lib.ListN.{length, getD, replicate}
 use lib.Dec.{eqb}
@@ -13,6 +14,10 @@ use Rattle.stackmap.specs.Record.{zeros, locationCheck, locations, liveO
 
 back : (n : ℕ) → suc n - 1 ≡ n
 back n = omega arith
+
+pub mul-step : (k n : ℕ) → 0 < n → k * n ≡ k + k * (n - 1)
+mul-step k zero h = absurd (omega arith)
+mul-step k (suc n) h = rw (back, mul-suc) (omega arith)
 
 pub zeros-step : (n : ℕ) (s : List ℕ) (at : ℕ) → 0 < n → zeros n s at ≡ must (eqb (getD s at 0) 0) 3 at (zeros (n - 1) s (at + 1))
 unfolding zeros
