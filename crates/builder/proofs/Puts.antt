@@ -1,9 +1,9 @@
 -- Fields put one after the other into an output.
 use Prim.Native.Nat.{ℕ, zero, suc, _+_, _*_, _%_, _-_, _≤_, _<_, _^_}
-use mathlib.Core.Path.{_≡_, refl, sym, _∙_, ap}
+use mathlib.Core.Path.{_≡_, refl, sym, _∙_}
 use mathlib.Core.List.{List, [], _∷_, _++_, append-assoc}
 use native.Mathlib.Omega.{arith}
-use native.Mathlib.Nat.{add-zero, add-assoc, mul-suc}
+use native.Mathlib.Nat.{add-zero, add-assoc}
 use native.Mathlib.Numerals.{add-one}
 use lib.ListN.{length, getD, set}
 use lib.Seq.{sets, length-sets}
@@ -11,18 +11,13 @@ use Rattle.wire.specs.Word.{Bytes, word, bytes}
 use Rattle.wire.proofs.Laws.{word-add, word-bound, bytes-split, length-bytes, sets-append}
 use Rattle.stackmap.specs.Fields.{Field, _of_, bytesOf, size, all, many}
 use Rattle.stackmap.specs.Section.{functionFields, constantFields, locationFields, liveOutFields}
-use Rattle.stackmap.proofs.Fields.{length-bytesOf}
+use Rattle.stackmap.proofs.Fields.{length-bytesOf, bytesOf-append}
 use Rattle.stackmap.proofs.Items.{byte-word}
-use Rattle.stackmap.proofs.Steps.{many-step}
+use Rattle.stackmap.proofs.Steps.{mul-step, many-step}
 use Rattle.builder.specs.Put.{headFields}
 use Rattle.listing.specs.Listing.{listedFunction, listedConstant, listedLocation, listedLiveOut}
 
 -- Fields.
-
-pub bytesOf-append : (fs gs : List Field) → bytesOf (fs ++ gs) ≡ bytesOf fs ++ bytesOf gs
-unfolding bytesOf
-bytesOf-append [] gs = refl
-bytesOf-append (f ∷ fs) gs = rw (bytesOf-append fs gs, append-assoc)
 
 -- some fields and then others
 pub then-put : (fs gs : List Field) (out : List ℕ) (t p : ℕ) → p ≡ t + size fs → sets (sets out t (bytesOf fs)) p (bytesOf gs) ≡ sets out t (bytesOf (fs ++ gs))
@@ -118,16 +113,13 @@ module _ {A : Type 0} {fields : A → List Field} {read : List ℕ → ℕ → A
   pub put-on : {out : List ℕ} {p q left : ℕ} (out′ : List ℕ) → ((x : A) → size (fields x) ≡ k) → Putting fields read k step l at n out₀ to out p q left → 0 < left
       → out′ ≡ sets out q (bytesOf (fields (read l p))) → Putting fields read k step l at n out₀ to out′ (p + step) (q + k) (left - 1)
   put-on {out} {p} {q} {left} out′ even w h e =
-      let b : left ≡ suc (left - 1) = omega arith in
-      let s : step * left ≡ step * (left - 1) + step = ap (λ (m : ℕ). step * m) b ∙ mul-suc step (left - 1) in
-      let t : k * left ≡ k * (left - 1) + k = ap (λ (m : ℕ). k * m) b ∙ mul-suc k (left - 1) in
       let i = w .inside in
       let r = w .room in
       let g = w .long in
       let z : length out′ ≡ length out = rw (e, length-sets) in
       record {
-        inside = omega arith;
-        room = omega arith;
+        inside = omega (arith, mul-step step left h);
+        room = omega (arith, mul-step k left h);
         long = omega arith;
         same = w .same ∙ rw (many-step read step left l p h, e)
             (unfold all in sym (then-put (fields (read l p)) (all fields (many read step (left - 1) l (p + step))) out q (q + k) (rw (even (read l p)))));

@@ -1,6 +1,6 @@
 -- A record, put part by part.
 use Prim.Native.Nat.{ℕ, _+_, _*_, _%_}
-use mathlib.Core.Path.{_≡_, refl, _∙_}
+use mathlib.Core.Path.{_≡_, refl}
 use mathlib.Core.List.{List, [], _∷_, _++_, append-nil}
 use native.Mathlib.Omega.{arith}
 use lib.Seq.{sets}
@@ -8,12 +8,11 @@ use Rattle.wire.specs.Word.{bytes}
 use Rattle.wire.proofs.Laws.{length-bytes, sets-append}
 use Rattle.stackmap.specs.Fields.{Field, _of_, bytesOf, size, all, many}
 use Rattle.stackmap.specs.Section.{locationFields, liveOutFields, recordFields}
-use Rattle.stackmap.proofs.Fields.{size-append, size-all}
+use Rattle.stackmap.proofs.Fields.{size-append, length-many, size-many}
 use Rattle.stackmap.proofs.Items.{location-size, live-out-size}
 use Rattle.listing.specs.Listing.{listedLocation, listedLiveOut, listedRecord}
 use Rattle.parser.specs.Count.{Shaped}
 use Rattle.builder.specs.Put.{headFields}
-use Rattle.parser.proofs.Records.{length-many}
 use Rattle.builder.proofs.Puts.{then-put}
 
 -- one number is a field, and two are two
@@ -46,10 +45,7 @@ module _ {l : List ℕ} {at n m stop : ℕ} (h : Shaped l at n m stop) where
   fields-are = rw (length-many listedLocation, length-many listedLiveOut, ← h .live-outs-are, ← h .locations-are)
 
   sizes : (size B ≡ 12 * n) × (size D ≡ 4 * m)
-  sizes = (
-    size-all locationFields 12 location-size (many listedLocation 10 n l (at + 13)) ∙ rw length-many,
-    size-all liveOutFields 4 live-out-size (many listedLiveOut 4 m l (at + 13 + 10 * n)) ∙ rw length-many,
-  )
+  sizes = (size-many locationFields listedLocation 10 12 location-size n l (at + 13), size-many liveOutFields listedLiveOut 4 4 live-out-size m l (at + 13 + 10 * n))
 
   module _ (out : List ℕ) (to : ℕ) where
     -- where the locations end, and where their padding does

@@ -10,18 +10,18 @@ use lib.Seq.{sets, length-sets}
 use Rattle.wire.specs.Word.{bytes}
 use Rattle.stackmap.specs.Fields.{Field, _of_, bytesOf, size, all, many}
 use Rattle.stackmap.specs.Section.{functionFields, constantFields, recordFields, sectionFields, encodeSection}
-use Rattle.stackmap.proofs.Fields.{size-append, size-all}
+use Rattle.stackmap.proofs.Fields.{size-append, length-many, size-many}
 use Rattle.stackmap.proofs.Items.{function-size, constant-size}
 use Rattle.stackmap.proofs.Verdicts.{must-held, must-rest}
 use Rattle.listing.specs.Layout.{recordKind, recordItemSize, itemsMost}
-use Rattle.listing.specs.Listing.{stands, listedConstant, listedRecord, readListing}
+use Rattle.listing.specs.Listing.{stands, listedFunction, listedConstant, listedRecord, readListing}
 use Rattle.listing.proofs.Fits.{and-true}
 use Rattle.parser.specs.Count.{Tabled, Shaped}
 use Rattle.parser.specs.Survey.{recordSize, recordsFrom, recordsAfter}
 use Rattle.parser.specs.Walk.{functionsOf}
 use Rattle.parser.specs.Outcome.{Ready}
 use Rattle.builder.specs.Put.{headerFields}
-use Rattle.parser.proofs.Records.{length-many, shape-size, records-here, check-here, sized-here}
+use Rattle.parser.proofs.Records.{shape-size, records-here, check-here, sized-here}
 use Rattle.parser.proofs.Walking.{some-record}
 use Rattle.builder.proofs.Puts.{then-put, puts-all}
 use Rattle.parser.proofs.Plans.{reads}
@@ -121,10 +121,7 @@ module _ {l : List ℕ} {f c n : ℕ} (t : Tabled l f c) (counted : length (reco
   fields-are = rw (reads t, counted) (simp length-many)
 
   sizes : (size F ≡ 24 * f) × (size K ≡ 8 * c)
-  sizes = (
-    size-all functionFields 24 function-size (functionsOf l f) ∙ rw length-many,
-    size-all constantFields 8 constant-size (many listedConstant 9 c l (25 * f)) ∙ rw length-many,
-  )
+  sizes = (size-many functionFields listedFunction 25 24 function-size f l 0, size-many constantFields listedConstant 9 8 constant-size c l (25 * f))
 
   pub section-put : (out : List ℕ)
       → sets (sets (sets (sets out 0 (bytesOf H)) 16 (bytesOf F)) (16 + 24 * f) (bytesOf K)) (16 + 24 * f + 8 * c) (bytesOf R)

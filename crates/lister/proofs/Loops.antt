@@ -1,20 +1,13 @@
 -- A loop that writes items of one kind, each of the same size in the section and in the listing.
-use Prim.Native.Nat.{ℕ, zero, suc, _+_, _*_, _-_, _≤_, _<_}
+use Prim.Native.Nat.{ℕ, _+_, _*_, _-_, _≤_, _<_}
 use mathlib.Core.Path.{_≡_}
 use mathlib.Core.List.{List}
 use native.Mathlib.Omega.{arith}
-use native.Mathlib.Nat.{mul-suc}
 use lib.ListN.{length}
 use Rattle.stackmap.specs.Fields.{Field, size, all, many}
-use Rattle.stackmap.proofs.Fields.{size-append}
+use Rattle.stackmap.proofs.Steps.{mul-step}
 use Rattle.lister.specs.Put.{Put}
 use Rattle.lister.proofs.Puts.{Putting, putting-start, putting-on, putting-end, put-long, first-item, no-item}
-
-one-less : (k n : ℕ) → 0 < n → k * n ≡ k + k * (n - 1)
-one-less k zero h = absurd (omega arith)
-one-less k (suc n) h =
-    let b : suc n - 1 ≡ n = omega arith in
-    rw (b, mul-suc) (omega arith)
 
 module _ {A : Type 0} (item : A → List Field) (read : List ℕ → ℕ → A) (step long : ℕ) where
   -- `left` items from p are still to be written, to the place t
@@ -37,16 +30,10 @@ module _ {A : Type 0} (item : A → List Field) (read : List ℕ → ℕ → A) 
         let l = put-long q in
         let z = even (read s p) in
         record {
-          inside = omega (arith, one-less step left h);
-          room = omega (arith, one-less long left h);
+          inside = omega (arith, mul-step step left h);
+          room = omega (arith, mul-step long left h);
           putting = putting-on (item (read s p)) _ (w .putting) (first-item item read step s left p h) q;
         }
 
     pub run-end : {out₀ out : List ℕ} {to p left t : ℕ} {whole : List Field} → Running s out₀ to whole out p left t → left ≡ 0 → Put out₀ out to t whole
     run-end {p = p} {left = left} w h = putting-end (w .putting) (no-item item read step s left p h)
-
-  -- how long n items are
-  pub run-size : ((x : A) → size (item x) ≡ long) → (n : ℕ) (s : List ℕ) (at : ℕ) → size (all item (many read step n s at)) ≡ long * n
-  unfolding all many size
-  run-size even zero s at = omega arith
-  run-size even (suc n) s at = rw (size-append, even (read s at), run-size even n s (at + step), mul-suc) (omega arith)

@@ -1,13 +1,12 @@
 -- The passes over the records: what is left of them, in the section and in the listing.
 use Prim.Native.Nat.{ℕ, zero, suc, _+_, _*_, _-_, _≤_, _<_}
 use mathlib.Core.Path.{_≡_, refl, _∙_}
-use mathlib.Core.List.{List, []}
+use mathlib.Core.List.{List}
 use native.Mathlib.Omega.{arith}
 use lib.ListN.{length, take, drop, length-drop}
 use Rattle.stackmap.specs.Fields.{Field, size, all, many}
-use Rattle.stackmap.specs.Section.{recordFields, locationFields, liveOutFields, readLocation, readLiveOut, numLocations, numLiveOuts, recordLength, readRecord, readRecords}
+use Rattle.stackmap.specs.Section.{recordFields, readLocation, readLiveOut, numLocations, numLiveOuts, recordLength, readRecord, readRecords}
 use Rattle.stackmap.proofs.Fields.{size-append, length-many}
-use Rattle.stackmap.proofs.Items.{location-size, live-out-size}
 use Rattle.stackmap.proofs.Forth.{read-size}
 use Rattle.stackmap.proofs.Within.{part-from}
 use Rattle.listing.specs.Listing.{recordItem, locationItem, liveOutItem, recordItems}
@@ -20,10 +19,7 @@ use Rattle.lister.proofs.Puts.{Putting, putting-start, putting-on, putt
 
 module _ (s : List ℕ) where
   pub listed-size : size (recordItems (readRecord s)) ≡ 13 + 10 * numLocations s + 4 * numLiveOuts s
-  listed-size = items-size [] (readRecord s) [] 0 ∙ counts
-    where
-      counts : 13 + 10 * length (readRecord s .locations) + 4 * length (readRecord s .liveOuts) ≡ 13 + 10 * numLocations s + 4 * numLiveOuts s
-      counts = unfold readRecord in rw (length-many locationFields readLocation 12 location-size, length-many liveOutFields readLiveOut 4 live-out-size)
+  listed-size = items-size (readRecord s) ∙ (unfold readRecord in rw (length-many readLocation, length-many readLiveOut))
 
   -- its items are shorter than it is
   pub items-shorter : size (recordItems (readRecord s)) ≤ recordLength s

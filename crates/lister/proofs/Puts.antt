@@ -1,21 +1,16 @@
 -- Fields put one after the other into an output, and a loop that does so.
 use Prim.Native.Nat.{ℕ, zero, suc, _+_, _-_, _<_}
 use mathlib.Core.Path.{_≡_, refl, sym, _∙_, ap}
-use mathlib.Core.List.{List, [], _∷_, _++_, append-assoc}
+use mathlib.Core.List.{List, [], _++_}
 use native.Mathlib.Omega.{arith}
 use lib.ListN.{length, drop}
 use lib.Seq.{sets, length-sets}
 use Rattle.wire.proofs.Laws.{sets-append}
 use Rattle.stackmap.specs.Fields.{Field, bytesOf, size, all, many}
 use Rattle.stackmap.specs.Section.{Record, recordLength, readRecord, readRecords}
-use Rattle.stackmap.proofs.Fields.{length-bytesOf, size-append}
+use Rattle.stackmap.proofs.Fields.{length-bytesOf, size-append, bytesOf-append}
 use Rattle.stackmap.proofs.Steps.{many-step}
 use Rattle.lister.specs.Put.{Put}
-
-bytesOf-append : (fs gs : List Field) → bytesOf (fs ++ gs) ≡ bytesOf fs ++ bytesOf gs
-unfolding bytesOf
-bytesOf-append [] gs = refl
-bytesOf-append (f ∷ fs) gs = rw (bytesOf-append fs gs, append-assoc)
 
 -- fields and then more fields
 pub put-join : {o₁ o₂ o₃ : List ℕ} {a b c : ℕ} (fs gs : List Field) → Put o₁ o₂ a b fs → Put o₂ o₃ b c gs → Put o₁ o₃ a c (fs ++ gs)

@@ -1,4 +1,4 @@
--- One item: its size, and the stores that write it.
+-- The stores that write one item.
 use Prim.Native.Nat.{ℕ, _+_, _%_, _<_}
 use mathlib.Core.Path.{_≡_, refl}
 use mathlib.Core.List.{List, [], _∷_}
@@ -9,34 +9,10 @@ use lib.Seq.{sets}
 use Rattle.wire.specs.Word.{word, bytes}
 use Rattle.wire.proofs.Laws.{sets-append, length-bytes}
 use Rattle.stackmap.specs.Fields.{bytesOf, size}
-use Rattle.stackmap.specs.Section.{Function, Location, LiveOut, Record, readFunction, readConstant, readLocation, readLiveOut, readRecord}
+use Rattle.stackmap.specs.Section.{readFunction, readConstant, readLocation, readLiveOut, readRecord}
 use Rattle.stackmap.proofs.Items.{byte-word}
 use Rattle.listing.specs.Listing.{functionItem, constantItem, recordItem, locationItem, liveOutItem}
 use Rattle.lister.specs.Put.{Put}
-
--- Sizes.
-
-pub function-item-size : (f : Function) → size (functionItem f) ≡ 25
-unfolding size functionItem
-function-item-size f = refl
-
-pub constant-item-size : (v : ℕ) → size (constantItem v) ≡ 9
-unfolding size constantItem
-constant-item-size v = refl
-
-pub record-item-size : (r : Record) → size (recordItem r) ≡ 13
-unfolding size recordItem
-record-item-size r = refl
-
-pub location-item-size : (l : Location) → size (locationItem l) ≡ 10
-unfolding size locationItem
-location-item-size l = refl
-
-pub live-out-item-size : (o : LiveOut) → size (liveOutItem o) ≡ 4
-unfolding size liveOutItem
-live-out-item-size o = refl
-
--- Stores.
 
 byte-is : (v : ℕ) → v < 256 → bytes 1 v ≡ v ∷ []
 unfolding bytes

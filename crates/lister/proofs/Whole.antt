@@ -1,56 +1,37 @@
 -- A whole section that is accepted: where its parts stand, how long its listing is, and what the conversion answers.
 use Prim.Native.Nat.{ℕ, _+_, _*_, _≤_, _<_}
 use mathlib.Core.Path.{_≡_, refl, sym, _∙_}
-use mathlib.Core.List.{List, _++_}
+use mathlib.Core.List.{List}
 use native.Mathlib.Omega.{arith}
 use native.Mathlib.Nat.{zero-add}
-use borrow.Author.Tests.{le-leb, lt-leb}
-use lib.ListN.{length, drop, set}
+use lib.ListN.{length, set}
 use Rattle.wire.specs.Word.{bytes}
 use Rattle.stackmap.specs.declared.Verdict.{Verdict}
 use Rattle.stackmap.specs.declared.Verdict.the-variants.{Valid, Refused}
 use Rattle.stackmap.specs.Fields.{bytesOf, size, all, many}
-use Rattle.stackmap.specs.Section.{functionFields, constantFields, sectionFields, numFunctions, numConstants, numRecords, constantsAt, recordsAt, readFunction, readConstant, readFunctions, readRecords, readSection}
+use Rattle.stackmap.specs.Section.{sectionFields, numFunctions, numConstants, numRecords, recordsAt, readFunction, readConstant, readFunctions, readRecords, readSection}
 use Rattle.stackmap.specs.Check.{sectionCheck, Accepted}
-use Rattle.stackmap.proofs.Fields.{length-bytesOf, size-append}
-use Rattle.stackmap.proofs.Items.{function-size, constant-size}
+use Rattle.stackmap.proofs.Fields.{length-bytesOf, length-many, size-many}
+use Rattle.stackmap.proofs.Back.{section-size}
+use Rattle.stackmap.proofs.Entries.{begins}
 use Rattle.stackmap.proofs.Forth.{section-long, accepted-length}
-use Rattle.listing.specs.Listing.{functionItem, constantItem, recordItems, endItem, listingFields, encodeListing, give, toListing}
-use Rattle.listing.proofs.Writes.{sets-whole}
+use Rattle.listing.specs.Listing.{functionItem, constantItem, recordItems, endItem, listingFields, encodeListing, toListing}
+use Rattle.listing.proofs.Listing.{function-item-size, constant-item-size}
+use Rattle.listing.proofs.Listing.{listing-length as encoded-listing}
+use Rattle.listing.proofs.Writes.{give-short, give-all}
 use Rattle.lister.specs.Put.{Put}
 use Rattle.lister.specs.Shape.{Tabled}
 use Rattle.lister.proofs.Puts.{put-join, put-long}
-use Rattle.lister.proofs.Stores.{function-item-size, constant-item-size}
-use Rattle.lister.proofs.Loops.{run-size}
 use Rattle.lister.proofs.Passes.{inSection, inListing, records-shorter}
-
--- What is given where nothing is refused.
-
-give-short : (e : ℕ) (r out : List ℕ) → length out < length r → give (Valid e) r out ≡ record { number = 24; place = 0; written = 0; output = out }
-give-short e r out h = rw (lt-leb _ _ h, give)
-
-give-whole : (e : ℕ) (r out : List ℕ) → length r ≤ length out
-    → give (Valid e) r out ≡ record { number = 0; place = 0; written = length r; output = r ++ drop (length r) out }
-give-whole e r out h = rw (le-leb _ _ h, give)
 
 module _ (s : List ℕ) where
   -- how long its listing is
   abbrev pub listed : ℕ
   listed = 25 * numFunctions s + 9 * numConstants s + inListing s (numRecords s) (recordsAt s) + 1
 
-  pub listing-size : size (listingFields (readSection s)) ≡ listed
-  unfolding listingFields readSection readFunctions size
-  listing-size =
-      simp size-append
-      (omega (
-        arith,
-        run-size functionItem readFunction 24 25 function-item-size (numFunctions s) s 16,
-        run-size constantItem readConstant 8 9 constant-item-size (numConstants s) s (constantsAt s),
-      ))
-
   pub listing-length : length (encodeListing (readSection s)) ≡ listed
-  unfolding encodeListing
-  listing-length = length-bytesOf (listingFields (readSection s)) ∙ listing-size
+  unfolding readSection readFunctions
+  listing-length = encoded-listing (readSection s) ∙ rw (length-many readFunction, length-many readConstant)
 
   -- its functions, its constants and its records are inside, and nothing follows
   pub record Laid : Type 0 where
@@ -58,20 +39,14 @@ module _ (s : List ℕ) where
     pub small : length s ≤ 16777216
     pub short : inListing s (numRecords s) (recordsAt s) ≤ inSection s (numRecords s) (recordsAt s)
 
-  section-size : size (sectionFields (readSection s)) ≡ recordsAt s + inSection s (numRecords s) (recordsAt s)
-  unfolding sectionFields readSection readFunctions size
-  section-size =
-      simp size-append
-      (omega (
-        arith,
-        run-size functionFields readFunction 24 24 function-size (numFunctions s) s 16,
-        run-size constantFields readConstant 8 8 constant-size (numConstants s) s (constantsAt s),
-      ))
+  section-ends : size (sectionFields (readSection s)) ≡ recordsAt s + inSection s (numRecords s) (recordsAt s)
+  unfolding readSection
+  section-ends = section-size (readSection s) ∙ rw (begins s)
 
   pub laid : Accepted s → Laid
   laid k =
       record {
-        ends = sym section-size ∙ section-long s (length s) k;
+        ends = sym section-ends ∙ section-long s (length s) k;
         small = accepted-length s (length s) k .1;
         short = records-shorter s (numRecords s) (recordsAt s);
       }
@@ -87,7 +62,7 @@ module _ (s : List ℕ) where
       after-functions =
           let e = h .functions-are in
           let x = p .ends in
-          (omega (arith, run-size functionItem readFunction 24 25 function-item-size functions s 16), put-long p)
+          (omega (arith, size-many functionItem readFunction 24 25 function-item-size functions s 16), put-long p)
 
       pub constants-room : (pool + 8 * constants ≤ length s) × (b + 9 * constants ≤ length o₁)
       constants-room =
@@ -101,7 +76,7 @@ module _ (s : List ℕ) where
         after-constants =
             let e = h .constants-are in
             let x = q .ends in
-            (omega (arith, after-functions, run-size constantItem readConstant 8 9 constant-item-size constants s pool), put-long q ∙ after-functions .1)
+            (omega (arith, after-functions, size-many constantItem readConstant 8 9 constant-item-size constants s pool), put-long q ∙ after-functions .1)
 
         pub records-room : (first + inSection s records first ≤ length s) × (c + inListing s records first ≤ length o₂)
         records-room =
@@ -147,6 +122,5 @@ module _ (s : List ℕ) where
       → Put out out′ 0 end (listingFields (readSection s)) → toListing s out ≡ record { number = 0; place = 0; written = end; output = out′ }
   unfolding toListing encodeListing
   converted out out′ k h p =
-      let w = sets-whole (encodeListing (readSection s)) out h in
       let e = p .ends ∙ zero-add _ ∙ sym (length-bytesOf (listingFields (readSection s))) in
-      rw k (give-whole (length s) (encodeListing (readSection s)) out h ∙ rw (e, p .output, w))
+      rw k (give-all (length s) (encodeListing (readSection s)) out h ∙ rw (e, p .output))

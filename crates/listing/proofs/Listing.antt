@@ -13,31 +13,32 @@ use Rattle.wire.specs.Word.{Bytes, word}
 use Rattle.stackmap.specs.Fields.{size, Field, Fit, _of_, all, many}
 use Rattle.stackmap.specs.Section.{Encodable, Function, LiveOut, Location, Record, Section}
 use Rattle.stackmap.specs.Verdict.{chain, must}
-use Rattle.stackmap.proofs.Fields.{Has, fields-back, has-bytes, has-fit, join, length-bytesOf, length-many, many-back, size-all, size-append, split}
+use Rattle.stackmap.proofs.Fields.{Has, fields-back, has-bytes, has-fit, join, length-bytesOf, many-back, size-all, size-append, size-many, split}
+use Rattle.stackmap.proofs.Items.{byte-word}
 use Rattle.stackmap.proofs.Verdicts.{chain-first, chain-rest, must-held, must-rest}
 use Rattle.stackmap.specs.declared.Verdict.the-variants.{Valid}
 use Rattle.listing.specs.Listing.{functionItem, constantItem, recordItem, locationItem, liveOutItem, endItem, recordItems, listingFields, encodeListing, stands, run, listedFunction, listedConstant, listedLocation, listedLiveOut, listedLocations, listedLiveOuts, listedRecord, recordStop, listedRecords, recordsStop, functionsListed, constantsListed, recordsBegin, readListing, itemsStop, listingCheck}
 use Rattle.listing.proofs.Fits.{and-true, AllSmall, small-whole, whole-small, listing-to-section}
 
-pub function-size : (f : Function) → size (functionItem f) ≡ 25
+pub function-item-size : (f : Function) → size (functionItem f) ≡ 25
 unfolding size functionItem
-function-size f = refl
+function-item-size f = refl
 
-pub constant-size : (v : ℕ) → size (constantItem v) ≡ 9
+pub constant-item-size : (v : ℕ) → size (constantItem v) ≡ 9
 unfolding size constantItem
-constant-size v = refl
+constant-item-size v = refl
 
-location-size : (l : Location) → size (locationItem l) ≡ 10
+pub record-item-size : (r : Record) → size (recordItem r) ≡ 13
+unfolding size recordItem
+record-item-size r = refl
+
+pub location-item-size : (l : Location) → size (locationItem l) ≡ 10
 unfolding size locationItem
-location-size l = refl
+location-item-size l = refl
 
-live-out-size : (o : LiveOut) → size (liveOutItem o) ≡ 4
+pub live-out-item-size : (o : LiveOut) → size (liveOutItem o) ≡ 4
 unfolding size liveOutItem
-live-out-size o = refl
-
-byte-word : (s : List ℕ) (a : ℕ) → word 1 s a ≡ getD s a 0
-unfolding word
-byte-word s a = omega arith
+live-out-item-size o = refl
 
 function-back : (l : List ℕ) (f : Function) (a : ℕ) → Has l a (functionItem f) → listedFunction l a ≡ f
 unfolding functionItem listedFunction
@@ -183,38 +184,39 @@ module _ (l : List ℕ) where
   unfolding liveOutItem
   live-out-kind x at h = kind-byte l at 5 (h .0)
 
-  records-yes : (m at : ℕ) → stands 3 13 l at ≡ true
+  pub records-yes : (m at : ℕ) → stands 3 13 l at ≡ true
       → (listedRecords l (suc m) at ≡ listedRecord l at ∷ listedRecords l m (recordStop l at)) × (recordsStop l (suc m) at ≡ recordsStop l m (recordStop l at))
   unfolding listedRecords recordsStop
   records-yes m at e = (rw (e, listedRecords), rw (e, recordsStop))
 
-  records-no : (m at : ℕ) → stands 3 13 l at ≡ false → (listedRecords l m at ≡ []) × (recordsStop l m at ≡ at)
+  pub records-no : (m at : ℕ) → stands 3 13 l at ≡ false → (listedRecords l m at ≡ []) × (recordsStop l m at ≡ at)
   unfolding listedRecords recordsStop
   records-no zero at e = (refl, refl)
   records-no (suc m) at e = (rw (e, listedRecords), rw (e, recordsStop))
 
-  module _ (r : Record) (rs : List Record) (at : ℕ) where
-    abbrev n : ℕ
-    n = length (r .locations)
+module _ (r : Record) where
+  abbrev n : ℕ
+  n = length (r .locations)
 
-    abbrev m : ℕ
-    m = length (r .liveOuts)
+  abbrev m : ℕ
+  m = length (r .liveOuts)
 
-    abbrev L : List Field
-    L = all locationItem (r .locations)
+  abbrev L : List Field
+  L = all locationItem (r .locations)
 
-    abbrev O : List Field
-    O = all liveOutItem (r .liveOuts)
+  abbrev O : List Field
+  O = all liveOutItem (r .liveOuts)
 
+  sizes : (size L ≡ 10 * n) × (size O ≡ 4 * m)
+  sizes = (size-all locationItem 10 location-item-size (r .locations), size-all liveOutItem 4 live-out-item-size (r .liveOuts))
+
+  pub items-size : size (recordItems r) ≡ 13 + 10 * n + 4 * m
+  unfolding recordItems recordItem size
+  items-size = simp size-append (omega (arith, sizes))
+
+  module _ (l : List ℕ) (rs : List Record) (at : ℕ) where
     abbrev rest : List Field
     rest = all recordItems rs ++ endItem
-
-    sizes : (size L ≡ 10 * n) × (size O ≡ 4 * m)
-    sizes = (size-all locationItem 10 location-size (r .locations), size-all liveOutItem 4 live-out-size (r .liveOuts))
-
-    pub items-size : size (recordItems r) ≡ 13 + 10 * n + 4 * m
-    unfolding recordItems recordItem size
-    items-size = simp size-append (omega (arith, sizes))
 
     record-back : Has l at (recordItem r ++ (L ++ (O ++ rest))) → at + size (recordItems r) ≤ length l
         → (stands 3 13 l at ≡ true) × (listedRecord l at ≡ r) × (recordStop l at ≡ at + size (recordItems r)) × Has l (at + size (recordItems r)) rest
@@ -226,10 +228,10 @@ module _ (l : List ℕ) where
         let k₃ = split l (at + 13 + 10 * n) (at + size (recordItems r)) O rest (omega (arith, sizes)) (k₂ .1) in
         let p : at + 13 + 10 * n + 4 * m ≡ at + size (recordItems r) = omega arith in
         let e₁ : listedLocations l at ≡ n =
-        run-back locationItem 4 10 location-size l location-kind (r .locations) (at + 13) (length l) (omega arith) (k₂ .0) (omega arith)
+        run-back locationItem 4 10 location-item-size l (location-kind l) (r .locations) (at + 13) (length l) (omega arith) (k₂ .0) (omega arith)
         (no-item 4 10 l _ (O ++ rest) (leads-outs (r .liveOuts) rs) (k₂ .1)) in
         let e₂ : run 5 4 (length l) l (at + 13 + 10 * n) ≡ m =
-        run-back liveOutItem 5 4 live-out-size l live-out-kind (r .liveOuts) (at + 13 + 10 * n) (length l) (omega arith) (k₃ .0) (omega arith)
+        run-back liveOutItem 5 4 live-out-item-size l (live-out-kind l) (r .liveOuts) (at + 13 + 10 * n) (length l) (omega arith) (k₃ .0) (omega arith)
         (rw p (no-item 5 4 l _ rest (leads-records 5 rs (omega arith) (omega arith)) (k₃ .1))) in (
           yes-item 3 13 l at (omega arith) (kind-byte l at 3 (k₁ .0 .0)),
           rw (
@@ -237,28 +239,34 @@ module _ (l : List ℕ) where
             e₂,
             k₁ .0 .1 .0,
             k₁ .0 .1 .1 .0,
-            many-back locationItem listedLocation 10 location-size l (location-back l) (r .locations) _ (k₂ .0),
-            many-back liveOutItem listedLiveOut 4 live-out-size l (live-out-back l) (r .liveOuts) _ (k₃ .0),
+            many-back locationItem listedLocation 10 location-item-size l (location-back l) (r .locations) _ (k₂ .0),
+            many-back liveOutItem listedLiveOut 4 live-out-item-size l (live-out-back l) (r .liveOuts) _ (k₃ .0),
           ),
           rw (e₁, e₂) p,
           k₃ .1,
         )
 
+module _ (l : List ℕ) where
   records-back : (rs : List Record) (at m : ℕ) → length rs ≤ m → Has l at (all recordItems rs ++ endItem) → at + size (all recordItems rs) ≤ length l
       → (listedRecords l m at ≡ rs) × (recordsStop l m at ≡ at + size (all recordItems rs))
   unfolding all size
   records-back [] at m f h i =
-      let e = records-no m at (no-item 3 13 l at endItem (refl, omega arith) h) in
+      let e = records-no l m at (no-item 3 13 l at endItem (refl, omega arith) h) in
       (e .0, e .1 ∙ sym (add-zero at))
   records-back (r ∷ rs) at zero f h i = absurd (omega arith)
   records-back (r ∷ rs) at (suc m) f h i =
       let z = size-append (recordItems r) (all recordItems rs) in
-      let b = record-back r rs at (subst (λ (fs : List Field). Has l at fs) (regroup r rs) h) (omega arith) in
-      let y = records-yes m at (b .0) in
+      let b = record-back r l rs at (subst (λ (fs : List Field). Has l at fs) (regroup r rs) h) (omega arith) in
+      let y = records-yes l m at (b .0) in
       let ih = records-back rs (at + size (recordItems r)) m (omega arith) (b .3) (omega arith) in
       (y .0 ∙ rw (b .1, b .2, ih .0), y .1 ∙ rw (b .2, ih .1, z, add-assoc))
 
-module _ (t : Section) (fit : Fit (listingFields t)) where
+count-le : (rs : List Record) → length rs ≤ size (all recordItems rs)
+unfolding all size recordItems recordItem
+count-le [] = omega arith
+count-le (r ∷ rs) = rw (size-append (recordItems r)) (omega (arith, count-le rs))
+
+module _ (t : Section) where
   abbrev l : List ℕ
   l = encodeListing t
 
@@ -278,71 +286,67 @@ module _ (t : Section) (fit : Fit (listingFields t)) where
   R = all recordItems (t .records)
 
   tables : (size F ≡ 25 * nf) × (size K ≡ 9 * nc)
-  tables = (size-all functionItem 25 function-size (t .functions), size-all constantItem 9 constant-size (t .constants))
+  tables = (size-all functionItem 25 function-item-size (t .functions), size-all constantItem 9 constant-item-size (t .constants))
 
   pub listing-length : length (encodeListing t) ≡ 25 * nf + 9 * nc + size R + 1
   unfolding encodeListing listingFields size
   listing-length = length-bytesOf (listingFields t) ∙ simp size-append (omega (arith, tables))
 
-  has : Has l 0 (F ++ (K ++ (R ++ endItem)))
-  unfolding encodeListing listingFields
-  has = fields-back l 0 0 (listingFields t) [] fit (rw append-nil)
+  module _ (fit : Fit (listingFields t)) where
+    has : Has l 0 (F ++ (K ++ (R ++ endItem)))
+    unfolding encodeListing listingFields
+    has = fields-back l 0 0 (listingFields t) [] fit (rw append-nil)
 
-  record Listed : Type 0 where
-    functions-num : functionsListed l ≡ nf
-    constants-num : run 2 9 (length l) l (25 * nf) ≡ nc
-    functions-in : Has l 0 F
-    constants-in : Has l (25 * nf) K
-    records-are : listedRecords l (length l) (25 * nf + 9 * nc) ≡ t .records
-    stop-is : recordsStop l (length l) (25 * nf + 9 * nc) ≡ 25 * nf + 9 * nc + size R
-    end-in : Has l (25 * nf + 9 * nc + size R) endItem
+    record Listed : Type 0 where
+      functions-num : functionsListed l ≡ nf
+      constants-num : run 2 9 (length l) l (25 * nf) ≡ nc
+      functions-in : Has l 0 F
+      constants-in : Has l (25 * nf) K
+      records-are : listedRecords l (length l) (25 * nf + 9 * nc) ≡ t .records
+      stop-is : recordsStop l (length l) (25 * nf + 9 * nc) ≡ 25 * nf + 9 * nc + size R
+      end-in : Has l (25 * nf + 9 * nc + size R) endItem
 
-  count-le : (rs : List Record) → length rs ≤ size (all recordItems rs)
-  unfolding all size recordItems recordItem
-  count-le [] = omega arith
-  count-le (r ∷ rs) = rw (size-append (recordItems r)) (omega (arith, count-le rs))
+    listed : Listed
+    listed =
+        let n = listing-length in
+        let c = count-le (t .records) in
+        let k₁ = split l 0 (25 * nf) F (K ++ (R ++ endItem)) (omega (arith, tables)) has in
+        let k₂ = split l (25 * nf) (25 * nf + 9 * nc) K (R ++ endItem) (omega (arith, tables)) (k₁ .1) in
+        let k₃ = split l (25 * nf + 9 * nc) (25 * nf + 9 * nc + size R) R endItem refl (k₂ .1) in
+        let r = records-back l (t .records) (25 * nf + 9 * nc) (length l) (omega arith) (k₂ .1) (omega arith) in
+        record {
+          functions-num = run-back functionItem 1 25 function-item-size l (function-kind l) (t .functions) 0 (length l) (omega arith) (k₁ .0) (omega arith)
+              (rw zero-add (no-item 1 25 l _ (K ++ (R ++ endItem)) (leads-constants (t .constants) (t .records)) (k₁ .1)));
+          constants-num = run-back constantItem 2 9 constant-item-size l (constant-kind l) (t .constants) (25 * nf) (length l) (omega arith) (k₂ .0) (omega arith)
+              (no-item 2 9 l _ (R ++ endItem) (leads-records 2 (t .records) (omega arith) (omega arith)) (k₂ .1));
+          functions-in = k₁ .0;
+          constants-in = k₂ .0;
+          records-are = r .0;
+          stop-is = r .1;
+          end-in = k₃ .1;
+        }
 
-  listed : Listed
-  listed =
-      let n = listing-length in
-      let c = count-le (t .records) in
-      let k₁ = split l 0 (25 * nf) F (K ++ (R ++ endItem)) (omega (arith, tables)) has in
-      let k₂ = split l (25 * nf) (25 * nf + 9 * nc) K (R ++ endItem) (omega (arith, tables)) (k₁ .1) in
-      let k₃ = split l (25 * nf + 9 * nc) (25 * nf + 9 * nc + size R) R endItem refl (k₂ .1) in
-      let r = records-back l (t .records) (25 * nf + 9 * nc) (length l) (omega arith) (k₂ .1) (omega arith) in
-      record {
-        functions-num = run-back functionItem 1 25 function-size l (function-kind l) (t .functions) 0 (length l) (omega arith) (k₁ .0) (omega arith)
-            (rw zero-add (no-item 1 25 l _ (K ++ (R ++ endItem)) (leads-constants (t .constants) (t .records)) (k₁ .1)));
-        constants-num = run-back constantItem 2 9 constant-size l (constant-kind l) (t .constants) (25 * nf) (length l) (omega arith) (k₂ .0) (omega arith)
-            (no-item 2 9 l _ (R ++ endItem) (leads-records 2 (t .records) (omega arith) (omega arith)) (k₂ .1));
-        functions-in = k₁ .0;
-        constants-in = k₂ .0;
-        records-are = r .0;
-        stop-is = r .1;
-        end-in = k₃ .1;
-      }
+    -- the listing of a section is read as the section
+    pub listing-back : readListing (encodeListing t) ≡ t
+    unfolding readListing
+    listing-back =
+        let w = listed in
+        rw (
+          w .functions-num,
+          w .constants-num,
+          w .records-are,
+          many-back functionItem listedFunction 25 function-item-size l (function-back l) (t .functions) 0 (w .functions-in),
+          many-back constantItem listedConstant 9 constant-item-size l (constant-back l) (t .constants) _ (w .constants-in),
+        )
 
-  -- the listing of a section is read as the section
-  pub listing-back : readListing (encodeListing t) ≡ t
-  unfolding readListing
-  listing-back =
-      let w = listed in
-      rw (
-        w .functions-num,
-        w .constants-num,
-        w .records-are,
-        many-back functionItem listedFunction 25 function-size l (function-back l) (t .functions) 0 (w .functions-in),
-        many-back constantItem listedConstant 9 constant-size l (constant-back l) (t .constants) _ (w .constants-in),
-      )
-
-  -- and accepted
-  pub listing-check : AllSmall (t .records) → length (encodeListing t) ≤ 33554432 → listingCheck (encodeListing t) ≡ Valid (length (encodeListing t))
-  unfolding listingCheck itemsStop must chain
-  listing-check s b =
-      let w = listed in
-      let n = listing-length in
-      let y = yes-item 6 1 l (25 * nf + 9 * nc + size R) (omega arith) (kind-byte l _ 6 (w .end-in .0)) in
-      rw (le-leb _ _ b, w .functions-num, w .constants-num, w .stop-is, y, eq-eqb _ _ (sym n), listing-back, small-whole (t .records) (25 * nf + 9 * nc) s)
+    -- and accepted
+    pub listing-check : AllSmall (t .records) → length (encodeListing t) ≤ 33554432 → listingCheck (encodeListing t) ≡ Valid (length (encodeListing t))
+    unfolding listingCheck itemsStop must chain
+    listing-check s b =
+        let w = listed in
+        let n = listing-length in
+        let y = yes-item 6 1 l (25 * nf + 9 * nc + size R) (omega arith) (kind-byte l _ 6 (w .end-in .0)) in
+        rw (le-leb _ _ b, w .functions-num, w .constants-num, w .stop-is, y, eq-eqb _ _ (sym n), listing-back, small-whole (t .records) (25 * nf + 9 * nc) s)
 
 -- an accepted listing
 
@@ -363,11 +367,6 @@ unfolding liveOutItem listedLiveOut
 live-out-has l at e = (rw add-zero (byte-word l at ∙ e), (refl, (refl, tt)))
 
 module _ (l : List ℕ) where
-  -- n items of one size
-  size-many : {A : Type 0} (item : A → List Field) (k : ℕ) → ((x : A) → size (item x) ≡ k) → (read : List ℕ → ℕ → A) (n at : ℕ)
-      → size (all item (many read k n l at)) ≡ k * n
-  size-many item k even read n at = size-all item k even (many read k n l at) ∙ rw (length-many item read k even)
-
   record-has : (at : ℕ) → stands 3 13 l at ≡ true
       → Has l at (recordItems (listedRecord l at)) × (recordStop l at ≡ at + size (recordItems (listedRecord l at))) × (recordStop l at ≤ length l)
   unfolding recordItems listedRecord recordStop recordItem size
@@ -378,10 +377,10 @@ module _ (l : List ℕ) where
       let L = all locationItem (many listedLocation 10 nl l (at + 13)) in
       let O = all liveOutItem (many listedLiveOut 4 no l (at + 13 + 10 * nl)) in
       let I : List Field = (1 of 3) ∷ (8 of word 8 l (at + 1)) ∷ (4 of word 4 l (at + 9)) ∷ [] in
-      let h₁ = run-has locationItem 4 10 location-size l listedLocation (location-has l) (length l) (at + 13) (a .0) in
-      let h₂ = run-has liveOutItem 5 4 live-out-size l listedLiveOut (live-out-has l) (length l) (at + 13 + 10 * nl) (h₁ .1) in
-      let z₁ : size L ≡ 10 * nl = size-many locationItem 10 location-size listedLocation nl (at + 13) in
-      let z₂ : size O ≡ 4 * no = size-many liveOutItem 4 live-out-size listedLiveOut no (at + 13 + 10 * nl) in
+      let h₁ = run-has locationItem 4 10 location-item-size l listedLocation (location-has l) (length l) (at + 13) (a .0) in
+      let h₂ = run-has liveOutItem 5 4 live-out-item-size l listedLiveOut (live-out-has l) (length l) (at + 13 + 10 * nl) (h₁ .1) in
+      let z₁ : size L ≡ 10 * nl = size-many locationItem listedLocation 10 10 location-item-size nl l (at + 13) in
+      let z₂ : size O ≡ 4 * no = size-many liveOutItem listedLiveOut 4 4 live-out-item-size no l (at + 13 + 10 * nl) in
       let i : Has l at I = (rw add-zero (byte-word l at ∙ a .1), (refl, (refl, tt))) in (
         join l at (at + 13) I (L ++ O) refl i (join l (at + 13) (at + 13 + 10 * nl) L O (rw z₁) (h₁ .0) (h₂ .0)),
         (let z : size (L ++ O) ≡ 10 * nl + 4 * no = rw (size-append, z₁, z₂) in omega arith),
@@ -433,12 +432,12 @@ module _ (l : List ℕ) where
     kept =
         let nf = functionsListed l in
         let nc = constantsListed l in
-        let h₁ = run-has functionItem 1 25 function-size l listedFunction (function-has l) (length l) 0 (omega arith) in
+        let h₁ = run-has functionItem 1 25 function-item-size l listedFunction (function-has l) (length l) 0 (omega arith) in
         let l₁ : 25 * nf ≤ length l = omega (arith, h₁ .1) in
-        let h₂ = run-has constantItem 2 9 constant-size l listedConstant (constant-has l) (length l) (25 * nf) l₁ in
+        let h₂ = run-has constantItem 2 9 constant-item-size l listedConstant (constant-has l) (length l) (25 * nf) l₁ in
         let h₃ = records-has (length l) (recordsBegin l) (h₂ .1) in
-        let z₁ : size F′ ≡ 25 * nf = size-many functionItem 25 function-size listedFunction nf 0 in
-        let z₂ : size K′ ≡ 9 * nc = size-many constantItem 9 constant-size listedConstant nc (25 * nf) in
+        let z₁ : size F′ ≡ 25 * nf = size-many functionItem listedFunction 25 25 function-item-size nf l 0 in
+        let z₂ : size K′ ≡ 9 * nc = size-many constantItem listedConstant 9 9 constant-item-size nc l (25 * nf) in
         let k₁ = must-rest _ _ _ _ _ k in
         let k₂ = must-rest _ _ _ _ _ k₁ in
         let k₃ = must-rest _ _ _ _ _ k₂ in
@@ -470,8 +469,8 @@ module _ (l : List ℕ) where
       listing-encodable =
           let t = readListing l in
           let f = has-fit l 0 0 (listingFields (readListing l)) w (kept .has-it) in
-          let n = listing-length t f in
-          let c = count-le t f (t .records) in
+          let n = listing-length t in
+          let c = count-le (t .records) in
           let e = accepted-listing in
           let u = kept .under in
           let g : length (encodeListing t) ≡ length l = ap length e in

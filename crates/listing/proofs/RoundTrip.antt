@@ -1,7 +1,7 @@
 -- The round trips.
-use Prim.Native.Nat.{ℕ, _*_, _-_, _≤_}
+use Prim.Native.Nat.{ℕ, _≤_}
 use mathlib.Core.Path.{_≡_, refl, ap}
-use mathlib.Core.List.{List, [], _∷_}
+use mathlib.Core.List.{List}
 use mathlib.Core.Bool.{Bool, true, false}
 use native.Mathlib.Omega.{arith}
 use lib.ListN.{length, drop}
@@ -12,20 +12,19 @@ use Rattle.stackmap.specs.declared.Verdict.the-variants.{Valid, Refused}
 use Rattle.wire.specs.Word.{Bytes}
 use Rattle.stackmap.specs.Check.{sectionCheck}
 use Rattle.stackmap.specs.Fault.{sectionFault}
-use Rattle.stackmap.specs.Fields.{size, all}
-use Rattle.stackmap.specs.Section.{Record, Section, encodeSection, readSection, recordFields}
+use Rattle.stackmap.specs.Section.{Section, encodeSection, readSection}
 use Rattle.stackmap.specs.Verdict.{chain}
-use Rattle.stackmap.proofs.Back.{check-back, encoded-length, read-back, record-size, section-size}
-use Rattle.stackmap.proofs.Fields.{size-append}
+use Rattle.stackmap.proofs.Back.{check-back, encoded-length, read-back, section-size}
 use Rattle.stackmap.proofs.Forth.{accepted-bytes, accepted-encodable, accepted-length}
 use Rattle.stackmap.proofs.Verdicts.{chain-first, chain-rest}
 use Rattle.stackmap.proofs.WellFormed.{bytes-of}
-use Rattle.listing.specs.Listing.{recordItems, listingFields, encodeListing, listingCheck, readListing, give, toListing, toSection}
+use Rattle.listing.specs.Listing.{listingFields, encodeListing, listingCheck, readListing, give, toListing, toSection}
 use Rattle.listing.specs.RoundTrip.{result, gives, RoundTrips, OutputKept, ListingOneToOne}
 use Rattle.listing.proofs.Fits.{section-to-listing}
-use Rattle.listing.proofs.Listing.{items-size, listing-length, listing-back, listing-check, accepted-listing, listing-encodable}
+use Rattle.listing.proofs.Listing.{listing-length, listing-back, listing-check, accepted-listing, listing-encodable}
 use Rattle.stackmap.proofs.Numbers.{Above, a-chain, section-above}
 use Rattle.listing.proofs.Above.{listing-above}
+use Rattle.listing.proofs.Short.{records-short}
 
 -- where nothing is refused, all is whole, and the result is written
 record Gave (c : Verdict) (r out : List ℕ) : Type 0 where
@@ -42,13 +41,6 @@ gave (Valid e) r out a h = go (leb (length r) (length out)) refl h
     go true q h = record { end = e; whole = refl; wrote = rw (q, give) (take-append-seam r (drop (length r) out)) }
     go false q h = absurd (let z : _≡_ {A = ℕ} 24 0 = rw (q, give) at h in omega arith)
 
--- a listing is at most twice as long as its section
-records-twice : (rs : List Record) → size (all recordItems rs) ≤ 2 * size (all recordFields rs)
-unfolding all size
-records-twice [] = omega arith
-records-twice (r ∷ rs) =
-    rw (size-append (recordItems r), size-append (recordFields r), record-size r, items-size [] r [] 0) (omega (arith, records-twice rs))
-
 section-first : (s out out′ : List ℕ) → Bytes s → toListing s out .number ≡ 0 → toSection (result (toListing s out)) out′ ≡ gives s out′
 unfolding toListing toSection chain
 section-first s out out′ w h =
@@ -59,12 +51,12 @@ section-first s out out′ w h =
     let b = accepted-bytes s _ k w in
     let f = section-to-listing t fit in
     let l : length (encodeListing t) ≤ 33554432 =
-    let z₁ = listing-length t (f .0) in
-    let z₂ = section-size t fit in
-    let z₃ = encoded-length t fit in
+    let z₁ = listing-length t in
+    let z₂ = section-size t in
+    let z₃ = encoded-length t in
     let z₄ = accepted-length s _ k in
     let z₅ : length (encodeSection t) ≡ length s = ap length b in
-    omega (arith, records-twice (t .records)) in
+    omega (arith, records-short (t .records)) in
     rw (g .wrote, listing-check t (f .0) (f .1) l, listing-back t (f .0), b, k)
 
 listing-first : (l out out′ : List ℕ) → Bytes l → toSection l out .number ≡ 0 → toListing (result (toSection l out)) out′ ≡ gives l out′

@@ -1,14 +1,14 @@
 -- The definitions of the listing count down from a bound. The listing's length is enough of one, at every place.
 use Prim.Native.Nat.{ℕ, zero, suc, _+_, _-_, _≤_}
 use mathlib.Core.Path.{_≡_, refl, sym, _∙_, ap}
-use mathlib.Core.List.{List, [], _∷_}
+use mathlib.Core.List.{List, _∷_}
 use mathlib.Core.Bool.{Bool, true, false}
 use native.Mathlib.Omega.{arith}
 use lib.ListN.{length}
 use Rattle.stackmap.specs.Section.{Record}
 use Rattle.listing.specs.Layout.{recordKind, recordItemSize}
 use Rattle.listing.specs.Listing.{stands, run, listedRecord, recordStop, listedRecords, recordsStop}
-use Rattle.listing.proofs.Listing.{run-yes, run-no, is-item, no-room, run-inside}
+use Rattle.listing.proofs.Listing.{run-yes, run-no, is-item, no-room, run-inside, records-yes, records-no}
 use Rattle.parser.specs.Count.{Ran}
 
 -- A run.
@@ -54,24 +54,13 @@ module _ (l : List ℕ) where
   unfolding recordStop
   stop-after at = omega arith
 
-  records-yes : (m at : ℕ) → stands recordKind recordItemSize l at ≡ true
-      → (listedRecords l (suc m) at ≡ listedRecord l at ∷ listedRecords l m (recordStop l at)) × (recordsStop l (suc m) at ≡ recordsStop l m (recordStop l at))
-  unfolding listedRecords recordsStop
-  records-yes m at e = (rw (e, listedRecords), rw (e, recordsStop))
-
-  -- no record item stands here
-  pub records-none : (m at : ℕ) → stands recordKind recordItemSize l at ≡ false → (listedRecords l m at ≡ []) × (recordsStop l m at ≡ at)
-  unfolding listedRecords recordsStop
-  records-none zero at e = (refl, refl)
-  records-none (suc m) at e = (rw (e, listedRecords), rw (e, recordsStop))
-
   abbrev Same : ℕ → ℕ → ℕ → Type 0
   Same m m′ at = (listedRecords l m at ≡ listedRecords l m′ at) × (recordsStop l m at ≡ recordsStop l m′ at)
 
   no-records : (m m′ at : ℕ) → stands recordKind recordItemSize l at ≡ false → Same m m′ at
   no-records m m′ at e =
-      let a = records-none m at e in
-      let b = records-none m′ at e in
+      let a = records-no l m at e in
+      let b = records-no l m′ at e in
       (a .0 ∙ sym (b .0), a .1 ∙ sym (b .1))
 
   records-enough : (m m′ at : ℕ) → length l ≤ at + m → length l ≤ at + m′ → Same m m′ at
@@ -83,8 +72,8 @@ module _ (l : List ℕ) where
     where
       go : Same m m′ (recordStop l at) → (b : Bool) → stands recordKind recordItemSize l at ≡ b → Same (suc m) (suc m′) at
       go ih true e =
-          let a = records-yes m at e in
-          let b = records-yes m′ at e in
+          let a = records-yes l m at e in
+          let b = records-yes l m′ at e in
           (a .0 ∙ ap (λ (rs : List Record). listedRecord l at ∷ rs) (ih .0) ∙ sym (b .0), a .1 ∙ ih .1 ∙ sym (b .1))
       go ih false e = no-records (suc m) (suc m′) at e
 
@@ -96,7 +85,7 @@ module _ (l : List ℕ) where
       let i = is-item recordKind recordItemSize l at e .0 in
       let z = stop-after at in
       let b : length l ≡ suc (length l - 1) = omega arith in
-      let y = records-yes (length l - 1) at e in
+      let y = records-yes l (length l - 1) at e in
       let s = records-enough (length l - 1) (length l) (recordStop l at) (omega arith) (omega arith) in (
         ap (λ (m : ℕ). listedRecords l m at) b ∙ y .0 ∙ ap (λ (rs : List Record). listedRecord l at ∷ rs) (s .0),
         ap (λ (m : ℕ). recordsStop l m at) b ∙ y .1 ∙ s .1,

@@ -1,7 +1,7 @@
 -- What a listing comes to, step by step.
 use Prim.Native.Nat.{ℕ, _≤_, _<_}
 use mathlib.Core.Path.{_≡_, refl, sym, _∙_}
-use mathlib.Core.List.{List, [], _∷_}
+use mathlib.Core.List.{List, []}
 use mathlib.Core.Bool.{Bool, true, false}
 use native.Mathlib.Omega.{arith}
 use borrow.Author.Tests.{le-leb, lt-leb}
@@ -9,17 +9,18 @@ use lib.ListN.{length}
 use Rattle.stackmap.specs.declared.Verdict.the-variants.{Valid, Refused}
 use Rattle.stackmap.specs.Verdict.{must, chain}
 use Rattle.stackmap.specs.Fields.{size, all}
-use Rattle.stackmap.specs.Section.{Section, recordFields, sectionFields, Entry}
-use Rattle.stackmap.specs.Fault.{entriesFault, sectionFault}
+use Rattle.stackmap.specs.Section.{Section, recordFields, sectionFields}
+use Rattle.stackmap.specs.Fault.{sectionFault}
 use Rattle.stackmap.proofs.Verdicts.{never, must-rest, chain-first, chain-rest}
+use Rattle.stackmap.proofs.Back.{entries-valid}
 use Rattle.listing.specs.Layout.{listingMost}
 use Rattle.listing.specs.Listing.{readListing}
+use Rattle.listing.proofs.Listing.{records-no}
 use Rattle.parser.specs.Count.{Tabled}
 use Rattle.parser.specs.Survey.{recordsFrom, recordsAfter, Passed, Ends, Planned}
 use Rattle.parser.specs.Grammar.{itemsCheck}
 use Rattle.parser.specs.Outcome.{Ready}
 use Rattle.parser.specs.Outcome.{refusal, Buildable}
-use Rattle.parser.proofs.Bound.{records-none}
 use Rattle.parser.proofs.Ends.{items-crowded, whole-check}
 use Rattle.parser.proofs.Plans.{begins, planned-size}
 
@@ -51,7 +52,7 @@ module _ {l : List ℕ} {f c : ℕ} (t : Tabled l f c) (short : length l ≤ lis
         where
           go : (x : Bool) → Ends l stop x → recordsFrom l stop ≡ []
           go true q = never (chain-rest _ _ _ (sym (items-crowded p q) ∙ v))
-          go false q = records-none l (length l) stop q .0
+          go false q = records-no l (length l) stop q .0
 
       pub planned : Planned l f c r b
       planned =
@@ -69,14 +70,9 @@ module _ {l : List ℕ} {f c : ℕ} (t : Tabled l f c) (short : length l ≤ lis
       ready = record { inside = t .inside; counted = planned .counted; small = chain-first _ _ _ (chain-rest _ _ _ v) }
 
 -- a section without refusal ends where its bytes do
-entries-end : (c : ℕ) (es : List Entry) (end n : ℕ) → entriesFault c es end ≡ Valid n → n ≡ end
-unfolding entriesFault
-entries-end c [] end n h = cc
-entries-end c (e ∷ es) end n h = entries-end c es end n (chain-rest _ _ _ h)
-
 section-end : (t : Section) (n : ℕ) → sectionFault t ≡ Valid n → n ≡ size (sectionFields t)
 unfolding sectionFault
-section-end t n h = entries-end _ _ _ n (must-rest _ _ _ _ _ (must-rest _ _ _ _ _ h))
+section-end t n h = entries-valid _ _ _ n (must-rest _ _ _ _ _ (must-rest _ _ _ _ _ h))
 
 pub buildable : {l : List ℕ} {f c r b n : ℕ} → refusal l ≡ sectionFault (readListing l) → Planned l f c r b → Ready l (recordsAfter l f c) r → length l ≤ listingMost
     → sectionFault (readListing l) ≡ Valid n → Buildable l f c r b n

@@ -5,29 +5,19 @@ use mathlib.Core.List.{List}
 use mathlib.Core.Bool.{true}
 use native.Mathlib.Omega.{arith}
 use borrow.Author.Tests.{eqb-true}
-use lib.ListN.{length}
 use lib.Dec.{leb, eqb}
 use Rattle.stackmap.specs.Layout.{sectionMost, numRecordsAt}
 use Rattle.stackmap.specs.Verdict.{must}
-use Rattle.stackmap.specs.Fields.{size, all, many}
-use Rattle.stackmap.specs.Section.{Section, functionFields, constantFields, recordFields, sectionFields, counted, entriesOf}
+use Rattle.stackmap.specs.Fields.{size, many}
+use Rattle.stackmap.specs.Section.{Section, sectionFields, counted, entriesOf}
 use Rattle.stackmap.specs.Fault.{sectionFault}
-use Rattle.stackmap.proofs.Fields.{size-append, size-all}
-use Rattle.stackmap.proofs.Items.{function-size, constant-size}
+use Rattle.stackmap.proofs.Fields.{length-many}
+use Rattle.stackmap.proofs.Back.{section-size}
 use Rattle.listing.specs.Listing.{listedConstant, recordsBegin, readListing}
 use Rattle.parser.specs.Count.{Tabled}
 use Rattle.parser.specs.Survey.{recordsFrom, recordsAfter, Planned}
 use Rattle.parser.specs.Walk.{functionsOf, Walkable}
-use Rattle.parser.proofs.Records.{length-many}
 use Rattle.parser.proofs.Walking.{whole}
-
--- the section's size
-section-sized : (t : Section) → size (sectionFields t) ≡ 16 + 24 * length (t .functions) + 8 * length (t .constants) + size (all recordFields (t .records))
-unfolding sectionFields size
-section-sized t =
-    let f = size-all functionFields 24 function-size (t .functions) in
-    let k = size-all constantFields 8 constant-size (t .constants) in
-    simp size-append (omega arith)
 
 module _ {l : List ℕ} {functions constants : ℕ} (t : Tabled l functions constants) where
   pub begins : recordsBegin l ≡ recordsAfter l functions constants
@@ -55,7 +45,7 @@ module _ {l : List ℕ} {functions constants records bytes : ℕ} (p : Planned l
   end = 16 + 24 * functions + 8 * constants + bytes
 
   pub planned-size : size (sectionFields (readListing l)) ≡ end
-  planned-size = rw (reads (p .tables), section-sized, p .sized) (simp length-many)
+  planned-size = rw (reads (p .tables), section-size, p .sized) (simp length-many)
 
   -- the walk over the records may begin
   pub planned-walk : end ≤ sectionMost → eqb (counted (functionsOf l functions)) records ≡ true

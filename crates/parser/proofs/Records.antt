@@ -1,17 +1,17 @@
 -- A pass over the records of a listing, one record after the other.
-use Prim.Native.Nat.{ℕ, zero, suc, _+_, _≤_, _<_}
+use Prim.Native.Nat.{ℕ, _+_, _≤_, _<_}
 use mathlib.Core.Path.{_≡_, refl, _∙_, ap}
-use mathlib.Core.List.{List, [], _∷_}
+use mathlib.Core.List.{List, _∷_}
 use mathlib.Core.Bool.{true, _&&_, and-false}
 use native.Mathlib.Omega.{arith}
 use borrow.Author.Tests.{le-leb, lt-leb}
 use lib.ListN.{length}
 use lib.Dec.{leb}
 use Rattle.stackmap.specs.declared.Verdict.the-variants.{Refused}
-use Rattle.stackmap.specs.Fields.{many, size, all}
+use Rattle.stackmap.specs.Fields.{size, all}
 use Rattle.stackmap.specs.Section.{recordFields}
 use Rattle.stackmap.specs.Verdict.{must}
-use Rattle.stackmap.proofs.Fields.{size-append}
+use Rattle.stackmap.proofs.Fields.{size-append, length-many}
 use Rattle.stackmap.proofs.Back.{record-size}
 use Rattle.listing.specs.Layout.{recordKind, recordItemSize, itemsMost}
 use Rattle.listing.specs.Listing.{recordItems, stands, listedRecord, recordStop, notTooMany}
@@ -19,11 +19,6 @@ use Rattle.listing.proofs.Listing.{items-size}
 use Rattle.parser.specs.Count.{Shaped}
 use Rattle.parser.specs.Survey.{recordSize, recordsFrom, stopFrom, Passed}
 use Rattle.parser.proofs.Bound.{records-on}
-
-pub length-many : {A : Type 0} (read : List ℕ → ℕ → A) (step n : ℕ) (s : List ℕ) (at : ℕ) → length (many read step n s at) ≡ n
-unfolding many
-length-many read step zero s at = refl
-length-many read step (suc n) s at = ap suc (length-many read step n s (at + step))
 
 module _ {l : List ℕ} {at n m stop : ℕ} (h : Shaped l at n m stop) where
   -- the record that stands here
@@ -40,7 +35,7 @@ module _ {l : List ℕ} {at n m stop : ℕ} (h : Shaped l at n m stop) where
 
   shape-items : at + size (recordItems (listedRecord l at)) ≡ stop
   shape-items =
-      let z = items-size l (listedRecord l at) [] at in
+      let z = items-size (listedRecord l at) in
       let s = h .stops in
       rw (z, shape-lengths .0, shape-lengths .1) (omega arith)
 

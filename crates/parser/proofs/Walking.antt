@@ -9,16 +9,16 @@ use Rattle.stackmap.specs.declared.Verdict.{Verdict}
 use Rattle.stackmap.specs.declared.Verdict.the-variants.{Valid}
 use Rattle.stackmap.specs.Verdict.{chain, shift}
 use Rattle.stackmap.specs.Fields.{size, all}
-use Rattle.stackmap.specs.Section.{Record, recordFields, Owner, owners, Entry, address, entriesFrom}
+use Rattle.stackmap.specs.Section.{Record, recordFields, Owner, owners, address, entriesFrom}
 use Rattle.stackmap.specs.Fault.{entryFault, entriesFault}
-use Rattle.stackmap.proofs.Verdicts.{must-rest, chain-rest, shift-valid}
+use Rattle.stackmap.proofs.Verdicts.{shift-valid}
+use Rattle.stackmap.proofs.Back.{entry-valid}
 use Rattle.listing.specs.Layout.{recordKind, recordItemSize}
 use Rattle.listing.specs.Listing.{stands}
-use Rattle.listing.proofs.Listing.{is-item}
+use Rattle.listing.proofs.Listing.{is-item, records-no}
 use Rattle.parser.specs.Count.{Shaped}
 use Rattle.parser.specs.Survey.{recordSize, recordsFrom}
 use Rattle.parser.specs.Walk.{functionsOf, ahead, entryAt, Turning, Walkable}
-use Rattle.parser.proofs.Bound.{records-none}
 use Rattle.parser.proofs.Records.{shape-size, records-here, sized-here}
 use Rattle.parser.proofs.Turns.{ahead-start, start-length, ahead-one}
 
@@ -28,7 +28,7 @@ some-record l at h = go (stands recordKind recordItemSize l at) refl
   where
     go : (b : Bool) → stands recordKind recordItemSize l at ≡ b → stands recordKind recordItemSize l at ≡ true
     go true e = e
-    go false e = absurd (let z : length (recordsFrom l at) ≡ 0 = rw (records-none l (length l) at e .0) in omega arith)
+    go false e = absurd (let z : length (recordsFrom l at) ≡ 0 = rw (records-no l (length l) at e .0) in omega arith)
 
 pub record-inside : (l : List ℕ) (at : ℕ) → 0 < length (recordsFrom l at) → at + recordItemSize ≤ length l
 record-inside l at h = is-item recordKind recordItemSize l at (some-record l at h) .0
@@ -50,11 +50,6 @@ entries-one c at o os r rs end =
     unfold entriesFrom entriesFault in
     ap (λ (k : Verdict). chain (shift at (entryFault c (record { number = 0; first = at; owner = o; body = r }))) k)
     (renumber c 1 0 (at + size (recordFields r)) os rs end)
-
--- a valid record ends where its bytes do
-entry-end : (c : ℕ) (e : Entry) (n : ℕ) → entryFault c e ≡ Valid n → n ≡ size (recordFields (e .body))
-unfolding entryFault
-entry-end c e n h = let k = chain-rest _ _ _ (must-rest _ _ _ _ _ h) in cc
 
 -- the refusal of all records, in a section that ends at `end`
 abbrev pub whole : List ℕ → ℕ → ℕ → ℕ → ℕ → ℕ → Verdict
@@ -106,7 +101,7 @@ module _ {l : List ℕ} {n c from place end : ℕ} where
             → Walking l n c from place end next′ (left′ - 1) (remaining - 1) stop q
         walk-on {q} b′ m v =
             let x = shift-valid _ _ _ v in
-            let d : q ≡ to + recordSize a b = x .2 ∙ ap (λ (k : ℕ). to + k) (entry-end c _ _ (x .1) ∙ shape-size h) in
+            let d : q ≡ to + recordSize a b = x .2 ∙ ap (λ (k : ℕ). to + k) (entry-valid c _ _ (x .1) ∙ shape-size h) in
             let o : length (ahead l n next′ left′) ≡ suc (length (ahead l n next′ (left′ - 1))) = rw (ahead-one l n next′ left′ p) in
             let o′ : length (ahead l n next′ left′) ≡ remaining = rw e (w .owned) in
             let k = ap length (records-here h walk-stands) in

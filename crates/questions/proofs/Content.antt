@@ -30,22 +30,23 @@ many-none read step zero s at j h = refl
 many-none read step (suc n) s at zero h = absurd (omega arith)
 many-none read step (suc n) s at (suc j) h = many-none read step n s (at + step) j (omega arith)
 
--- the pool
-
-getD-some : (xs : List ℕ) (j v : ℕ) → getElem? xs j ≡ some v → getD xs j 0 ≡ v
-getD-some [] j v h = absurd (let z : _≡_ {A = ℕ} 0 1 = cc in omega arith)
-getD-some (x ∷ xs) zero v h = cc
-getD-some (x ∷ xs) (suc j) v h = getD-some xs j v h
+-- an element by its number, or else d
+pub getD-some : {A : Type 0} (d : A) (xs : List A) (j : ℕ) (v : A) → getElem? xs j ≡ some v → getD xs j d ≡ v
+getD-some d [] j v h = absurd (let z : _≡_ {A = ℕ} 0 1 = cc in omega arith)
+getD-some d (x ∷ xs) zero v h = cc
+getD-some d (x ∷ xs) (suc j) v h = getD-some d xs j v h
 
 getD-none : (xs : List ℕ) (j : ℕ) → getElem? xs j ≡ none → getD xs j 0 ≡ 0
 getD-none [] j h = refl
 getD-none (x ∷ xs) zero h = absurd (let z : _≡_ {A = ℕ} 0 1 = cc in omega arith)
 getD-none (x ∷ xs) (suc j) h = getD-none xs j h
 
+-- the pool
+
 module _ (s : List ℕ) (o : ℕ) where
   pub pool-entry : o < numConstants s → getD (readSection s .constants) o 0 ≡ word 8 s (constantsAt s + 8 * o)
   unfolding readSection readConstant
-  pool-entry h = getD-some (many readConstant 8 (numConstants s) s (constantsAt s)) o _ (many-some readConstant 8 (numConstants s) s (constantsAt s) o h)
+  pool-entry h = getD-some 0 (many readConstant 8 (numConstants s) s (constantsAt s)) o _ (many-some readConstant 8 (numConstants s) s (constantsAt s) o h)
 
   pub pool-none : numConstants s ≤ o → getD (readSection s .constants) o 0 ≡ 0
   unfolding readSection

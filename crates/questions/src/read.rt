@@ -53,7 +53,7 @@ fn no_location(number: u8, place: usize) -> LocationAnswer
 }
 
 // The location `number` of the record at `first`, or 11.
-fn location_in(s: &[u8], first: usize, number: u64) -> LocationAnswer
+pub fn location_in(s: &[u8], first: usize, number: u64) -> LocationAnswer
     requires { ⌜ (recordsAt (now s) ≤ length (now s)) × (first + recordLength (drop first (now s)) ≤ length (now s)) ⌝ }
     ensures { λ r. ⌜ r ≡ among (noLocation 11 0) (thisLocation (readSection (now (s .entry)) .constants)) (getElem? (readRecord (drop first (now (s .entry))) .locations) number) ⌝ }
 {

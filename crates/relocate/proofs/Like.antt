@@ -244,8 +244,8 @@ module _ (t : Section) (rs′ : List Record) (each : EachReordered (t .records) 
   still-well w =
       let h = records-same (t .records) rs′ each in
       let f = still-fits (w .fits) in
-      let z₁ = section-size t (w .fits) in
-      let z₂ = section-size t′ f in
+      let z₁ = section-size t in
+      let z₂ = section-size t′ in
       record {
         fits = f;
         small = omega (arith, w .small, h .1);

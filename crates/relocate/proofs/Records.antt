@@ -1,36 +1,31 @@
 -- What stands in the record at a place of the section.
-use Prim.Native.Nat.{ℕ, zero, suc, _+_, _*_, _-_, _%_, _≤_, _<_}
+use Prim.Native.Nat.{ℕ, _+_, _*_, _%_, _≤_, _<_}
 use mathlib.Core.Path.{_≡_, refl, sym, ap, _∙_}
 use mathlib.Core.Option.{some}
-use mathlib.Core.List.{List, [], _∷_}
+use mathlib.Core.List.{List}
 use native.Mathlib.Omega.{arith}
 use mathlib.Core.Bool.{true, false}
 use borrow.Author.Tests.{eq-eqb, ne-eqb}
 use lib.Dec.{eqb}
-use lib.ListN.{length, getD, drop, getElem?}
+use lib.ListN.{length, drop, getElem?}
 use Rattle.wire.specs.Word.{word}
 use Rattle.wire.proofs.Laws.{word-drop}
-use Rattle.stackmap.specs.Section.{Location, locationFields, liveOutFields, numLocations, locationsEnd, numLiveOuts, liveOutsAt, recordLength, readLocation, readLiveOut, readRecord}
+use Rattle.stackmap.specs.Section.{Location, numLocations, locationsEnd, numLiveOuts, liveOutsAt, recordLength, readLocation, readLiveOut, readRecord}
 use Rattle.stackmap.proofs.Fields.{length-many}
-use Rattle.stackmap.proofs.Items.{location-size, live-out-size}
 use Rattle.questions.specs.declared.LocationAnswer.{LocationAnswer}
 use Rattle.questions.specs.Questions.{thisLocation}
-use Rattle.questions.proofs.Content.{location-at}
+use Rattle.questions.proofs.Content.{getD-some, location-at}
 use Rattle.relocate.specs.Statepoint.{noLocation, locationAt}
 use Rattle.relocate.specs.Code.{recordOf, Stands}
-
-getD-found : {A : Type 0} (d : A) (xs : List A) (j : ℕ) (v : A) → getElem? xs j ≡ some v → getD xs j d ≡ v
-getD-found d [] j v h = absurd (let z : _≡_ {A = ℕ} 0 1 = cc in omega arith)
-getD-found d (x ∷ xs) zero v h = cc
-getD-found d (x ∷ xs) (suc j) v h = getD-found d xs j v h
 
 module _ (s : List ℕ) (at : ℕ) where
   pub num-locations : numLocations (drop at s) ≡ word 2 s (at + 14)
   num-locations = word-drop 2 at s 14
 
-  pub location-here : (j : ℕ) → j < numLocations (drop at s) → locationAt (recordOf s at) j ≡ readLocation s (at + 16 + 12 * j)
-  location-here j h =
-      getD-found noLocation (recordOf s at .locations) j _ (location-at s at (word 2 s (at + 14)) _ refl refl j (rw num-locations at h))
+  pub location-there : (j : ℕ) → j < numLocations (drop at s) → getElem? (recordOf s at .locations) j ≡ some (locationAt (recordOf s at) j)
+  location-there j h =
+      let e = location-at s at (word 2 s (at + 14)) _ refl refl j (rw num-locations at h) in
+      e ∙ ap some (sym (getD-some noLocation (recordOf s at .locations) j _ e))
 
   pub location-inside : Stands s at → (j : ℕ) → j < numLocations (drop at s) → at + 16 + 12 * j + 12 ≤ length s
   unfolding recordLength
@@ -46,11 +41,11 @@ module _ (s : List ℕ) (at : ℕ) where
 
   pub count-locations : length (recordOf s at .locations) ≡ numLocations (drop at s)
   unfolding readRecord
-  count-locations = length-many locationFields readLocation 12 location-size (drop at s) (numLocations (drop at s)) 16
+  count-locations = length-many readLocation 12 (numLocations (drop at s)) (drop at s) 16
 
   count-live-outs : length (recordOf s at .liveOuts) ≡ numLiveOuts (drop at s)
   unfolding readRecord
-  count-live-outs = length-many liveOutFields readLiveOut 4 live-out-size (drop at s) (numLiveOuts (drop at s)) (liveOutsAt (drop at s))
+  count-live-outs = length-many readLiveOut 4 (numLiveOuts (drop at s)) (drop at s) (liveOutsAt (drop at s))
 
   -- n locations stand before the live-outs
   module _ (n : ℕ) (e : n ≡ numLocations (drop at s)) where

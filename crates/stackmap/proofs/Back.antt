@@ -147,7 +147,7 @@ unfolding bind shift chain
 on at n (Valid e) k y h g = rw (h e refl) g
 on at n (Refused q p) k y h g = refl
 
-entry-valid : (c : ℕ) (e : Entry) (n : ℕ) → entryFault c e ≡ Valid n → n ≡ size (recordFields (e .body))
+pub entry-valid : (c : ℕ) (e : Entry) (n : ℕ) → entryFault c e ≡ Valid n → n ≡ size (recordFields (e .body))
 unfolding entryFault
 entry-valid c e n h = let k = chain-rest _ _ _ (must-rest _ _ _ _ _ h) in cc
 
@@ -173,7 +173,7 @@ unfolding owners counted
 length-owners i [] = refl
 length-owners i (f ∷ fs) = rw (length-append, length-replicate, length-owners (suc i) fs)
 
-entries-valid : (c : ℕ) (es : List Entry) (stop n : ℕ) → entriesFault c es stop ≡ Valid n → n ≡ stop
+pub entries-valid : (c : ℕ) (es : List Entry) (stop n : ℕ) → entriesFault c es stop ≡ Valid n → n ≡ stop
 unfolding entriesFault
 entries-valid c [] stop n h = cc
 entries-valid c (e ∷ es) stop n h = entries-valid c es stop n (chain-rest _ _ _ h)
@@ -191,7 +191,7 @@ finish true true q x y h = h refl
 finish true false q x y h = refl
 finish false b q x y h = refl
 
-module _ (t : Section) (fit : Encodable t) where
+module _ (t : Section) where
   abbrev s : List ℕ
   s = encodeSection t
 
@@ -224,86 +224,87 @@ module _ (t : Section) (fit : Encodable t) where
   unfolding sectionFields size
   section-size = simp size-append (omega (arith, tables))
 
-  has : Has s 0 (sectionFields t)
-  unfolding encodeSection
-  has = fields-back s 0 0 (sectionFields t) [] fit (rw append-nil)
+  module _ (fit : Encodable t) where
+    has : Has s 0 (sectionFields t)
+    unfolding encodeSection
+    has = fields-back s 0 0 (sectionFields t) [] fit (rw append-nil)
 
-  record Whats : Type 0 where
-    version : word 1 s 0 ≡ 3
-    reserved : word 3 s 1 ≡ 0
-    functions-num : word 4 s 4 ≡ nf
-    constants-num : word 4 s 8 ≡ nc
-    records-num : word 4 s 12 ≡ length (t .records)
-    functions-in : Has s 16 F
-    constants-in : Has s (16 + 24 * nf) K
-    records-in : Has s (16 + 24 * nf + 8 * nc) R
+    record Whats : Type 0 where
+      version : word 1 s 0 ≡ 3
+      reserved : word 3 s 1 ≡ 0
+      functions-num : word 4 s 4 ≡ nf
+      constants-num : word 4 s 8 ≡ nc
+      records-num : word 4 s 12 ≡ length (t .records)
+      functions-in : Has s 16 F
+      constants-in : Has s (16 + 24 * nf) K
+      records-in : Has s (16 + 24 * nf + 8 * nc) R
 
-  whats : Whats
-  unfolding sectionFields size
-  whats =
-      let k₁ = split s 0 (16 + 24 * nf + 8 * nc) (H ++ F ++ K) R (simp size-append (omega (arith, tables))) has in
-      let k₂ = split s 0 (16 + 24 * nf) (H ++ F) K (simp size-append (omega (arith, tables))) (k₁ .0) in
-      let k₃ = split s 0 16 H F refl (k₂ .0) in
-      record {
-        version = k₃ .0 .0;
-        reserved = k₃ .0 .1 .0;
-        functions-num = k₃ .0 .1 .1 .0;
-        constants-num = k₃ .0 .1 .1 .1 .0;
-        records-num = k₃ .0 .1 .1 .1 .1 .0;
-        functions-in = k₃ .1;
-        constants-in = k₂ .1;
-        records-in = k₁ .1;
-      }
+    whats : Whats
+    unfolding sectionFields size
+    whats =
+        let k₁ = split s 0 (16 + 24 * nf + 8 * nc) (H ++ F ++ K) R (simp size-append (omega (arith, tables))) has in
+        let k₂ = split s 0 (16 + 24 * nf) (H ++ F) K (simp size-append (omega (arith, tables))) (k₁ .0) in
+        let k₃ = split s 0 16 H F refl (k₂ .0) in
+        record {
+          version = k₃ .0 .0;
+          reserved = k₃ .0 .1 .0;
+          functions-num = k₃ .0 .1 .1 .0;
+          constants-num = k₃ .0 .1 .1 .1 .0;
+          records-num = k₃ .0 .1 .1 .1 .1 .0;
+          functions-in = k₃ .1;
+          constants-in = k₂ .1;
+          records-in = k₁ .1;
+        }
 
-  functions-read : readFunctions (encodeSection t) ≡ t .functions
-  unfolding readFunctions
-  functions-read =
-      let w = whats in
-      rw (w .functions-num, many-back functionFields readFunction 24 function-size s (function-back s) (t .functions) 16 (w .functions-in))
+    functions-read : readFunctions (encodeSection t) ≡ t .functions
+    unfolding readFunctions
+    functions-read =
+        let w = whats in
+        rw (w .functions-num, many-back functionFields readFunction 24 function-size s (function-back s) (t .functions) 16 (w .functions-in))
 
-  -- the bytes of a section are read back as the section
-  pub read-back : readSection (encodeSection t) ≡ t
-  unfolding readSection
-  read-back =
-      let w = whats in
-      rw (
-        functions-read,
-        w .functions-num,
-        w .constants-num,
-        w .records-num,
-        many-back constantFields readConstant 8 constant-size s (constant-back s) (t .constants) _ (w .constants-in),
-        records-back s (t .records) _ (w .records-in),
-      )
+    -- the bytes of a section are read back as the section
+    pub read-back : readSection (encodeSection t) ≡ t
+    unfolding readSection
+    read-back =
+        let w = whats in
+        rw (
+          functions-read,
+          w .functions-num,
+          w .constants-num,
+          w .records-num,
+          many-back constantFields readConstant 8 constant-size s (constant-back s) (t .constants) _ (w .constants-in),
+          records-back s (t .records) _ (w .records-in),
+        )
 
-  walk : eqb (counted (t .functions)) (length (t .records)) ≡ true
-      → recordsCheck (owners 0 (t .functions)) s nc (16 + 24 * nf + 8 * nc) ≡ entriesFault nc (entriesOf t) (size (sectionFields t))
-  unfolding entriesOf
-  walk e =
-      let w = whats in
-      let n : length (owners 0 (t .functions)) ≡ length (t .records) = length-owners 0 (t .functions) ∙ eqb-true _ _ e in
-      records-walk s nc (size (sectionFields t)) (omega (arith, encoded-length)) (owners 0 (t .functions)) 0
-      (16 + 24 * nf + 8 * nc) (t .records) n (w .records-in) (sym section-size)
+    walk : eqb (counted (t .functions)) (length (t .records)) ≡ true
+        → recordsCheck (owners 0 (t .functions)) s nc (16 + 24 * nf + 8 * nc) ≡ entriesFault nc (entriesOf t) (size (sectionFields t))
+    unfolding entriesOf
+    walk e =
+        let w = whats in
+        let n : length (owners 0 (t .functions)) ≡ length (t .records) = length-owners 0 (t .functions) ∙ eqb-true _ _ e in
+        records-walk s nc (size (sectionFields t)) (omega (arith, encoded-length)) (owners 0 (t .functions)) 0
+        (16 + 24 * nf + 8 * nc) (t .records) n (w .records-in) (sym section-size)
 
-  -- and refused, or accepted, as the section is
-  pub check-back : sectionCheck (encodeSection t) ≡ sectionFault t
-  unfolding sectionCheck headerCheck tablesCheck walkCheck sectionFault chain must
-  check-back =
-      let w = whats in
-      let v : getD s 0 0 ≡ 3 = sym (byte-word s 0) ∙ w .version in
-      let z = section-size in
-      let l : 16 ≤ size (sectionFields t) = omega arith in
-      let l₁ : 16 + 24 * nf ≤ size (sectionFields t) = omega arith in
-      let l₂ : 16 + 24 * nf + 8 * nc ≤ size (sectionFields t) = omega arith in
-      rw (
-        encoded-length,
-        le-leb 16 _ l,
-        v,
-        zeros-back 3 s 1 (w .reserved),
-        w .functions-num,
-        w .constants-num,
-        w .records-num,
-        functions-read,
-        le-leb _ _ l₁,
-        le-leb _ _ l₂,
-      )
-      (finish (leb (size (sectionFields t)) 16777216) (eqb (counted (t .functions)) (length (t .records))) _ _ _ (λ e. rw (walk e) (at-end _ _ (entries-valid _ _ _))))
+    -- and refused, or accepted, as the section is
+    pub check-back : sectionCheck (encodeSection t) ≡ sectionFault t
+    unfolding sectionCheck headerCheck tablesCheck walkCheck sectionFault chain must
+    check-back =
+        let w = whats in
+        let v : getD s 0 0 ≡ 3 = sym (byte-word s 0) ∙ w .version in
+        let z = section-size in
+        let l : 16 ≤ size (sectionFields t) = omega arith in
+        let l₁ : 16 + 24 * nf ≤ size (sectionFields t) = omega arith in
+        let l₂ : 16 + 24 * nf + 8 * nc ≤ size (sectionFields t) = omega arith in
+        rw (
+          encoded-length,
+          le-leb 16 _ l,
+          v,
+          zeros-back 3 s 1 (w .reserved),
+          w .functions-num,
+          w .constants-num,
+          w .records-num,
+          functions-read,
+          le-leb _ _ l₁,
+          le-leb _ _ l₂,
+        )
+        (finish (leb (size (sectionFields t)) 16777216) (eqb (counted (t .functions)) (length (t .records))) _ _ _ (λ e. rw (walk e) (at-end _ _ (entries-valid _ _ _))))

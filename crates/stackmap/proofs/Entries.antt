@@ -10,12 +10,11 @@ use lib.ListN.{length, drop, getElem?}
 use Rattle.wire.specs.Word.{Bytes}
 use Rattle.stackmap.specs.declared.Verdict.the-variants.{Valid}
 use Rattle.stackmap.specs.Fields.{size, all}
-use Rattle.stackmap.specs.Section.{Record, functionFields, constantFields, recordFields, numRecords, recordsAt, readFunction, readConstant, recordLength, readRecord, readRecords, readFunctions, readSection, Owner, owners, Entry, entriesFrom, entriesOf, entries}
+use Rattle.stackmap.specs.Section.{Record, recordFields, numRecords, recordsAt, readFunction, readConstant, recordLength, readRecord, readRecords, readFunctions, readSection, Owner, owners, Entry, entriesFrom, entriesOf, entries}
 use Rattle.stackmap.specs.Check.{sectionCheck}
 use Rattle.stackmap.proofs.Fields.{size-append, length-many}
-use Rattle.stackmap.proofs.Items.{function-size, constant-size}
 use Rattle.stackmap.proofs.Back.{section-size, length-owners}
-use Rattle.stackmap.proofs.Forth.{read-size, section-long, length-records, accepted-encodable}
+use Rattle.stackmap.proofs.Forth.{read-size, section-long, length-records}
 use Rattle.stackmap.proofs.WellFormed.{accepted-well-formed}
 
 -- one step of the walk, by the bytes at `at`
@@ -70,7 +69,7 @@ length-entries k at (o ∷ os) (r ∷ rs) h = ap suc (length-entries (suc k) (at
 module _ (s : List ℕ) where
   pub begins : 16 + 24 * length (readSection s .functions) + 8 * length (readSection s .constants) ≡ recordsAt s
   unfolding readSection readFunctions
-  begins = rw (length-many functionFields readFunction 24 function-size, length-many constantFields readConstant 8 constant-size)
+  begins = rw (length-many readFunction, length-many readConstant)
 
   pub entry-body : (e : Entry) → List·Memᴰ e (entries s) → e .body ≡ readRecord (drop (e .first) s)
   unfolding entries entriesOf readSection
@@ -85,14 +84,14 @@ module _ (s : List ℕ) where
     unfolding entries entriesOf
     entry-inside e m =
         let i = stretch-inside _ 0 _ _ e m in
-        let z = section-size (readSection s) (accepted-encodable s n k w) in
+        let z = section-size (readSection s) in
         let l = section-long s n k in
         let b : size (recordFields (e .body)) ≡ recordLength (drop (e .first) s) = ap (λ (r : Record). size (recordFields r)) (entry-body e m) ∙ read-size (drop (e .first) s) in
         (omega arith, omega arith)
 
     records-counted : length (readSection s .records) ≡ numRecords s
     unfolding readSection
-    records-counted = length-records s n k (numRecords s) (recordsAt s)
+    records-counted = length-records s (numRecords s) (recordsAt s)
 
     pub entries-counted : length (entries s) ≡ numRecords s
     unfolding entries entriesOf

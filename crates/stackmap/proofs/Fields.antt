@@ -1,6 +1,6 @@
 -- Numbers that stand in a list of bytes, both ways.
 use Prim.Native.Nat.{ℕ, zero, suc, _+_, _*_, _-_, _≤_}
-use mathlib.Core.Path.{_≡_, refl, ap}
+use mathlib.Core.Path.{_≡_, refl, ap, _∙_}
 use mathlib.Core.List.{List, [], _∷_, _++_, append-assoc}
 use native.Mathlib.Omega.{arith}
 use native.Mathlib.Nat.{add-zero, zero-add, add-assoc, mul-suc}
@@ -28,7 +28,7 @@ unfolding size
 size-append [] gs = rw zero-add
 size-append (f ∷ fs) gs = rw (size-append fs gs, add-assoc)
 
-bytesOf-append : (fs gs : List Field) → bytesOf (fs ++ gs) ≡ bytesOf fs ++ bytesOf gs
+pub bytesOf-append : (fs gs : List Field) → bytesOf (fs ++ gs) ≡ bytesOf fs ++ bytesOf gs
 unfolding bytesOf
 bytesOf-append [] gs = refl
 bytesOf-append (f ∷ fs) gs = rw (bytesOf-append fs gs, append-assoc)
@@ -94,6 +94,16 @@ pub join : (s : List ℕ) (a b : ℕ) (fs gs : List Field) → b ≡ a + size fs
 join s a b fs gs e h k = has-join s a 0 b fs gs (omega arith) h k
 
 -- items of one size, one after the other
+
+pub length-many : {A : Type 0} (read : List ℕ → ℕ → A) (step n : ℕ) (s : List ℕ) (at : ℕ) → length (many read step n s at) ≡ n
+unfolding many
+length-many read step zero s at = refl
+length-many read step (suc n) s at = ap suc (length-many read step n s (at + step))
+
+pub size-many : {A : Type 0} (fields : A → List Field) (read : List ℕ → ℕ → A) (step k : ℕ) → ((x : A) → size (fields x) ≡ k) → (n : ℕ) (s : List ℕ) (at : ℕ)
+    → size (all fields (many read step n s at)) ≡ k * n
+size-many fields read step k even n s at = size-all fields k even (many read step n s at) ∙ rw length-many
+
 module _ {A : Type 0} (fields : A → List Field) (read : List ℕ → ℕ → A) (step : ℕ) (even : (x : A) → size (fields x) ≡ step) where
   pub many-back : (s : List ℕ) → ((x : A) (at : ℕ) → Has s at (fields x) → read s at ≡ x)
       → (xs : List A) (at : ℕ) → Has s at (all fields xs) → many read step (length xs) s at ≡ xs
@@ -108,8 +118,3 @@ module _ {A : Type 0} (fields : A → List Field) (read : List ℕ → ℕ → A
   many-has s has zero at = tt
   many-has s has (suc n) at =
       join s at (at + step) (fields (read s at)) (all fields (many read step n s (at + step))) (rw (even (read s at))) (has at) (many-has s has n (at + step))
-
-  pub length-many : (s : List ℕ) (n at : ℕ) → length (many read step n s at) ≡ n
-  unfolding many
-  length-many s zero at = refl
-  length-many s (suc n) at = ap suc (length-many s n (at + step))

@@ -16,7 +16,7 @@ use Rattle.stackmap.specs.Record.{zeros, locationCheck, locations, liveO
 use Rattle.stackmap.specs.Check.{headerCheck, tablesCheck, recordsCheck, walkCheck, sectionCheck}
 use Rattle.stackmap.specs.Fault.{sectionFault}
 use Rattle.stackmap.proofs.Verdicts.{must-held, must-rest, chain-first, chain-rest, bind-first, shift-valid}
-use Rattle.stackmap.proofs.Fields.{Has, HasFrom, join, many-has, length-many, has-bytes, has-fit, size-append, size-all}
+use Rattle.stackmap.proofs.Fields.{Has, HasFrom, join, many-has, length-many, has-bytes, has-fit, size-append, size-many}
 use Rattle.stackmap.proofs.Items.{function-size, constant-size, location-size, live-out-size}
 use Rattle.stackmap.proofs.Back.{check-back, length-owners}
 
@@ -102,13 +102,10 @@ module _ (s : List ℕ) where
 
   fields-read : recordFields (readRecord s) ≡ A ++ B ++ C ++ D ++ E
   unfolding recordFields readRecord
-  fields-read = rw (length-many locationFields readLocation 12 location-size, length-many liveOutFields readLiveOut 4 live-out-size)
+  fields-read = rw (length-many readLocation, length-many readLiveOut)
 
   sizes : (size B ≡ 12 * n) × (size D ≡ 4 * m)
-  sizes = (
-    size-all locationFields 12 location-size _ ∙ rw (length-many locationFields readLocation 12 location-size),
-    size-all liveOutFields 4 live-out-size _ ∙ rw (length-many liveOutFields readLiveOut 4 live-out-size),
-  )
+  sizes = (size-many locationFields readLocation 12 12 location-size n s 16, size-many liveOutFields readLiveOut 4 4 live-out-size m s (locationsEnd s + 4))
 
   pub read-size : size (recordFields (readRecord s)) ≡ recordLength s
   unfolding recordLength size
@@ -172,6 +169,11 @@ module _ (s : List ℕ) (c stop : ℕ) where
       let d : b .0 ≡ at + recordLength (drop at s) = f .2 ∙ ap (λ (x : ℕ). at + x) (ends (drop at s) c (o .function .address) _ (f .1)) in
       one-more (length os) at (o .function .address) _ (f .1) (records-stand os (at + recordLength (drop at s)) (rw d at (b .2)))
 
+pub length-records : (s : List ℕ) (n at : ℕ) → length (readRecords n s at) ≡ n
+unfolding readRecords
+length-records s zero at = refl
+length-records s (suc n) at = ap suc (length-records s n _)
+
 module _ (s : List ℕ) (e : ℕ) (k : sectionCheck s ≡ Valid e) where
   abbrev nf : ℕ
   nf = numFunctions s
@@ -191,20 +193,12 @@ module _ (s : List ℕ) (e : ℕ) (k : sectionCheck s ≡ Valid e) where
   abbrev H : List Field
   H = (1 of 3) ∷ (3 of 0) ∷ (4 of nf) ∷ (4 of nc) ∷ (4 of numRecords s) ∷ []
 
-  pub length-records : (n at : ℕ) → length (readRecords n s at) ≡ n
-  unfolding readRecords
-  length-records zero at = refl
-  length-records (suc n) at = ap suc (length-records n _)
-
   section-fields : sectionFields (readSection s) ≡ H ++ F ++ K ++ R
   unfolding sectionFields readSection readFunctions
-  section-fields = rw (length-many functionFields readFunction 24 function-size, length-many constantFields readConstant 8 constant-size, length-records)
+  section-fields = rw (length-many readFunction, length-many readConstant, length-records)
 
   tables : (size F ≡ 24 * nf) × (size K ≡ 8 * nc)
-  tables = (
-    size-all functionFields 24 function-size _ ∙ rw (length-many functionFields readFunction 24 function-size),
-    size-all constantFields 8 constant-size _ ∙ rw (length-many constantFields readConstant 8 constant-size),
-  )
+  tables = (size-many functionFields readFunction 24 24 function-size nf s 16, size-many constantFields readConstant 8 8 constant-size nc s (constantsAt s))
 
   -- what the check tells
   record Held : Type 0 where

@@ -1,18 +1,23 @@
 -- One turn of each definition that counts down, at a count that is above 0.
-use Prim.Native.Nat.{ℕ, zero, suc, _+_, _-_, _<_}
+use Prim.Native.Nat.{ℕ, zero, suc, _+_, _*_, _-_, _<_}
 use mathlib.Core.Path.{_≡_}
-use mathlib.Core.List.{List, _∷_}
+use mathlib.Core.List.{List, _∷_, _++_}
 use native.Mathlib.Omega.{arith}
-use lib.ListN.{getD}
+use native.Mathlib.Nat.{mul-suc}
+use native.Mathlib.Numerals.{add-one}
+use lib.ListN.{length, getD, replicate}
 use lib.Dec.{eqb}
 use Rattle.stackmap.specs.Verdict.{must, chain}
 use Rattle.stackmap.specs.Fields.{many}
-use Rattle.stackmap.specs.Section.{readFunction, counted}
-use Rattle.wire.specs.Word.{word}
+use Rattle.stackmap.specs.Section.{Function, owners, counted}
 use Rattle.stackmap.specs.Record.{zeros, locationCheck, locations, liveOuts}
 
 back : (n : ℕ) → suc n - 1 ≡ n
 back n = omega arith
+
+pub mul-step : (k n : ℕ) → 0 < n → k * n ≡ k + k * (n - 1)
+mul-step k zero h = absurd (omega arith)
+mul-step k (suc n) h = rw (back, mul-suc) (omega arith)
 
 pub zeros-step : (n : ℕ) (s : List ℕ) (at : ℕ) → 0 < n → zeros n s at ≡ must (eqb (getD s at 0) 0) 3 at (zeros (n - 1) s (at + 1))
 unfolding zeros
@@ -37,7 +42,28 @@ unfolding many
 many-step read step zero s at h = absurd (omega arith)
 many-step read step (suc n) s at h = rw back
 
-pub counted-step : (n : ℕ) (s : List ℕ) (f : ℕ) → 0 < n
-    → counted (many readFunction 24 n s f) ≡ word 8 s (f + 16) + counted (many readFunction 24 (n - 1) s (f + 24))
-unfolding counted readFunction
-counted-step n s f h = rw (many-step readFunction 24 n s f h)
+pub replicate-step : {A : Type 0} (n : ℕ) (x : A) (xs : List A) → 0 < n → replicate n x ++ xs ≡ x ∷ (replicate (n - 1) x ++ xs)
+replicate-step zero x xs h = absurd (omega arith)
+replicate-step (suc n) x xs h = rw back
+
+-- Functions, read one after the other: their record counts, and their records' owners.
+
+module _ (read : List ℕ → ℕ → Function) (step n : ℕ) (s : List ℕ) (at : ℕ) where
+  pub counted-step : 0 < n → counted (many read step n s at) ≡ read s at .count + counted (many read step (n - 1) s (at + step))
+  unfolding counted
+  counted-step h = rw (many-step read step n s at h)
+
+  -- of all n functions, those from number i on
+  pub owners-step : (i : ℕ) → i < n
+      → owners i (many read step (n - i) s at)
+      ≡ replicate (read s at .count) (record { number = i; function = read s at }) ++ owners (i + 1) (many read step (n - (i + 1)) s (at + step))
+  unfolding owners
+  owners-step i h =
+      let b : n - i - 1 ≡ n - (i + 1) = omega arith in
+      rw (many-step read step (n - i) s at (omega arith), b, add-one)
+
+-- records are ahead only while functions are
+pub owners-some : (read : List ℕ → ℕ → Function) (step n : ℕ) (s : List ℕ) (at i : ℕ) → 0 < length (owners i (many read step n s at)) → 0 < n
+unfolding many owners
+owners-some read step zero s at i h = h
+owners-some read step (suc n) s at i h = omega arith

@@ -1,21 +1,16 @@
 -- The owners ahead of a walk.
-use Prim.Native.Nat.{ℕ, zero, suc, _+_, _-_, _≤_, _<_}
+use Prim.Native.Nat.{ℕ, suc, _+_, _-_, _≤_, _<_}
 use mathlib.Core.Path.{_≡_, refl, _∙_}
 use mathlib.Core.List.{List, [], _∷_}
-use mathlib.Core.Bool.{Bool, true, false}
 use native.Mathlib.Omega.{arith}
-use native.Mathlib.Numerals.{add-one}
-use borrow.Author.Tests.{ltb-true, ltb-false}
-use lib.Dec.{ltb}
 use lib.ListN.{length, drop}
 use Rattle.stackmap.specs.declared.Verdict.the-variants.{Valid, Refused}
 use Rattle.stackmap.specs.Verdict.{bind, shift}
-use Rattle.stackmap.specs.Fields.{many}
 use Rattle.stackmap.specs.Section.{numFunctions, numRecords, readFunction, readFunctions, Owner, owners, counted}
 use Rattle.stackmap.specs.Walk.{functionAt, ownerAt, ahead, Turning, Walkable}
 use Rattle.stackmap.specs.Record.{recordCheck}
 use Rattle.stackmap.specs.Check.{recordsCheck}
-use Rattle.stackmap.proofs.Steps.{many-step}
+use Rattle.stackmap.proofs.Steps.{replicate-step, owners-step, owners-some}
 use Rattle.stackmap.proofs.Back.{length-owners}
 use Rattle.stackmap.proofs.Within.{at-within}
 
@@ -30,30 +25,19 @@ module _ (s : List ℕ) where
   -- the next record belongs to the function before `next`
   pub ahead-one : (next left : ℕ) → 0 < left → ahead s next left ≡ ownerAt s (next - 1) ∷ ahead s next (left - 1)
   unfolding ahead
-  ahead-one next zero h = absurd (omega arith)
-  ahead-one next (suc n) h = let b : suc n - 1 ≡ n = omega arith in rw b
+  ahead-one next left h = replicate-step left _ _ h
 
   -- no record is left of a function: those of the next one follow
   pub ahead-next : (next : ℕ) → next < numFunctions s → ahead s next 0 ≡ ahead s (next + 1) (readFunction s (functionAt next) .count)
   unfolding ahead ownerAt
   ahead-next next h =
-      let a : 0 < numFunctions s - next = omega arith in
-      let b : numFunctions s - next - 1 ≡ numFunctions s - (next + 1) = omega arith in
       let d : functionAt next + 24 ≡ functionAt (next + 1) = omega arith in
       let e : next + 1 - 1 ≡ next = omega arith in
-      rw (many-step readFunction 24 (numFunctions s - next) s (functionAt next) a, b, d, e) (unfold owners in rw add-one)
-
-  -- records are ahead only while functions are
-  ahead-last : (next : ℕ) → numFunctions s ≤ next → ahead s next 0 ≡ []
-  unfolding ahead many owners
-  ahead-last next h = let z : numFunctions s - next ≡ 0 = omega arith in rw z
+      rw (owners-step readFunction 24 (numFunctions s) s (functionAt next) next h, d, e)
 
   pub ahead-some : (next : ℕ) → 0 < length (ahead s next 0) → next < numFunctions s
-  ahead-some next h = go (ltb next (numFunctions s)) refl
-    where
-      go : (b : Bool) → ltb next (numFunctions s) ≡ b → next < numFunctions s
-      go true e = ltb-true _ _ e
-      go false e = absurd (let z : length (ahead s next 0) ≡ 0 = rw (ahead-last next (ltb-false _ _ e)) in omega arith)
+  unfolding ahead
+  ahead-some next h = let z = owners-some readFunction 24 (numFunctions s - next) s (functionAt next) next h in omega arith
 
 -- A walk that goes from one turn to the next: what is still ahead, and what the rest of the walk gives.
 pub record Walking (s : List ℕ) (c at : ℕ) (next left remaining p : ℕ) : Type 0 where

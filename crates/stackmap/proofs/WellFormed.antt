@@ -104,7 +104,7 @@ valid-well t n f h =
 
 -- a well-formed section's bytes are accepted, and read back as the section
 pub well-formed-accepted : (t : Section) → WellFormed t → (sectionCheck (encodeSection t) ≡ Valid (length (encodeSection t))) × (readSection (encodeSection t) ≡ t)
-well-formed-accepted t w = (check-back t (w .fits) ∙ well-valid t w ∙ ap Valid (sym (encoded-length t (w .fits))), read-back t (w .fits))
+well-formed-accepted t w = (check-back t (w .fits) ∙ well-valid t w ∙ ap Valid (sym (encoded-length t)), read-back t (w .fits))
 
 -- accepted bytes are read as a well-formed section, and are its bytes
 pub accepted-well-formed : (s : List ℕ) (e : ℕ) → Bytes s → sectionCheck s ≡ Valid e → WellFormed (readSection s) × (encodeSection (readSection s) ≡ s)

@@ -3,8 +3,8 @@ use native.Mathlib.Omega.{arith}
 use Rattle.stackmap.specs.Section.{readLocation, readRecord}
 use Rattle.listing.specs.Listing.{locationItem}
 use Rattle.lister.proofs.Puts.{put-long}
-use Rattle.lister.proofs.Stores.{record-item-size, location-item-size}
-use Rattle.lister.proofs.Loops.{run-size}
+use Rattle.listing.proofs.Listing.{record-item-size, location-item-size}
+use Rattle.stackmap.proofs.Fields.{size-many}
 use Rattle.lister.proofs.Passes.{shaped-size, shaped-inside, record-join}
 use borrow.Author.Needs.{needs}
 use Rattle.lister.proofs.records.put_record.Statement.{statement}
@@ -45,7 +45,7 @@ put-live-outs-requires c κs =
         put-long (p .put-record-item .ensures),
         put-long (q .put-locations .ensures),
         record-item-size (readRecord (b .args .s .now)),
-        run-size locationItem readLocation 12 10 location-item-size (p .before .before .record-shape .result .locations) (b .args .s .now) 16,
+        size-many locationItem readLocation 12 10 location-item-size (p .before .before .record-shape .result .locations) (b .args .s .now) 16,
       ),
     )
 

@@ -4,9 +4,8 @@ use Prim.Native.Nat.{_-_, _≤_}
 use mathlib.Core.Path.{_≡_, sym, _∙_}
 use lib.ListN.{length}
 use Rattle.listing.specs.Layout.{recordKind, recordItemSize}
-use Rattle.listing.proofs.Listing.{yes-item, no-room, other-kind}
+use Rattle.listing.proofs.Listing.{yes-item, no-room, other-kind, records-no}
 use Rattle.parser.specs.Survey.{stopFrom}
-use Rattle.parser.proofs.Bound.{records-none}
 use Rattle.parser.proofs.Records.{stops-here}
 use Rattle.parser.proofs.grammar.records_stop.Statement.{statement}
 use Rattle.parser.proofs.grammar.records_stop.Tie as tie
@@ -30,7 +29,7 @@ returns : tie.Need-returns Inv-loop μ-loop
 returns c =
     let l = c .before .before .before .before .before .args .l .now in
     let p = c .before .before .before .loop in
-    (sym (p .inv .1 ∙ records-none l (length l) (p .at) (other-kind recordKind recordItemSize l (p .at) (c .if1 .taken)) .1), p .inv .0)
+    (sym (p .inv .1 ∙ records-no l (length l) (p .at) (other-kind recordKind recordItemSize l (p .at) (c .if1 .taken)) .1), p .inv .0)
 
 record-shape-requires : tie.Need-record-shape-requires Inv-loop μ-loop
 record-shape-requires c κs = search needs
@@ -49,7 +48,7 @@ returns-2 : tie.Need-returns-2 Inv-loop μ-loop
 returns-2 c =
     let l = c .before .before .before .args .l .now in
     let p = c .before .loop in
-    (sym (p .inv .1 ∙ records-none l (length l) (p .at) (no-room recordKind recordItemSize l (p .at) (omega arith)) .1), p .inv .0)
+    (sym (p .inv .1 ∙ records-no l (length l) (p .at) (no-room recordKind recordItemSize l (p .at) (omega arith)) .1), p .inv .0)
 
 pub records-stop-spec : {M : Type 1} → statement M
 records-stop-spec =

@@ -7,9 +7,9 @@ use lib.ListN.{length}
 use Rattle.stackmap.specs.Fields.{many}
 use Rattle.stackmap.specs.Section.{counted}
 use Rattle.stackmap.proofs.Tests.{eqb-iff}
+use Rattle.stackmap.proofs.Steps.{counted-step}
 use Rattle.listing.specs.Listing.{listedFunction}
 use Rattle.parser.specs.Walk.{functionsOf}
-use Rattle.parser.proofs.Turns.{counted-step}
 use Rattle.parser.proofs.walk.counts_add_up.Statement.{statement}
 use Rattle.parser.proofs.walk.counts_add_up.Tie as tie
 
@@ -29,10 +29,11 @@ u64-at-requires : tie.Need-u64-at-requires Inv-loop μ-loop
 u64-at-requires c κs = search needs
 
 returns : tie.Need-returns Inv-loop μ-loop
+unfolding listedFunction
 returns c =
     let a = c .before .before .before .before .before .args in
     let p = c .before .before .before .loop in
-    let e = counted-step (p .left) (a .l .now) (p .f) (c .before .before .loop-test .taken) in
+    let e = counted-step listedFunction 25 (p .left) (a .l .now) (p .f) (c .before .before .loop-test .taken) in
     rw (ne-eqb (counted (functionsOf (a .l .now) (a .functions))) (a .total) (omega arith))
 
 add-f : tie.Need-add-f Inv-loop μ-loop
@@ -45,9 +46,10 @@ loop-less : tie.Need-loop-less Inv-loop μ-loop
 loop-less c = search needs
 
 loop-again : tie.Need-loop-again Inv-loop μ-loop
+unfolding listedFunction
 loop-again c =
     let p = c .before .before .before .loop in
-    let e = counted-step (p .left) (c .before .before .before .before .before .args .l .now) (p .f) (c .before .before .loop-test .taken) in
+    let e = counted-step listedFunction 25 (p .left) (c .before .before .before .before .before .args .l .now) (p .f) (c .before .before .loop-test .taken) in
     (omega arith, omega arith)
 
 returns-2 : tie.Need-returns-2 Inv-loop μ-loop

@@ -27,10 +27,12 @@ u64-at-requires : tie.Need-u64-at-requires Inv-loop μ-loop
 u64-at-requires c κs = search needs
 
 returns : tie.Need-returns Inv-loop μ-loop
+unfolding readFunction
 returns c =
+    let a = c .before .before .before .before .before .args in
     let l = c .before .before .before .loop in
-    let e = counted-step (l .left) (c .before .before .before .before .before .args .s .now) (l .f) (c .before .before .loop-test .taken) in
-    rw (ne-eqb (counted (many readFunction 24 (c .before .before .before .before .before .args .functions) (c .before .before .before .before .before .args .s .now) 16)) (c .before .before .before .before .before .args .total) (omega arith))
+    let e = counted-step readFunction 24 (l .left) (a .s .now) (l .f) (c .before .before .loop-test .taken) in
+    rw (ne-eqb (counted (many readFunction 24 (a .functions) (a .s .now) 16)) (a .total) (omega arith))
 
 add-f : tie.Need-add-f Inv-loop μ-loop
 add-f c = search needs
@@ -42,18 +44,20 @@ loop-less : tie.Need-loop-less Inv-loop μ-loop
 loop-less c = search needs
 
 loop-again : tie.Need-loop-again Inv-loop μ-loop
+unfolding readFunction
 loop-again c =
     let l = c .before .before .before .loop in
-    let e = counted-step (l .left) (c .before .before .before .before .before .args .s .now) (l .f) (c .before .before .loop-test .taken) in
+    let e = counted-step readFunction 24 (l .left) (c .before .before .before .before .before .args .s .now) (l .f) (c .before .before .loop-test .taken) in
     (omega arith, omega arith)
 
 returns-2 : tie.Need-returns-2 Inv-loop μ-loop
 unfolding counted many
 returns-2 c =
+    let a = c .before .before .before .args in
     let l = c .before .loop in
     let none : l .left ≡ 0 = omega arith in
     let e = rw none at (l .inv .1) in
-    eqb-iff (l .rest) 0 (counted (many readFunction 24 (c .before .before .before .args .functions) (c .before .before .before .args .s .now) 16)) (c .before .before .before .args .total) (λ h. omega arith) (λ h. omega arith)
+    eqb-iff (l .rest) 0 (counted (many readFunction 24 (a .functions) (a .s .now) 16)) (a .total) (λ h. omega arith) (λ h. omega arith)
 
 pub counts-add-up-spec : {M : Type 1} → statement M
 counts-add-up-spec =

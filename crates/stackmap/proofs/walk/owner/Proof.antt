@@ -18,41 +18,27 @@ abbrev μ-loop : tie.MeasureT-loop
 loop-holds : tie.Need-loop-holds Inv-loop μ-loop
 loop-holds c = (c .before .pre .1, c .before .pre .2, refl)
 
+-- where nothing is left and records are ahead, so are functions
+more : (c : tie.In-loop Inv-loop μ-loop) → c .before .loop .next < numFunctions (c .before .before .before .args .s .now)
+more c = ahead-some (c .before .before .before .args .s .now) (c .before .loop .next) (rw (c .loop-test .taken) at (c .before .loop .inv .1))
+
 mul-u64-at : tie.Need-mul-u64-at Inv-loop μ-loop
-mul-u64-at c =
-    let l = c .before .loop in
-    let h = ahead-some (c .before .before .before .args .s .now) (l .next) (rw (c .loop-test .taken) at (l .inv .1)) in
-    omega arith
+mul-u64-at c = let h = more c in omega arith
 
 add-u64-at : tie.Need-add-u64-at Inv-loop μ-loop
-add-u64-at c =
-    let l = c .before .loop in
-    let h = ahead-some (c .before .before .before .args .s .now) (l .next) (rw (c .loop-test .taken) at (l .inv .1)) in
-    omega arith
+add-u64-at c = let h = more c in omega arith
 
 add-u64-at-2 : tie.Need-add-u64-at-2 Inv-loop μ-loop
-add-u64-at-2 c =
-    let l = c .before .loop in
-    let h = ahead-some (c .before .before .before .args .s .now) (l .next) (rw (c .loop-test .taken) at (l .inv .1)) in
-    omega arith
+add-u64-at-2 c = let h = more c in omega arith
 
 u64-at-requires : tie.Need-u64-at-requires Inv-loop μ-loop
-u64-at-requires c κs =
-    let l = c .before .loop in
-    let h = ahead-some (c .before .before .before .args .s .now) (l .next) (rw (c .loop-test .taken) at (l .inv .1)) in
-    omega arith
+u64-at-requires c κs = let h = more c in omega arith
 
 add-next : tie.Need-add-next Inv-loop μ-loop
-add-next c =
-    let l = c .before .before .loop in
-    let h = ahead-some (c .before .before .before .before .args .s .now) (l .next) (rw (c .before .loop-test .taken) at (l .inv .1)) in
-    omega arith
+add-next c = let h = more (c .before) in omega arith
 
 loop-less : tie.Need-loop-less Inv-loop μ-loop
-loop-less c =
-    let l = c .before .before .loop in
-    let h = ahead-some (c .before .before .before .before .args .s .now) (l .next) (rw (c .before .loop-test .taken) at (l .inv .1)) in
-    omega arith
+loop-less c = let h = more (c .before) in omega arith
 
 loop-again : tie.Need-loop-again Inv-loop μ-loop
 unfolding readFunction
@@ -60,9 +46,8 @@ loop-again c =
     let l = c .before .before .loop in
     let s = c .before .before .before .before .args .s .now in
     let some = rw (c .before .loop-test .taken) at (l .inv .1) in
-    let h = ahead-some s (l .next) some in
-    let e = ahead-next s (l .next) h in
-    let r : ahead s (l .next + 1) (c .u64-at .result) ≡ ahead s (l .next) 0 = rw (e, c .u64-at .ensures) in (
+    let h = more (c .before) in
+    let r : ahead s (l .next + 1) (c .u64-at .result) ≡ ahead s (l .next) 0 = rw (ahead-next s (l .next) h, c .u64-at .ensures) in (
       record { most = omega arith; begun = λ _. omega arith },
       rw r some,
       r ∙ rw (c .before .loop-test .taken) at (l .inv .2),
