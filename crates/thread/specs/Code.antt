@@ -1,17 +1,25 @@
 -- What the code's arrays hold while the frames' records are found.
 use Prim.Native.Nat.{ℕ, _+_, _*_, _≤_, _<_}
 use mathlib.Core.Path.{_≡_}
-use mathlib.Core.Bool.{cond}
-use mathlib.Core.List.{List}
+use mathlib.Core.Bool.{Bool, true, false, cond}
+use mathlib.Core.List.{List, [], map}
 use lib.Dec.{eqb}
-use lib.ListN.{getD}
+use lib.ListN.{length, getD}
 use Rattle.stackmap.specs.Section.{Entry, entries}
+use Rattle.stackmap.specs.Check.{Accepted}
 use Rattle.questions.specs.declared.Hits.{Hits}
 use Rattle.questions.specs.declared.Found.{Found}
 use Rattle.questions.specs.Kept.{noted}
 use Rattle.questions.specs.Questions.{withAddress, notFound, firstOf}
 use Rattle.sorted.specs.Sorted.{Sorted, LowerBound, EntryOf}
-use Rattle.thread.specs.Thread.{frameAt}
+use Rattle.moves.specs.declared.Move.{Move}
+use Rattle.moves.specs.Table.{tableRight}
+use Rattle.moves.specs.Settle.{acceptedMove}
+use Rattle.relocate.specs.declared.Frame.{Frame}
+use Rattle.relocate.specs.Plan.{imageRight}
+use Rattle.relocate.specs.Relocation.{answer, moved}
+use Rattle.relocate.specs.Lists.{final}
+use Rattle.thread.specs.Thread.{framesMost, frameNumbers, frameAt, extentOf, apart, judged, pairsIn}
 
 -- The addresses of the first n frames, in order; equal ones stand side by side.
 pub record Gathered (ns keys : List ℕ) (n : ℕ) : Type 0 where
@@ -58,3 +66,30 @@ foundBy h =
 pub record Sought (s keys : List ℕ) (n : ℕ) (hits : List ℕ) : Type 0 where
   pub at : (i : ℕ) → i < n → LowerBound keys n (getD keys i 0) i
       → foundBy (hitsAt hits i) ≡ firstOf (withAddress (getD keys i 0) (entries s))
+
+-- All that a frame's move relies on: 1 to 9, 13 and 14 have passed, and the records of the first `count` frames are found.
+pub record Ready (s olds news : List ℕ) (first long : ℕ) (ns : List ℕ) (count : ℕ) (keys hits : List ℕ) : Type 0 where
+  pub section-right : Accepted s
+  pub image-right : imageRight first long ≡ true
+  pub table-right : tableRight olds news ≡ true
+  pub room : frameNumbers * count ≤ length ns
+  pub most : count ≤ framesMost
+  pub gathered : Gathered ns keys count
+  pub found : Sought s keys count hits
+
+-- the image after a frame is moved, or is only judged
+abbrev pub movedIf : Bool → List ℕ → List ℕ → List ℕ → ℕ → List ℕ → Frame → List ℕ
+movedIf true s olds news first im f = moved s olds news first im f
+movedIf false s olds news first im f = im
+
+-- each of the first `count` frames is accepted by itself
+pub record EachFits (s olds news : List ℕ) (first : ℕ) (im ns : List ℕ) (count : ℕ) : Type 0 where
+  pub at : (k : ℕ) → k < count → answer s olds news first im (frameAt ns k) .number ≡ 0
+
+-- what is left to do once the list is right: the frames, then 26
+unfoldable pub framesAnswer : List ℕ → List ℕ → List ℕ → ℕ → List ℕ → List Frame → Move
+framesAnswer s olds news first im fs =
+    judged s olds news first im 0 fs (apart 0 [] (map (extentOf s) fs) (acceptedMove (pairsIn s olds news first im fs)))
+
+unfoldable pub framesImage : List ℕ → List ℕ → List ℕ → ℕ → List ℕ → List Frame → List ℕ
+framesImage s olds news first im fs = cond (eqb (framesAnswer s olds news first im fs .number) 0) (final s olds news first fs im) im

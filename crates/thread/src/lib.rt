@@ -1,5 +1,7 @@
 // A whole thread in one call: document 02, request 1. The definitions and theorems are in specs/.
 mod addresses;
+mod frames;
+mod list;
 mod search;
 
 // Frames of a list.

@@ -1,0 +1,97 @@
+// The frames of the list, one after another: all are judged before any is moved.
+ghost use mathlib.Core.Path.{_≡_};
+ghost use Prim.Native.Nat.{_<_};
+ghost use lib.ListN.{length};
+ghost use Rattle.moves.specs.Settle.{acceptedMove};
+ghost use Rattle.relocate.specs.Relocation.{answer};
+ghost use Rattle.relocate.specs.Lists.{final};
+ghost use Rattle.thread.specs.Thread.{frameAt, framesFrom, judged, pairsIn};
+ghost use Rattle.thread.specs.Code.{Ready, movedIf};
+use crate::FRAMES_MOST;
+use crate::list;
+use crate::search;
+use crate::search::HITS_LENGTH;
+use moves::Move;
+use relocate::moving;
+
+// The frame at the position k: moved, or only judged.
+fn one(
+    s: &[u8],
+    image: &mut [u8],
+    first: u64,
+    olds: &[u64],
+    news: &[u64],
+    frames: &[u64],
+    count: usize,
+    keys: &[u64; FRAMES_MOST],
+    hits: &[usize; HITS_LENGTH],
+    k: usize,
+    write: bool,
+) -> Move
+    requires { ⌜ Ready (now s) (now olds) (now news) first (length (now image)) (now frames) count (now keys) (now hits) × (k < count) ⌝ }
+    ensures { λ r. ⌜ (r ≡ answer (now (s .entry)) (now (olds .entry)) (now (news .entry)) first (now (image .entry)) (frameAt (now (frames .entry)) k))
+        × (now (image .exit) ≡ movedIf write (now (s .entry)) (now (olds .entry)) (now (news .entry)) first (now (image .entry)) (frameAt (now (frames .entry)) k)) ⌝ }
+{
+    let frame = list::frame_at(frames, k);
+    let found = search::found(keys, count, hits, frame.address);
+    moving::move_found(s, found, image, first, olds, news, frame, write)
+}
+
+// The first refused frame's number with its position, or the sum of the pairs.
+pub fn judge(
+    s: &[u8],
+    image: &mut [u8],
+    first: u64,
+    olds: &[u64],
+    news: &[u64],
+    frames: &[u64],
+    count: usize,
+    keys: &[u64; FRAMES_MOST],
+    hits: &[usize; HITS_LENGTH],
+) -> Move
+    requires { ⌜ Ready (now s) (now olds) (now news) first (length (now image)) (now frames) count (now keys) (now hits) ⌝ }
+    ensures { λ r. ⌜ (r ≡ judged (now (s .entry)) (now (olds .entry)) (now (news .entry)) first (now (image .entry)) 0 (framesFrom (now (frames .entry)) count 0) (acceptedMove (pairsIn (now (s .entry)) (now (olds .entry)) (now (news .entry)) first (now (image .entry)) (framesFrom (now (frames .entry)) count 0))))
+        × (now (image .exit) ≡ now (image .entry)) ⌝ }
+{
+    let mut sum: usize = 0;
+    let mut k: usize = 0;
+    while k < count {
+        let m = one(
+            s, image, first, olds, news, frames, count, keys, hits, k, false,
+        );
+        if m.number != 0 {
+            return moving::refused(m.number, k);
+        }
+        sum += m.count;
+        k += 1;
+    }
+    Move {
+        number: 0,
+        place: 0,
+        count: sum,
+    }
+}
+
+// Moves one frame after another, in the list's order.
+pub fn move_all(
+    s: &[u8],
+    image: &mut [u8],
+    first: u64,
+    olds: &[u64],
+    news: &[u64],
+    frames: &[u64],
+    count: usize,
+    keys: &[u64; FRAMES_MOST],
+    hits: &[usize; HITS_LENGTH],
+)
+    requires { ⌜ Ready (now s) (now olds) (now news) first (length (now image)) (now frames) count (now keys) (now hits) ⌝ }
+    ensures { λ r. ⌜ now (image .exit) ≡ final (now (s .entry)) (now (olds .entry)) (now (news .entry)) first (framesFrom (now (frames .entry)) count 0) (now (image .entry)) ⌝ }
+{
+    let mut k: usize = 0;
+    while k < count {
+        one(
+            s, image, first, olds, news, frames, count, keys, hits, k, true,
+        );
+        k += 1;
+    }
+}

@@ -1,0 +1,45 @@
+// The list of frames: three numbers a frame, address, RBP and RSP.
+ghost use mathlib.Core.Path.{_≡_};
+ghost use mathlib.Core.Bool.{true};
+ghost use Prim.Native.Nat.{_+_, _*_, _/_, _≤_};
+ghost use lib.ListN.{length};
+ghost use Rattle.thread.specs.Thread.{framesMost, frameNumbers, listRight, frameAt};
+use crate::FRAMES_MOST;
+use crate::FRAME_NUMBERS;
+use relocate::Frame;
+
+// The test of refusal 25.
+pub fn list_right(frames: &[u64]) -> bool
+    ensures { λ r. ⌜ r ≡ listRight (now (frames .entry)) ⌝ }
+{
+    if frames.len() % FRAME_NUMBERS != 0 {
+        return false;
+    }
+    if frames.len() / FRAME_NUMBERS > FRAMES_MOST {
+        return false;
+    }
+    true
+}
+
+// How many frames a right list has; 0 of another.
+pub fn count(frames: &[u64]) -> usize
+    ensures { λ r. ⌜ (frameNumbers * r ≤ length (now (frames .entry))) × (r ≤ framesMost) × (listRight (now (frames .entry)) ≡ true → r ≡ length (now (frames .entry)) / frameNumbers) ⌝ }
+{
+    if list_right(frames) {
+        return frames.len() / FRAME_NUMBERS;
+    }
+    0
+}
+
+// The frame at a position.
+pub fn frame_at(frames: &[u64], k: usize) -> Frame
+    requires { ⌜ frameNumbers * k + frameNumbers ≤ length (now frames) ⌝ }
+    ensures { λ r. ⌜ r ≡ frameAt (now (frames .entry)) k ⌝ }
+{
+    let p = FRAME_NUMBERS * k;
+    Frame {
+        address: frames[p],
+        rbp: frames[p + 1],
+        rsp: frames[p + 2],
+    }
+}
