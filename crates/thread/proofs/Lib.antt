@@ -1,3 +1,4 @@
+pub mod StretchesApart
 pub mod Overlaps
 pub mod OneInstant
 pub mod Gathering

@@ -3,6 +3,7 @@ mod addresses;
 mod frames;
 mod list;
 mod search;
+mod stretches;
 
 // Frames of a list.
 pub const FRAMES_MOST: usize = 4096;
