@@ -1,13 +1,17 @@
 -- The addresses are put in order one by one.
-use Prim.Native.Nat.{ℕ, _+_, _*_, _≤_, _<_}
+use Prim.Native.Nat.{ℕ, _+_, _*_, _/_, _%_, _≤_, _<_}
 use mathlib.Core.Path.{_≡_, refl}
+use mathlib.Core.Bool.{true}
 use mathlib.Core.List.{List}
 use native.Mathlib.Omega.{arith}
 use native.Mathlib.Decide.{decLt}
-use lib.ListN.{getD}
+use borrow.Author.Tests.{leb-true}
+use lib.Dec.{eqb, leb}
+use lib.ListN.{length, getD}
 use Rattle.sorted.specs.Sorted.{Sorted, LowerBound, Inserted, EntryOf}
 use Rattle.sorted.proofs.Laws.{old-kept, new-there, inserted-sorted}
-use Rattle.thread.specs.Thread.{frameAt}
+use Rattle.relocate.proofs.Pairing.{and-true}
+use Rattle.thread.specs.Thread.{listRight, frameAt}
 use Rattle.thread.specs.Code.{Gathered}
 
 pub gathered-start : (ns keys : List ℕ) → Gathered ns keys 0
@@ -29,3 +33,8 @@ gathered-on ns before after k x r g b i e =
 pub first-number : (ns : List ℕ) (k : ℕ) → getD ns (3 * k) 0 ≡ frameAt ns k .address
 unfolding frameAt
 first-number ns k = refl
+
+-- a right list has so many frames
+pub right-most : (ns : List ℕ) → listRight ns ≡ true → length ns / 3 ≤ 4096
+unfolding listRight
+right-most ns h = leb-true _ _ (and-true (eqb (length ns % 3) 0) (leb (length ns / 3) 4096) h .1)

@@ -3,3 +3,5 @@ pub mod Overlaps
 pub mod OneInstant
 pub mod Gathering
 pub mod Marks
+pub mod Few
+pub mod Judging

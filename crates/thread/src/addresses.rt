@@ -3,8 +3,8 @@ ghost use Prim.Native.Nat.{_*_, _≤_};
 ghost use lib.ListN.{length};
 ghost use Rattle.thread.specs.Thread.{framesMost, frameNumbers};
 ghost use Rattle.thread.specs.Code.{Gathered};
-use crate::FRAMES_MOST;
 use crate::FRAME_NUMBERS;
+use crate::FRAMES_MOST;
 
 // Puts the addresses of the first `count` frames in order.
 pub fn gather(frames: &[u64], count: usize, keys: &mut [u64; FRAMES_MOST])

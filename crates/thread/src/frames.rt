@@ -57,7 +57,17 @@ pub fn judge(
     let mut k: usize = 0;
     while k < count {
         let m = one(
-            s, image, first, olds, news, frames, count, keys, hits, k, false,
+            s,
+            image,
+            first,
+            olds,
+            news,
+            frames,
+            count,
+            keys,
+            hits,
+            k,
+            false,
         );
         if m.number != 0 {
             return moving::refused(m.number, k);
@@ -90,7 +100,17 @@ pub fn move_all(
     let mut k: usize = 0;
     while k < count {
         one(
-            s, image, first, olds, news, frames, count, keys, hits, k, true,
+            s,
+            image,
+            first,
+            olds,
+            news,
+            frames,
+            count,
+            keys,
+            hits,
+            k,
+            true,
         );
         k += 1;
     }

@@ -4,8 +4,8 @@ ghost use mathlib.Core.Bool.{true};
 ghost use Prim.Native.Nat.{_+_, _*_, _/_, _≤_};
 ghost use lib.ListN.{length};
 ghost use Rattle.thread.specs.Thread.{framesMost, frameNumbers, listRight, frameAt};
-use crate::FRAMES_MOST;
 use crate::FRAME_NUMBERS;
+use crate::FRAMES_MOST;
 use relocate::Frame;
 
 // The test of refusal 25.

@@ -1,59 +1,79 @@
+use Prim.Native.Nat.{ℕ, _-_}
+use mathlib.Core.Path.{_≡_, refl, sym, ap, _∙_}
+use native.Mathlib.Omega.{arith}
+use Rattle.moves.specs.declared.Move.{Move}
+use Rattle.moves.specs.Settle.{acceptedMove}
+use Rattle.thread.specs.Thread.{framesFrom, pairsIn}
+use Rattle.thread.proofs.Judging.{Judging, judging-start, judging-few, judging-on, judging-stop, judging-end}
+use borrow.Author.Needs.{needs}
 use Rattle.thread.proofs.frames.judge.Statement.{statement}
 use Rattle.thread.proofs.frames.judge.Tie as tie
-use Rattle.thread.proofs.frames.judge.Reads as reads
-use Rattle.thread.proofs.frames.judge.Lts as lts
-use Rattle.relocate.proofs.moving.refused.Reads as refused-reads
-use Rattle.thread.proofs.frames.one.Reads as one-reads
 
 abbrev Inv-loop : tie.InvT-loop
-Inv-loop s image₀ first olds news frames count keys hits sum₀ k₀ image sum k = ?
+Inv-loop s image₀ first olds news frames count keys hits sum₀ k₀ image sum k =
+    Judging s olds news first image₀ frames count (acceptedMove (pairsIn s olds news first image₀ (framesFrom frames count 0))) k sum × (image ≡ image₀)
 
 abbrev μ-loop : tie.MeasureT-loop
-μ-loop s image₀ first olds news frames count keys hits sum₀ k₀ image sum k = ?
+μ-loop s image₀ first olds news frames count keys hits sum₀ k₀ image sum k = count - k
 
--- src/frames.rt:58:5
 loop-holds : tie.Need-loop-holds Inv-loop μ-loop
-loop-holds c = ?
+loop-holds c =
+    let q = c .before .before .before .before .before in
+    let a = q .args in
+    (judging-start (a .s .now) (a .olds .now) (a .news .now) (a .first) (a .image .now) (a .frames .now) (a .count) (acceptedMove (pairsIn (a .s .now) (a .olds .now) (a .news .now) (a .first) (a .image .now) (framesFrom (a .frames .now) (a .count) 0))), refl)
 
--- src/frames.rt:59:13
 one-requires : tie.Need-one-requires Inv-loop μ-loop
-one-requires c κs = ?
+one-requires c κs =
+    let q = c .before .before .before .before .before .before .before .before in
+    (rw (c .before .before .loop .inv .1) (q .pre), c .before .loop-test .taken)
 
--- src/frames.rt:63:13
 refused-requires : tie.Need-refused-requires Inv-loop μ-loop
-refused-requires c κs = ?
+refused-requires c κs = search needs
 
--- src/frames.rt:63:13
 same-length : tie.Need-same-length Inv-loop μ-loop
-same-length c = ?
+same-length c =
+    rw (c .before .before .before .before .before .one .ensures .1, c .before .before .before .before .before .before .before .before .loop .inv .1)
 
--- src/frames.rt:63:13
 returns : tie.Need-returns Inv-loop μ-loop
-returns c = ?
+returns c =
+    let q = c .before .before .before .before .before .before .before .before .before .before .before .before .before .before in
+    let a = q .args in
+    let i = c .before .before .before .before .before .before .before .before .loop .inv .1 in
+    (c .refused .ensures ∙ judging-stop (a .s .now) (a .olds .now) (a .news .now) (a .first) (a .image .now) (a .frames .now) (a .count) (acceptedMove (pairsIn (a .s .now) (a .olds .now) (a .news .now) (a .first) (a .image .now) (framesFrom (a .frames .now) (a .count) 0))) (c .before .before .before .before .before .before .before .before .loop .inv .0) (c .before .before .before .before .before .before .before .loop-test .taken) (c .before .before .before .before .before .one .result) (rw i at (c .before .before .before .before .before .one .ensures .0)) (c .before .if1 .taken), c .before .before .before .before .before .one .ensures .1 ∙ i)
 
--- src/frames.rt:65:9
 add-sum : tie.Need-add-sum Inv-loop μ-loop
-add-sum c = ?
+add-sum c =
+    let q = c .before .before .before .before .before .before .before .before .before .before .before .before .before .before in
+    let a = q .args in
+    let i = c .before .before .before .before .before .before .before .before .loop .inv .1 in
+    let w = judging-few (a .s .now) (a .olds .now) (a .news .now) (a .first) (a .image .now) (a .frames .now) (a .count) (acceptedMove (pairsIn (a .s .now) (a .olds .now) (a .news .now) (a .first) (a .image .now) (framesFrom (a .frames .now) (a .count) 0))) (c .before .before .before .before .before .before .before .before .loop .inv .0) (c .before .before .before .before .before .before .before .loop-test .taken) (c .before .before .before .before .before .one .result) (rw i at (c .before .before .before .before .before .one .ensures .0)) in
+    omega (arith, w, c .before .before .before .before .before .before .before .before .loop .inv .0 .few, c .before .before .before .before .before .before .before .before .loop .inv .0 .most, q .pre .most)
 
--- src/frames.rt:66:9
 add-k : tie.Need-add-k Inv-loop μ-loop
-add-k c = ?
+add-k c =
+    let q = c .before .before .before .before .before .before .before .before .before .before .before .before .before .before in
+    let a = q .args in
+    omega (arith, c .before .before .before .before .before .before .before .before .loop .inv .0 .most, q .pre .most)
 
--- src/frames.rt:58:5
 loop-less : tie.Need-loop-less Inv-loop μ-loop
-loop-less c = ?
+loop-less c = search needs
 
--- src/frames.rt:58:5
 loop-again : tie.Need-loop-again Inv-loop μ-loop
-loop-again c = ?
+loop-again c =
+    let q = c .before .before .before .before .before .before .before .before .before .before .before .before .before .before in
+    let a = q .args in
+    let i = c .before .before .before .before .before .before .before .before .loop .inv .1 in
+    (judging-on (a .s .now) (a .olds .now) (a .news .now) (a .first) (a .image .now) (a .frames .now) (a .count) (acceptedMove (pairsIn (a .s .now) (a .olds .now) (a .news .now) (a .first) (a .image .now) (framesFrom (a .frames .now) (a .count) 0))) (c .before .before .before .before .before .before .before .before .loop .inv .0) (c .before .before .before .before .before .before .before .loop-test .taken) (c .before .before .before .before .before .one .result) (rw i at (c .before .before .before .before .before .one .ensures .0)) (c .before .if1 .left), c .before .before .before .before .before .one .ensures .1 ∙ i)
 
--- src/frames.rt:41:1
 same-length-2 : tie.Need-same-length-2 Inv-loop μ-loop
-same-length-2 c = ?
+same-length-2 c = rw (c .before .loop .inv .1)
 
--- src/frames.rt:41:1
 returns-2 : tie.Need-returns-2 Inv-loop μ-loop
-returns-2 c = ?
+returns-2 c =
+    let q = c .before .before .before .before .before .before .before in
+    let a = q .args in
+    let e = judging-end (a .s .now) (a .olds .now) (a .news .now) (a .first) (a .image .now) (a .frames .now) (a .count) (acceptedMove (pairsIn (a .s .now) (a .olds .now) (a .news .now) (a .first) (a .image .now) (framesFrom (a .frames .now) (a .count) 0))) (c .before .loop .inv .0) (c .loop-test .left) in
+    (ap (λ (n : ℕ). acceptedMove n) (sym (e .1)) ∙ sym (e .0), c .before .loop .inv .1)
 
 pub judge-spec : {M : Type 1} → statement M
 judge-spec =

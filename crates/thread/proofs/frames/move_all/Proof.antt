@@ -1,42 +1,50 @@
+use Prim.Native.Nat.{_-_}
+use native.Mathlib.Omega.{arith}
+use Rattle.thread.proofs.Judging.{Moving, moving-start, moving-on, moving-end}
+use borrow.Author.Needs.{needs}
 use Rattle.thread.proofs.frames.move_all.Statement.{statement}
 use Rattle.thread.proofs.frames.move_all.Tie as tie
-use Rattle.thread.proofs.frames.move_all.Reads as reads
-use Rattle.thread.proofs.frames.move_all.Lts as lts
-use Rattle.thread.proofs.frames.one.Reads as one-reads
 
 abbrev Inv-loop : tie.InvT-loop
-Inv-loop s image₀ first olds news frames count keys hits k₀ image k = ?
+Inv-loop s image₀ first olds news frames count keys hits k₀ image k = Moving s olds news first image₀ frames count k image
 
 abbrev μ-loop : tie.MeasureT-loop
-μ-loop s image₀ first olds news frames count keys hits k₀ image k = ?
+μ-loop s image₀ first olds news frames count keys hits k₀ image k = count - k
 
--- src/frames.rt:91:5
 loop-holds : tie.Need-loop-holds Inv-loop μ-loop
-loop-holds c = ?
+loop-holds c =
+    let q = c .before .before .before .before .before in
+    let a = q .args in
+    moving-start (a .s .now) (a .olds .now) (a .news .now) (a .first) (a .image .now) (a .frames .now) (a .count)
 
--- src/frames.rt:92:9
 one-requires : tie.Need-one-requires Inv-loop μ-loop
-one-requires c κs = ?
+one-requires c κs =
+    let q = c .before .before .before .before .before .before .before .before in
+    (rw (c .before .before .loop .inv .long) (q .pre), c .before .loop-test .taken)
 
--- src/frames.rt:95:9
 add-k : tie.Need-add-k Inv-loop μ-loop
-add-k c = ?
+add-k c =
+    let q = c .before .before .before .before .before .before .before .before .before .before .before in
+    let a = q .args in
+    omega (arith, c .before .before .before .before .before .loop .inv .most, q .pre .most)
 
--- src/frames.rt:91:5
 loop-less : tie.Need-loop-less Inv-loop μ-loop
-loop-less c = ?
+loop-less c = search needs
 
--- src/frames.rt:91:5
 loop-again : tie.Need-loop-again Inv-loop μ-loop
-loop-again c = ?
+loop-again c =
+    let q = c .before .before .before .before .before .before .before .before .before .before .before in
+    let a = q .args in
+    moving-on (a .s .now) (a .olds .now) (a .news .now) (a .first) (a .image .now) (a .frames .now) (a .count) (c .before .before .before .before .before .loop .inv) (c .before .before .before .before .loop-test .taken) (c .before .before .one .ensures .1) (c .before .before .one .kept .1 .0)
 
--- src/frames.rt:76:1
 same-length : tie.Need-same-length Inv-loop μ-loop
-same-length c = ?
+same-length c = c .before .loop .inv .long
 
--- src/frames.rt:76:1
 returns : tie.Need-returns Inv-loop μ-loop
-returns c = ?
+returns c =
+    let q = c .before .before .before .before .before .before .before in
+    let a = q .args in
+    moving-end (a .s .now) (a .olds .now) (a .news .now) (a .first) (a .image .now) (a .frames .now) (a .count) (c .before .loop .inv) (c .loop-test .left)
 
 pub move-all-spec : {M : Type 1} → statement M
 move-all-spec =

@@ -1,32 +1,36 @@
+use native.Mathlib.Omega.{arith}
+use Rattle.thread.proofs.Judging.{one-moved}
 use borrow.Author.Needs.{needs}
 use Rattle.thread.proofs.frames.one.Statement.{statement}
 use Rattle.thread.proofs.frames.one.Tie as tie
-use Rattle.thread.proofs.frames.one.Reads as reads
-use Rattle.thread.proofs.frames.one.Lts as lts
-use Rattle.relocate.proofs.moving.move_found.Reads as move-found-reads
-use Rattle.thread.proofs.list.frame_at.Reads as frame-at-reads
-use Rattle.thread.proofs.search.found.Reads as found-reads
 
--- src/frames.rt:35:9
 frame-at-requires : tie.Need-frame-at-requires
-frame-at-requires c κs = search needs
+frame-at-requires c κs =
+    let s = c .before .before .before .before .before in let r = s .pre .0 .room in let l = s .pre .1 in omega arith
 
--- src/frames.rt:36:9
 found-requires : tie.Need-found-requires
-found-requires c κs = ?
+found-requires c κs =
+    let s = c .before .before .before .before .before .before in (s .pre .0 .most, s .pre .0 .gathered .sorted, rw (c .frame-at .ensures) (s .pre .0 .gathered .each _ (s .pre .1)))
 
--- src/frames.rt:37:5
 move-found-requires : tie.Need-move-found-requires
-move-found-requires c κs = ?
+move-found-requires c κs =
+    let s = c .before .before .before .before .before .before .before .before in (s .pre .0 .section-right, c .before .found .ensures _ (s .pre .0 .found), s .pre .0 .image-right, s .pre .0 .table-right)
 
--- src/frames.rt:18:1
 same-length : tie.Need-same-length
 same-length c = search needs
 
--- src/frames.rt:18:1
 returns : tie.Need-returns
-returns c = ?
+returns c =
+    let s = c .before .before .before .before .before .before .before .before .before .before .before in
+    rw (← c .before .before .before .before .before .frame-at .ensures)
+    (one-moved (s .args .s .now) (s .args .olds .now) (s .args .news .now) (s .args .first) (s .args .image .now) (c .before .before .before .before .before .frame-at .result) (s .pre .0 .section-right) (s .pre .0 .image-right) (s .pre .0 .table-right) (s .args .write) _ _ (c .before .before .move-found .ensures))
 
 pub one-spec : {M : Type 1} → statement M
 one-spec =
-    tie.close (tie.spec frame-at-requires found-requires move-found-requires same-length returns)
+    tie.close
+    (tie.spec
+    frame-at-requires
+    found-requires
+    move-found-requires
+    same-length
+    returns)

@@ -1,19 +1,26 @@
+use native.Mathlib.Omega.{arith}
+use borrow.Author.Tests.{eq-eqb, ne-eqb, le-leb, lt-leb}
+use Rattle.thread.specs.Thread.{listRight}
+use borrow.Author.Needs.{needs}
 use Rattle.thread.proofs.list.list_right.Statement.{statement}
 use Rattle.thread.proofs.list.list_right.Tie as tie
-use Rattle.thread.proofs.list.list_right.Reads as reads
-use Rattle.thread.proofs.list.list_right.Lts as lts
 
--- src/list.rt:16:9
 returns : tie.Need-returns
-returns c = ?
+unfolding listRight
+returns c = rw (ne-eqb _ _ (c .if1 .taken))
 
--- src/list.rt:19:9
 returns-2 : tie.Need-returns-2
-returns-2 c = ?
+unfolding listRight
+returns-2 c = rw (eq-eqb _ _ (c .before .if1 .left), lt-leb _ _ (c .if2 .taken))
 
--- src/list.rt:12:1
 returns-3 : tie.Need-returns-3
-returns-3 c = ?
+unfolding listRight
+returns-3 c = rw (eq-eqb _ _ (c .before .if1 .left), le-leb _ _ (c .if2 .left))
 
 pub list-right-spec : {M : Type 1} → statement M
-list-right-spec = tie.close (tie.spec returns returns-2 returns-3)
+list-right-spec =
+    tie.close
+    (tie.spec
+    returns
+    returns-2
+    returns-3)

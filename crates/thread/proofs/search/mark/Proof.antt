@@ -62,10 +62,11 @@ returns c =
     let e = entryAt (a .s .now) (a .index) (a .function) (a .at) in
     let x : address e ≡ c .before .before .before .before .before .before .before .before .before .before .before .u64-at .result + c .before .before .before .before .before .before .before .before .before .before .u32-at .result =
     here-address (a .s .now) (a .index) (a .function) (a .at) ∙ rw (c .before .before .before .before .before .before .before .before .before .before .before .u64-at .ensures, c .before .before .before .before .before .before .before .before .before .before .u32-at .ensures) in
-    let l : LowerBound (a .keys .now) (a .count) (address e) (c .before .before .before .before .before .before .before .before .lower-bound .result) = rw x (c .before .before .before .before .before .before .before .before .lower-bound .ensures) in
-    (marked (a .keys .now) (a .count) e _ l _ _ (c .before .before .before .before .before .before .before .if1 .taken) (c .before .before .before .before .before .if2 .taken ∙ sym x)
-    (rw (x, ← c .before .before .before .hits-at .ensures, ← c .before .before .note .ensures .0) (c .store .ensures)),
-    counted-stored _ _ _ _ _ (c .store .ensures) (c .before .before .note .ensures .1) (c .before .before .before .before .before .before .before .before .before .before .before .before .before .pre .7))
+    let l : LowerBound (a .keys .now) (a .count) (address e) (c .before .before .before .before .before .before .before .before .lower-bound .result) = rw x (c .before .before .before .before .before .before .before .before .lower-bound .ensures) in (
+      marked (a .keys .now) (a .count) e _ l _ _ (c .before .before .before .before .before .before .before .if1 .taken) (c .before .before .before .before .before .if2 .taken ∙ sym x)
+          (rw (x, ← c .before .before .before .hits-at .ensures, ← c .before .before .note .ensures .0) (c .store .ensures)),
+      counted-stored _ _ _ _ _ (c .store .ensures) (c .before .before .note .ensures .1) (c .before .before .before .before .before .before .before .before .before .before .before .before .before .pre .7),
+    )
 
 returns-2 : tie.Need-returns-2
 returns-2 c =

@@ -110,9 +110,10 @@ returns-3 : tie.Need-returns-3 Inv-loop μ-loop
 returns-3 c =
     let none : c .before .before .loop .remaining ≡ 0 = omega arith in
     let q = c .before .before .before .before .before .before in
-    let f = rw none at (c .before .before .loop .inv .1) in
-    (walk-whole (q .args .s .now) _ (c .before .before .before .before .u32-at .ensures) _ (walk-end (f .walking)) (c .if1 .left),
-    λ e z. sought (q .args .s .now) _ _ _ (c .before .before .loop .inv .0) (fold-end notedAll f) (c .before .before .loop .inv .2))
+    let f = rw none at (c .before .before .loop .inv .1) in (
+      walk-whole (q .args .s .now) _ (c .before .before .before .before .u32-at .ensures) _ (walk-end (f .walking)) (c .if1 .left),
+      λ e z. sought (q .args .s .now) _ _ _ (c .before .before .loop .inv .0) (fold-end notedAll f) (c .before .before .loop .inv .2),
+    )
 
 pub walk-all-spec : {M : Type 1} → statement M
 walk-all-spec =

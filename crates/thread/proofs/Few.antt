@@ -1,0 +1,85 @@
+-- A frame's answer counts 256 pairs at most, so the sum of a thread's fits.
+use Prim.Native.Nat.{ℕ, suc, _≤_}
+use mathlib.Core.Path.{_≡_, refl}
+use mathlib.Core.Bool.{Bool, true, false}
+use mathlib.Core.Option.{Option}
+use mathlib.Core.List.{List, [], _∷_, map}
+use native.Mathlib.Omega.{arith}
+use borrow.Author.Tests.{leb-true}
+use lib.Dec.{leb, ltb}
+use lib.ListN.{length, length-map}
+use Rattle.stackmap.specs.declared.Verdict.{Verdict}
+use Rattle.stackmap.specs.declared.Verdict.the-variants.{Valid, Refused}
+use Rattle.stackmap.specs.Section.{Record, Entry, entries, readSection}
+use Rattle.stackmap.specs.Check.{sectionCheck}
+use Rattle.questions.specs.Questions.{ask, withAddress}
+use Rattle.moves.specs.Table.{tableRight, lookUp}
+use Rattle.moves.specs.Pointers.{Pointer}
+use Rattle.moves.specs.Settle.{answerBy, answerFor, first20, first21, settled}
+use Rattle.moves.specs.Plan.{Plan, refuse, window, says}
+use Rattle.relocate.specs.declared.Frame.{Frame}
+use Rattle.relocate.specs.Statepoint.{isStatepoint, Pair, pairs, rightForm, inside, pointerOf}
+use Rattle.relocate.specs.Plan.{need, only, every, imageRight, extentRight, stackSize, planPairs, planRecord, planEntry, plan}
+use Rattle.relocate.specs.Relocation.{answer}
+
+-- a plan with so few pointers
+abbrev Few : Plan → Type 0
+Few (refuse n p) = Unit {0}
+Few (window off size ps) = length ps ≤ 256
+
+need-few : (b : Bool) (n : ℕ) (k : Plan) → (b ≡ true → Few k) → Few (need b n k)
+unfolding need
+need-few true n k h = h refl
+need-few false n k h = tt
+
+only-few : (es : List Entry) (k : Entry → Plan) → ((e : Entry) → Few (k e)) → Few (only es k)
+unfolding only
+only-few [] k h = tt
+only-few (e ∷ []) k h = h e
+only-few (e ∷ e′ ∷ es) k h = tt
+
+every-few : (good : Pair → Bool) (n i : ℕ) (ps : List Pair) (k : Plan) → Few k → Few (every good n i ps k)
+unfolding every
+every-few good n i [] k h = h
+every-few good n i (p ∷ ps) k h = go (good p) (every-few good n (suc i) ps k h)
+  where
+    go : (b : Bool) → Few (every good n (suc i) ps k) → Few (elim b [ true ↦ every good n (suc i) ps k | false ↦ refuse n i ])
+    go true r = r
+    go false r = tt
+
+ask-few : (v : Verdict) (k : Plan) → Few k → Few (ask refuse k v)
+unfolding ask
+ask-few (Valid e) k h = h
+ask-few (Refused n p) k h = tt
+
+pairs-few : (pool : List ℕ) (f : Frame) (off size : ℕ) (ps : List Pair) → length ps ≤ 256 → Few (planPairs pool f off size ps)
+unfolding planPairs
+pairs-few pool f off size ps h =
+    every-few (rightForm pool) 18 0 ps _
+    (every-few (inside pool f size) 19 0 ps _ (rw (length-map ps (pointerOf pool f)) h))
+
+record-few : (pool : List ℕ) (first n : ℕ) (f : Frame) (size : ℕ) (r : Record) → Few (planRecord pool first n f size r)
+unfolding planRecord
+record-few pool first n f size r =
+    need-few _ 12 _ (λ a. need-few _ 16 _ (λ b. need-few _ 17 _ (λ c. pairs-few pool f _ size (pairs r) (leb-true (length (pairs r)) 256 c))))
+
+plan-few : (s olds news : List ℕ) (first n : ℕ) (f : Frame) → Few (plan s olds news first n f)
+unfolding plan
+plan-few s olds news first n f =
+    ask-few (sectionCheck s) _
+    (need-few _ 13 _ (λ a. need-few _ 14 _ (λ b.
+    only-few (withAddress (f .address) (entries s)) _ (λ e. record-few (readSection s .constants) first n f (stackSize e) (e .body)))))
+
+says-few : (table : ℕ → Option ℕ) (im : List ℕ) (p : Plan) → Few p → says table im p .count ≤ 256
+unfolding settled answerFor
+says-few table im (refuse n q) h = omega arith
+says-few table im (window off size ps) h = go (ltb (first20 ps _) (length ps)) (ltb (first21 table ps _) (length ps)) _ _
+  where
+    go : (b d : Bool) (x y : ℕ) → answerBy b d x y (length ps) .count ≤ 256
+    go true d x y = omega arith
+    go false true x y = omega arith
+    go false false x y = h
+
+pub answer-few : (s olds news : List ℕ) (first : ℕ) (im : List ℕ) (f : Frame) → answer s olds news first im f .count ≤ 256
+unfolding answer
+answer-few s olds news first im f = says-few (lookUp olds news) im (plan s olds news first (length im) f) (plan-few s olds news first (length im) f)
