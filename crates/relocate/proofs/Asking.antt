@@ -11,7 +11,7 @@ use lib.ListN.{length}
 use Rattle.wire.specs.Word.{Bytes, word}
 use Rattle.stackmap.specs.declared.Verdict.{Verdict}
 use Rattle.stackmap.specs.declared.Verdict.the-variants.{Valid, Refused}
-use Rattle.stackmap.specs.Section.{numFunctions, readFunction, Entry, address, entries}
+use Rattle.stackmap.specs.Section.{numFunctions, constantsAt, readFunction, Entry, address, entries}
 use Rattle.stackmap.specs.Check.{sectionCheck, Accepted}
 use Rattle.stackmap.proofs.Numbers.{Above, section-above}
 use Rattle.stackmap.proofs.Forth.{accepted-length}
@@ -130,8 +130,8 @@ module _ (s : List ℕ) (a : ℕ) (k : Accepted s) (w : Bytes s) (r : Found) (e 
   pub found-stands : Stands s (r .first)
   found-stands = rw (found .first-is) (stands s a k w (found .entry) (found .alone))
 
-  pub found-inside : 16 + 24 * r .function + 24 ≤ length s
-  found-inside =
-      let n : r .function < numFunctions s = rw (found .function-is) (owner-number s a k w (found .entry) (found .alone)) in
+  -- its function is one of the section's, whose functions are inside
+  pub found-function : (constantsAt s ≤ length s) × (r .function < numFunctions s)
+  found-function =
       let t = tables-inside s (length s) k in
-      omega arith
+      (omega arith, rw (found .function-is) (owner-number s a k w (found .entry) (found .alone)))

@@ -1,10 +1,13 @@
 // A move after the question by address, one stage of the plan a function. Where `write` is false the frame is only judged.
 ghost use mathlib.Core.Path.{_≡_};
 ghost use mathlib.Core.Bool.{true};
-ghost use Prim.Native.Nat.{_+_, _≤_};
+ghost use Prim.Native.Nat.{_+_, _≤_, _<_};
 ghost use lib.ListN.{length};
-ghost use Rattle.stackmap.specs.Section.{entries};
+ghost use Rattle.wire.specs.Word.{word};
+ghost use Rattle.stackmap.specs.Layout.{stackSizeAt};
+ghost use Rattle.stackmap.specs.Section.{numFunctions, constantsAt, entries};
 ghost use Rattle.stackmap.specs.Check.{Accepted};
+ghost use Rattle.stackmap.specs.Walk.{functionAt};
 ghost use Rattle.questions.specs.Questions.{withAddress, firstOf};
 ghost use Rattle.moves.specs.Limits.{pairsMost};
 ghost use Rattle.moves.specs.Table.{tableRight, lookUp};
@@ -121,6 +124,17 @@ fn move_record(
     refused(12, 0)
 }
 
+// The stack size of a function.
+pub fn stack_size(s: &[u8], function: usize) -> u64
+    requires { ⌜ (constantsAt (now s) ≤ length (now s)) × (function < numFunctions (now s)) ⌝ }
+    ensures { λ r. ⌜ r ≡ word 8 (now (s .entry)) (functionAt function + stackSizeAt) ⌝ }
+{
+    wire::u64_at(
+        s,
+        layout::HEADER_SIZE + layout::FUNCTION_SIZE * function + STACK_SIZE_AT,
+    )
+}
+
 // 10, 15 and what follows, of an accepted section.
 pub fn move_found(
     s: &[u8],
@@ -141,9 +155,6 @@ pub fn move_found(
     if found.sharing != 1 {
         return refused(15, 0);
     }
-    let size = wire::u64_at(
-        s,
-        layout::HEADER_SIZE + layout::FUNCTION_SIZE * found.function + STACK_SIZE_AT,
-    );
+    let size = stack_size(s, found.function);
     move_record(s, found.first, size, image, first, olds, news, frame, write)
 }

@@ -45,7 +45,7 @@ frames-step ns n k h =
 pub frames-end : (ns : List ℕ) (n k : ℕ) → n ≤ k → framesFrom ns (n - k) k ≡ []
 frames-end ns n k h = let e : n - k ≡ 0 = omega arith in rw e
 
-frames-start : (ns : List ℕ) (n : ℕ) → framesFrom ns (n - 0) 0 ≡ framesFrom ns n 0
+pub frames-start : (ns : List ℕ) (n : ℕ) → framesFrom ns (n - 0) 0 ≡ framesFrom ns n 0
 frames-start ns n = let e : n - 0 ≡ n = omega arith in rw e
 
 module _ (s olds news : List ℕ) (first : ℕ) (im : List ℕ) (f : Frame) (m : Move) (e : m ≡ answer s olds news first im f) (fs : List Frame) where

@@ -5,3 +5,4 @@ pub mod Gathering
 pub mod Marks
 pub mod Few
 pub mod Judging
+pub mod Earlier

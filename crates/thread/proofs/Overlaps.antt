@@ -20,6 +20,7 @@ use Rattle.relocate.specs.Lists.{Disjoint}
 use Rattle.relocate.proofs.Pairing.{and-true}
 use Rattle.thread.specs.Stretches.{share}
 use Rattle.thread.specs.Thread.{Extent, extentBy, extentOf, sharesOne, apart}
+use Rattle.thread.proofs.StretchesApart.{share-yes, share-told}
 
 -- the byte x is in the stretch from a up to b
 pub record Within (a b x : ℕ) : Type 0 where
@@ -29,21 +30,12 @@ pub record Within (a b x : ℕ) : Type 0 where
 -- Two stretches share a byte exactly if some byte is in both.
 
 pub share-byte : (a b c d : ℕ) → share a b c d ≡ true → (x : ℕ) × Within a b x × Within c d x
-unfolding share
 share-byte a b c d h =
-    let p = and-true _ _ h in
-    let q = and-true _ _ (p .1) in
-    let r = and-true _ _ (q .1) in
-    let ab : a < b = ltb-true _ _ (p .0) in
-    let cd : c < d = ltb-true _ _ (q .0) in
-    let ad : a < d = ltb-true _ _ (r .0) in
-    let cb : c < b = ltb-true _ _ (r .1) in
+    let t = share-told a b c d h in
     (max a c, record { low = omega arith; high = omega arith }, record { low = omega arith; high = omega arith })
 
 pub byte-share : (a b c d x : ℕ) → Within a b x → Within c d x → share a b c d ≡ true
-unfolding share
-byte-share a b c d x p q =
-    rw (lt-ltb a b (omega arith), lt-ltb c d (omega arith), lt-ltb a d (omega arith), lt-ltb c b (omega arith))
+byte-share a b c d x p q = share-yes a b c d (omega arith) (omega arith) (omega arith) (omega arith)
 
 pub share-none : (a b c d : ℕ) → share a b c d ≡ false → (x : ℕ) → Within a b x → Within c d x → ⊥
 share-none a b c d h x p q = true≢false (sym (byte-share a b c d x p q) ∙ h)

@@ -1,10 +1,11 @@
 -- What the code's arrays hold while the frames' records are found.
-use Prim.Native.Nat.{ℕ, _+_, _*_, _≤_, _<_}
+use Prim.Native.Nat.{ℕ, _+_, _*_, _^_, _≤_, _<_}
 use mathlib.Core.Path.{_≡_}
 use mathlib.Core.Bool.{Bool, true, false, cond}
 use mathlib.Core.List.{List, [], map}
 use lib.Dec.{eqb}
 use lib.ListN.{length, getD}
+use Rattle.stackmap.specs.Layout.{stackSizeUnknown}
 use Rattle.stackmap.specs.Section.{Entry, entries}
 use Rattle.stackmap.specs.Check.{Accepted}
 use Rattle.questions.specs.declared.Hits.{Hits}
@@ -16,8 +17,8 @@ use Rattle.moves.specs.declared.Move.{Move}
 use Rattle.moves.specs.Table.{tableRight}
 use Rattle.moves.specs.Settle.{acceptedMove}
 use Rattle.relocate.specs.declared.Frame.{Frame}
-use Rattle.relocate.specs.Plan.{imageRight}
-use Rattle.relocate.specs.Relocation.{answer, moved}
+use Rattle.relocate.specs.Plan.{imageRight, stackSize}
+use Rattle.relocate.specs.Relocation.{moved, OneRecord}
 use Rattle.relocate.specs.Lists.{final}
 use Rattle.thread.specs.Thread.{framesMost, frameNumbers, frameAt, extentOf, apart, judged, pairsIn}
 
@@ -67,24 +68,35 @@ pub record Sought (s keys : List ℕ) (n : ℕ) (hits : List ℕ) : Type 0 where
   pub at : (i : ℕ) → i < n → LowerBound keys n (getD keys i 0) i
       → foundBy (hitsAt hits i) ≡ firstOf (withAddress (getD keys i 0) (entries s))
 
--- All that a frame's move relies on: 1 to 9, 13 and 14 have passed, and the records of the first `count` frames are found.
-pub record Ready (s olds news : List ℕ) (first long : ℕ) (ns : List ℕ) (count : ℕ) (keys hits : List ℕ) : Type 0 where
+-- The section is accepted, and the records of the first `count` frames are found.
+pub record Looked (s ns : List ℕ) (count : ℕ) (keys hits : List ℕ) : Type 0 where
   pub section-right : Accepted s
-  pub image-right : imageRight first long ≡ true
-  pub table-right : tableRight olds news ≡ true
   pub room : frameNumbers * count ≤ length ns
   pub most : count ≤ framesMost
   pub gathered : Gathered ns keys count
   pub found : Sought s keys count hits
 
+-- All that a frame's move relies on: 13 and 14 have passed too.
+pub record Ready (s olds news : List ℕ) (first long : ℕ) (ns : List ℕ) (count : ℕ) (keys hits : List ℕ) : Type 0 where
+  pub looked : Looked s ns count keys hits
+  pub image-right : imageRight first long ≡ true
+  pub table-right : tableRight olds news ≡ true
+
+-- a frame whose extent is known, and ends below 2^64
+pub record Sited (s : List ℕ) (f : Frame) : Type 0 where
+  pub entry : Entry
+  pub one : OneRecord s f entry
+  pub known : stackSize entry ≡ stackSizeUnknown → ⊥
+  pub ends : f .rsp + stackSize entry < 2 ^ 64
+
+-- each of the first `count` frames has one
+pub record EachSited (s ns : List ℕ) (count : ℕ) : Type 0 where
+  pub at : (k : ℕ) → k < count → Sited s (frameAt ns k)
+
 -- the image after a frame is moved, or is only judged
 abbrev pub movedIf : Bool → List ℕ → List ℕ → List ℕ → ℕ → List ℕ → Frame → List ℕ
 movedIf true s olds news first im f = moved s olds news first im f
 movedIf false s olds news first im f = im
-
--- each of the first `count` frames is accepted by itself
-pub record EachFits (s olds news : List ℕ) (first : ℕ) (im ns : List ℕ) (count : ℕ) : Type 0 where
-  pub at : (k : ℕ) → k < count → answer s olds news first im (frameAt ns k) .number ≡ 0
 
 -- what is left to do once the list is right: the frames, then 26
 unfoldable pub framesAnswer : List ℕ → List ℕ → List ℕ → ℕ → List ℕ → List Frame → Move

@@ -1,5 +1,6 @@
 // A whole thread in one call: document 02, request 1. The definitions and theorems are in specs/.
 mod addresses;
+mod extents;
 mod frames;
 mod list;
 mod search;

@@ -5,7 +5,7 @@ use Rattle.stackmap.specs.Section.{entries}
 use Rattle.questions.specs.Questions.{withAddress}
 use Rattle.relocate.specs.Plan.{planEntry}
 use Rattle.relocate.specs.Code.{poolOf}
-use Rattle.relocate.proofs.Asking.{none-found, several-found, found-stands, found-inside}
+use Rattle.relocate.proofs.Asking.{none-found, several-found, found-stands, found-function}
 use Rattle.relocate.proofs.Stages.{refuses, entry-plan}
 use borrow.Author.Needs.{needs}
 use Rattle.relocate.proofs.moving.move_found.Statement.{statement}
@@ -27,45 +27,27 @@ returns-2 c =
     let s = c .before .before .before .before .before .before .before .before .before in
     refuses _ _ _ _ _ 15 0 (c .refused2 .ensures) (several-found (s .args .found) (planEntry (poolOf (s .args .s .now)) (s .args .first) (length (s .args .image .now)) (s .args .frame)) (withAddress (s .args .frame .address) (entries (s .args .s .now))) (s .pre .1) (c .before .before .before .if1 .left) (c .before .if2 .taken))
 
-mul-u64-at : tie.Need-mul-u64-at
-mul-u64-at c =
-    let s = c .before .before .before .before .before .before .before .before .before in
-    let w : Bytes (s .args .s .now) = record { below = λ i. c .before .before .before .before .before .before .before .before .shared-slice-known .given i .fits } in
-    omega (arith, found-inside (s .args .s .now) (s .args .frame .address) (s .pre .0) w (s .args .found) (s .pre .1) (c .before .before .before .if1 .left) (c .before .if2 .left))
-
-add-u64-at : tie.Need-add-u64-at
-add-u64-at c =
-    let s = c .before .before .before .before .before .before .before .before .before in
-    let w : Bytes (s .args .s .now) = record { below = λ i. c .before .before .before .before .before .before .before .before .shared-slice-known .given i .fits } in
-    omega (arith, found-inside (s .args .s .now) (s .args .frame .address) (s .pre .0) w (s .args .found) (s .pre .1) (c .before .before .before .if1 .left) (c .before .if2 .left))
-
-add-u64-at-2 : tie.Need-add-u64-at-2
-add-u64-at-2 c =
-    let s = c .before .before .before .before .before .before .before .before .before in
-    let w : Bytes (s .args .s .now) = record { below = λ i. c .before .before .before .before .before .before .before .before .shared-slice-known .given i .fits } in
-    omega (arith, found-inside (s .args .s .now) (s .args .frame .address) (s .pre .0) w (s .args .found) (s .pre .1) (c .before .before .before .if1 .left) (c .before .if2 .left))
-
-u64-at-requires : tie.Need-u64-at-requires
-u64-at-requires c κs =
-    let s = c .before .before .before .before .before .before .before .before .before in
-    let w : Bytes (s .args .s .now) = record { below = λ i. c .before .before .before .before .before .before .before .before .shared-slice-known .given i .fits } in
-    omega (arith, found-inside (s .args .s .now) (s .args .frame .address) (s .pre .0) w (s .args .found) (s .pre .1) (c .before .before .before .if1 .left) (c .before .if2 .left))
+stack-size-requires : tie.Need-stack-size-requires
+stack-size-requires c κs =
+    let s = c .before .before .before .before .before .before .before .before in
+    let w : Bytes (s .args .s .now) = record { below = λ i. c .before .before .before .before .before .before .before .shared-slice-known .given i .fits } in
+    found-function (s .args .s .now) (s .args .frame .address) (s .pre .0) w (s .args .found) (s .pre .1) (c .before .before .if1 .left) (c .if2 .left)
 
 move-record-requires : tie.Need-move-record-requires
 move-record-requires c κs =
-    let s = c .before .before .before .before .before .before .before .before .before .before .before in
-    let w : Bytes (s .args .s .now) = record { below = λ i. c .before .before .before .before .before .before .before .before .before .before .shared-slice-known .given i .fits } in
-    (found-stands (s .args .s .now) (s .args .frame .address) (s .pre .0) w (s .args .found) (s .pre .1) (c .before .before .before .before .before .if1 .left) (c .before .before .before .if2 .left), s .pre .2, s .pre .3)
+    let s = c .before .before .before .before .before .before .before .before .before .before in
+    let w : Bytes (s .args .s .now) = record { below = λ i. c .before .before .before .before .before .before .before .before .before .shared-slice-known .given i .fits } in
+    (found-stands (s .args .s .now) (s .args .frame .address) (s .pre .0) w (s .args .found) (s .pre .1) (c .before .before .before .before .if1 .left) (c .before .before .if2 .left), s .pre .2, s .pre .3)
 
 same-length : tie.Need-same-length
 same-length c = search needs
 
 returns-3 : tie.Need-returns-3
 returns-3 c =
-    let s = c .before .before .before .before .before .before .before .before .before .before .before .before .before .before in
-    let w : Bytes (s .args .s .now) = record { below = λ i. c .before .before .before .before .before .before .before .before .before .before .before .before .before .shared-slice-known .given i .fits } in
-    rw (entry-plan (s .args .s .now) (s .args .frame .address) (poolOf (s .args .s .now)) (s .args .first) (length (s .args .image .now)) (s .args .frame) (s .args .found) (c .before .before .before .before .u64-at .result)
-    (s .pre .0) w (s .pre .1) (c .before .before .before .before .before .before .before .before .if1 .left) (c .before .before .before .before .before .before .if2 .left) (c .before .before .before .before .u64-at .ensures))
+    let s = c .before .before .before .before .before .before .before .before .before .before .before .before .before in
+    let w : Bytes (s .args .s .now) = record { below = λ i. c .before .before .before .before .before .before .before .before .before .before .before .before .shared-slice-known .given i .fits } in
+    rw (entry-plan (s .args .s .now) (s .args .frame .address) (poolOf (s .args .s .now)) (s .args .first) (length (s .args .image .now)) (s .args .frame) (s .args .found) (c .before .before .before .before .stack-size .result)
+    (s .pre .0) w (s .pre .1) (c .before .before .before .before .before .before .before .if1 .left) (c .before .before .before .before .before .if2 .left) (c .before .before .before .before .stack-size .ensures))
     (c .before .before .move-record .ensures)
 
 pub move-found-spec : {M : Type 1} → statement M
@@ -76,10 +58,7 @@ move-found-spec =
     returns
     refused-requires-2
     returns-2
-    mul-u64-at
-    add-u64-at
-    add-u64-at-2
-    u64-at-requires
+    stack-size-requires
     move-record-requires
     same-length
     returns-3)

@@ -47,13 +47,13 @@ add-sum c =
     let a = q .args in
     let i = c .before .before .before .before .before .before .before .before .loop .inv .1 in
     let w = judging-few (a .s .now) (a .olds .now) (a .news .now) (a .first) (a .image .now) (a .frames .now) (a .count) (acceptedMove (pairsIn (a .s .now) (a .olds .now) (a .news .now) (a .first) (a .image .now) (framesFrom (a .frames .now) (a .count) 0))) (c .before .before .before .before .before .before .before .before .loop .inv .0) (c .before .before .before .before .before .before .before .loop-test .taken) (c .before .before .before .before .before .one .result) (rw i at (c .before .before .before .before .before .one .ensures .0)) in
-    omega (arith, w, c .before .before .before .before .before .before .before .before .loop .inv .0 .few, c .before .before .before .before .before .before .before .before .loop .inv .0 .most, q .pre .most)
+    omega (arith, w, c .before .before .before .before .before .before .before .before .loop .inv .0 .few, c .before .before .before .before .before .before .before .before .loop .inv .0 .most, q .pre .looked .most)
 
 add-k : tie.Need-add-k Inv-loop μ-loop
 add-k c =
     let q = c .before .before .before .before .before .before .before .before .before .before .before .before .before .before in
     let a = q .args in
-    omega (arith, c .before .before .before .before .before .before .before .before .loop .inv .0 .most, q .pre .most)
+    omega (arith, c .before .before .before .before .before .before .before .before .loop .inv .0 .most, q .pre .looked .most)
 
 loop-less : tie.Need-loop-less Inv-loop μ-loop
 loop-less c = search needs

@@ -26,7 +26,7 @@ add-k : tie.Need-add-k Inv-loop μ-loop
 add-k c =
     let q = c .before .before .before .before .before .before .before .before .before .before .before in
     let a = q .args in
-    omega (arith, c .before .before .before .before .before .loop .inv .most, q .pre .most)
+    omega (arith, c .before .before .before .before .before .loop .inv .most, q .pre .looked .most)
 
 loop-less : tie.Need-loop-less Inv-loop μ-loop
 loop-less c = search needs

@@ -6,15 +6,15 @@ use Rattle.thread.proofs.frames.one.Tie as tie
 
 frame-at-requires : tie.Need-frame-at-requires
 frame-at-requires c κs =
-    let s = c .before .before .before .before .before in let r = s .pre .0 .room in let l = s .pre .1 in omega arith
+    let s = c .before .before .before .before .before in let r = s .pre .0 .looked .room in let l = s .pre .1 in omega arith
 
 found-requires : tie.Need-found-requires
 found-requires c κs =
-    let s = c .before .before .before .before .before .before in (s .pre .0 .most, s .pre .0 .gathered .sorted, rw (c .frame-at .ensures) (s .pre .0 .gathered .each _ (s .pre .1)))
+    let s = c .before .before .before .before .before .before in (s .pre .0 .looked .most, s .pre .0 .looked .gathered .sorted, rw (c .frame-at .ensures) (s .pre .0 .looked .gathered .each _ (s .pre .1)))
 
 move-found-requires : tie.Need-move-found-requires
 move-found-requires c κs =
-    let s = c .before .before .before .before .before .before .before .before in (s .pre .0 .section-right, c .before .found .ensures _ (s .pre .0 .found), s .pre .0 .image-right, s .pre .0 .table-right)
+    let s = c .before .before .before .before .before .before .before .before in (s .pre .0 .looked .section-right, c .before .found .ensures _ (s .pre .0 .looked .found), s .pre .0 .image-right, s .pre .0 .table-right)
 
 same-length : tie.Need-same-length
 same-length c = search needs
@@ -23,7 +23,7 @@ returns : tie.Need-returns
 returns c =
     let s = c .before .before .before .before .before .before .before .before .before .before .before in
     rw (← c .before .before .before .before .before .frame-at .ensures)
-    (one-moved (s .args .s .now) (s .args .olds .now) (s .args .news .now) (s .args .first) (s .args .image .now) (c .before .before .before .before .before .frame-at .result) (s .pre .0 .section-right) (s .pre .0 .image-right) (s .pre .0 .table-right) (s .args .write) _ _ (c .before .before .move-found .ensures))
+    (one-moved (s .args .s .now) (s .args .olds .now) (s .args .news .now) (s .args .first) (s .args .image .now) (c .before .before .before .before .before .frame-at .result) (s .pre .0 .looked .section-right) (s .pre .0 .image-right) (s .pre .0 .table-right) (s .args .write) _ _ (c .before .before .move-found .ensures))
 
 pub one-spec : {M : Type 1} → statement M
 one-spec =
