@@ -6,3 +6,4 @@ pub mod Marks
 pub mod Few
 pub mod Judging
 pub mod Earlier
+pub mod Whole

@@ -52,7 +52,7 @@ module _ (s olds news : List ℕ) (first : ℕ) (im : List ℕ) where
   abbrev Each : List Frame → Type 0
   Each fs = (f : Frame) → List·Memᴰ f fs → ans f .number ≡ 0
 
-  judged-tells : (i : ℕ) (fs : List Frame) (k : Move) → judged s olds news first im i fs k .number ≡ 0 → Each fs × (k .number ≡ 0)
+  pub judged-tells : (i : ℕ) (fs : List Frame) (k : Move) → judged s olds news first im i fs k .number ≡ 0 → Each fs × (k .number ≡ 0)
   unfolding judged
   judged-tells i [] k h = (λ f m. absurd (List·Memᴰ·not-nil m), h)
   judged-tells i (f ∷ fs) k h =
@@ -60,7 +60,7 @@ module _ (s olds news : List ℕ) (first : ℕ) (im : List ℕ) where
       let r = judged-tells (suc i) fs k (p .1) in
       (λ g m. ⊎-elim (λ e. rw e (p .0)) (λ n. r .0 g n) (List·Memᴰ·cases-cons m), r .1)
 
-  judged-passes : (i : ℕ) (fs : List Frame) (k : Move) → Each fs → judged s olds news first im i fs k ≡ k
+  pub judged-passes : (i : ℕ) (fs : List Frame) (k : Move) → Each fs → judged s olds news first im i fs k ≡ k
   unfolding judged passes
   judged-passes i [] k a = refl
   judged-passes i (f ∷ fs) k a =
