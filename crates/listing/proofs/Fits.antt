@@ -1,7 +1,7 @@
 -- Numbers that fit the section's fields fit the listing's, and the other way where no list is too long.
 use Prim.Native.Nat.{ℕ, _+_, _*_, _-_, _%_, _^_, _≤_, _<_}
 use mathlib.Core.Path.{_≡_, refl, ap}
-use mathlib.Core.List.{List, [], _∷_, _++_, List·Memᴰ, List·Memᴰ·head, List·Memᴰ·tail}
+use mathlib.Core.List.{List, [], _∷_, _++_}
 use mathlib.Core.Bool.{Bool, true, false, _&&_}
 use native.Mathlib.Omega.{arith}
 use native.Mathlib.Nat.{one-le-pow}
@@ -11,37 +11,14 @@ use Rattle.stackmap.specs.declared.Verdict.the-variants.{Valid}
 use Rattle.stackmap.specs.Fields.{size, Field, Fit, _of_, all}
 use Rattle.stackmap.specs.Section.{Encodable, Function, LiveOut, Location, Record, Section, constantFields, functionFields, liveOutFields, locationFields, recordFields, sectionFields}
 use Rattle.stackmap.specs.Verdict.{must}
-use Rattle.stackmap.proofs.Fields.{size-append}
+use Rattle.stackmap.proofs.Fields.{size-append, fit-join, fit-first, fit-second}
 use Rattle.stackmap.proofs.Verdicts.{must-held, must-rest}
 use Rattle.listing.specs.Listing.{functionItem, constantItem, recordItem, locationItem, liveOutItem, endItem, recordItems, listingFields, notTooMany}
-
-pub fit-join : (fs gs : List Field) → Fit fs → Fit gs → Fit (fs ++ gs)
-fit-join [] gs h k = k
-fit-join (f ∷ fs) gs h k = (h .0, fit-join fs gs (h .1) k)
-
-pub fit-first : (fs gs : List Field) → Fit (fs ++ gs) → Fit fs
-fit-first [] gs h = tt
-fit-first (f ∷ fs) gs h = (h .0, fit-first fs gs (h .1))
-
-pub fit-second : (fs gs : List Field) → Fit (fs ++ gs) → Fit gs
-fit-second [] gs h = h
-fit-second (f ∷ fs) gs h = fit-second fs gs (h .1)
 
 fit-map : {A : Type 0} (f g : A → List Field) → ((x : A) → Fit (f x) → Fit (g x)) → (xs : List A) → Fit (all f xs) → Fit (all g xs)
 unfolding all
 fit-map f g h [] k = tt
 fit-map f g h (x ∷ xs) k = fit-join (g x) (all g xs) (h x (fit-first (f x) (all f xs) k)) (fit-map f g h xs (fit-second (f x) (all f xs) k))
-
--- each item's numbers fit
-pub fit-each : {A : Type 0} (f : A → List Field) (xs : List A) → ((x : A) → List·Memᴰ x xs → Fit (f x)) → Fit (all f xs)
-unfolding all
-fit-each f [] h = tt
-fit-each f (x ∷ xs) h = fit-join (f x) (all f xs) (h x (List·Memᴰ·head refl)) (fit-each f xs (λ y m. h y (List·Memᴰ·tail m)))
-
-pub each-fit : {A : Type 0} (f : A → List Field) {x : A} {xs : List A} → Fit (all f xs) → List·Memᴰ x xs → Fit (f x)
-unfolding all
-each-fit f {x} h (List·Memᴰ·head {x = y} {xs = ys} e) = rw e (fit-first (f y) (all f ys) h)
-each-fit f {x} h (List·Memᴰ·tail {x = y} {xs = ys} m) = each-fit f (fit-second (f y) (all f ys) h) m
 
 function-to : (f : Function) → Fit (functionFields f) → Fit (functionItem f)
 unfolding functionFields functionItem

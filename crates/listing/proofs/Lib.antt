@@ -1,6 +1,6 @@
 pub mod Fits
 pub mod Listing
-pub mod Above
+pub mod Refusals
 pub mod Writes
 pub mod RoundTrip
 pub mod Short
