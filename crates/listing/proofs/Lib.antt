@@ -1,4 +1,5 @@
 pub mod Fits
+pub mod Items
 pub mod Listing
 pub mod Refusals
 pub mod Writes
