@@ -63,9 +63,7 @@ loop-again c =
     (c .before .before .before .before .before .owner .ensures .2) (c .before .before .before .before .before .owner .ensures .3) (sym (c .before .before .before .before .record-at .ensures) ∙ c .before .before .end .given .1)
 
 returns-2 : tie.Need-returns-2 Inv-loop μ-loop
-returns-2 c =
-    let none : c .before .loop .remaining ≡ 0 = omega arith in
-    sym (rw (← c .before .before .before .u32-at .ensures) (walk-end (rw none at (c .before .loop .inv))))
+returns-2 c = sym (rw (← c .before .before .before .u32-at .ensures) (walk-end (c .before .loop .inv) (omega arith)))
 
 pub all-records-spec : {M : Type 1} → statement M
 all-records-spec =
