@@ -9,12 +9,12 @@ use borrow.Author.Tests.{le-leb, lt-leb, leb-true, eq-eqb, ne-eqb, eqb-true}
 use lib.ListN.{length, getD}
 use lib.Dec.{leb}
 use Rattle.wire.specs.Word.{word}
-use Rattle.stackmap.specs.Fields.{size, Field, _of_, all, many}
+use Rattle.stackmap.specs.Fields.{size, Field, all, many}
 use Rattle.stackmap.specs.Section.{Function, LiveOut, Location, Record}
 use Rattle.stackmap.proofs.Fields.{Has, join, split}
+use Rattle.stackmap.proofs.Tests.{and-true}
 use Rattle.stackmap.proofs.Items.{byte-word}
 use Rattle.listing.specs.Listing.{functionItem, constantItem, recordItem, locationItem, liveOutItem, stands, run, listedFunction, listedConstant, listedLocation, listedLiveOut, listedRecord, recordStop, listedRecords, recordsStop}
-use Rattle.listing.proofs.Fits.{and-true}
 
 -- Sizes.
 

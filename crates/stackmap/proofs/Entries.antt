@@ -1,21 +1,18 @@
 -- The entries of a section, as a walk over its bytes finds them.
 use Prim.Native.Nat.{ℕ, zero, suc, _+_, _*_, _-_, _≤_, _<_}
-use mathlib.Core.Path.{_≡_, refl, sym, _∙_, ap}
+use mathlib.Core.Path.{_≡_, _∙_, ap}
 use mathlib.Core.List.{List, [], _∷_, List·Memᴰ, List·Memᴰ·head, List·Memᴰ·tail, List·Memᴰ·not-nil, List·Memᴰ·cases-cons, List·Memᴰ·append-cases}
 use mathlib.Core.Logic.{⊎-elim}
-use mathlib.Core.Option.{Option, none, some}
 use native.Mathlib.Omega.{arith}
-use native.Mathlib.Nat.{add-zero}
-use lib.ListN.{length, drop, getElem?, replicate}
+use lib.ListN.{length, drop, replicate}
 use Rattle.wire.specs.Word.{Bytes}
 use Rattle.stackmap.specs.declared.Verdict.the-variants.{Valid}
 use Rattle.stackmap.specs.Fields.{size, all, many}
 use Rattle.stackmap.specs.Section.{Record, recordFields, numFunctions, numRecords, recordsAt, readFunction, readConstant, recordLength, readRecord, readRecords, readFunctions, readSection, Owner, owners, Entry, entriesFrom, entriesOf, entries}
 use Rattle.stackmap.specs.Check.{sectionCheck}
 use Rattle.stackmap.proofs.Fields.{size-append, length-many}
-use Rattle.stackmap.proofs.Back.{section-size, length-owners}
-use Rattle.stackmap.proofs.Forth.{read-size, section-long, length-records}
-use Rattle.stackmap.proofs.WellFormed.{accepted-well-formed}
+use Rattle.stackmap.proofs.Back.{section-size}
+use Rattle.stackmap.proofs.Forth.{read-size, section-long}
 
 -- one step of the walk, by the bytes at `at`
 pub entries-step : (k at n : ℕ) (o : Owner) (os : List Owner) (s : List ℕ)
@@ -46,25 +43,6 @@ stretch-inside (r ∷ rs) k at (o ∷ os) e m =
     ⊎-elim (λ q. rw q (omega arith, omega arith))
     (λ h. let i = stretch-inside rs (suc k) (at + size (recordFields r)) os e h in (omega arith, omega arith))
     (List·Memᴰ·cases-cons m)
-
--- a record's number is its place in the list
-numbered : (j k at : ℕ) (os : List Owner) (rs : List Record) (e : Entry) → getElem? (entriesFrom k at os rs) j ≡ some e → e .number ≡ k + j
-unfolding entriesFrom
-numbered j k at [] rs e h = absurd (let z : _≡_ {A = ℕ} 0 1 = cc in omega arith)
-numbered j k at (o ∷ os) [] e h = absurd (let z : _≡_ {A = ℕ} 0 1 = cc in omega arith)
-numbered zero k at (o ∷ os) (r ∷ rs) e h = let q : e .number ≡ k = ap (λ (x : Option Entry). nameOf x) (sym h) in q ∙ sym (add-zero k)
-  where
-    nameOf : Option Entry → ℕ
-    nameOf none = 0
-    nameOf (some x) = x .number
-numbered (suc j) k at (o ∷ os) (r ∷ rs) e h = numbered j (suc k) (at + size (recordFields r)) os rs e h ∙ omega arith
-
-length-entries : (k at : ℕ) (os : List Owner) (rs : List Record) → length os ≡ length rs → length (entriesFrom k at os rs) ≡ length rs
-unfolding entriesFrom
-length-entries k at [] [] h = refl
-length-entries k at [] (r ∷ rs) h = absurd (omega arith)
-length-entries k at (o ∷ os) [] h = absurd (omega arith)
-length-entries k at (o ∷ os) (r ∷ rs) h = ap suc (length-entries (suc k) (at + size (recordFields r)) os rs (omega arith))
 
 -- The function that a record belongs to, by its number.
 
@@ -115,10 +93,6 @@ module _ (s : List ℕ) where
   unfolding entries entriesOf readSection
   entry-body e m = from-stretch (numRecords s) 0 (recordsAt s) (owners 0 (readSection s .functions)) s e (rw begins at m)
 
-  pub entry-number : (j : ℕ) (e : Entry) → getElem? (entries s) j ≡ some e → e .number ≡ j
-  unfolding entries entriesOf
-  entry-number j e h = numbered j 0 _ _ _ e h ∙ omega arith
-
   -- an entry's function stands among the section's, at its number
   pub entry-owner : (e : Entry) → List·Memᴰ e (entries s)
       → (e .owner .number < numFunctions s) × (e .owner .function ≡ readFunction s (16 + 24 * e .owner .number))
@@ -138,13 +112,3 @@ module _ (s : List ℕ) where
         let l = section-long s n k in
         let b : size (recordFields (e .body)) ≡ recordLength (drop (e .first) s) = ap (λ (r : Record). size (recordFields r)) (entry-body e m) ∙ read-size (drop (e .first) s) in
         (omega arith, omega arith)
-
-    records-counted : length (readSection s .records) ≡ numRecords s
-    unfolding readSection
-    records-counted = length-records s (numRecords s) (recordsAt s)
-
-    pub entries-counted : length (entries s) ≡ numRecords s
-    unfolding entries entriesOf
-    entries-counted =
-        let v = accepted-well-formed s n w k .0 in
-        length-entries 0 _ _ _ (length-owners 0 (readSection s .functions) ∙ v .adds-up) ∙ records-counted

@@ -1,5 +1,5 @@
 -- Numbers that stand in a list of bytes, both ways.
-use Prim.Native.Nat.{ℕ, zero, suc, _+_, _*_, _-_, _≤_}
+use Prim.Native.Nat.{ℕ, zero, suc, _+_, _*_, _≤_}
 use mathlib.Core.Path.{_≡_, refl, ap, _∙_}
 use mathlib.Core.List.{List, [], _∷_, _++_, append-assoc, List·Memᴰ, List·Memᴰ·head, List·Memᴰ·tail}
 use native.Mathlib.Omega.{arith}
@@ -8,7 +8,7 @@ use lib.ListN.{length, drop, length-append}
 use lib.Seq.{drop-drop, drop-append-seam}
 use Rattle.wire.specs.Word.{Bytes, word, bytes}
 use Rattle.wire.proofs.Laws.{word-bound, word-reads, word-back, length-bytes}
-use Rattle.stackmap.specs.Fields.{Field, _of_, bytesOf, size, Fit, all, many}
+use Rattle.stackmap.specs.Fields.{Field, bytesOf, size, Fit, all, many}
 
 -- from the place a + o on the list has these numbers
 abbrev pub HasFrom : List ℕ → ℕ → ℕ → List Field → Type 0

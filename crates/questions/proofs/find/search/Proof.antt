@@ -1,10 +1,9 @@
 -- One walk checks the records and keeps what the search finds.
-use Prim.Native.Nat.{_+_, _-_, _^_, _≤_, _<_}
+use Prim.Native.Nat.{_+_, _^_, _≤_, _<_}
 use mathlib.Core.Path.{_≡_, sym, _∙_}
 use native.Mathlib.Omega.{arith}
 use borrow.Author.Needs.{needs}
-use lib.ListN.{length}
-use Rattle.stackmap.specs.Section.{recordsAt, entries}
+use Rattle.stackmap.specs.Section.{entries}
 use Rattle.stackmap.proofs.OneWalk.{Folding, fold-start, fold-on, fold-end}
 use Rattle.stackmap.proofs.Within.{here-inside}
 use Rattle.questions.specs.Kept.{noHits, noted}

@@ -3,8 +3,6 @@ use Prim.Native.Nat.{_+_, _-_, _^_, _≤_, _<_}
 use mathlib.Core.Path.{_≡_, sym, _∙_}
 use native.Mathlib.Omega.{arith}
 use borrow.Author.Needs.{needs}
-use lib.ListN.{length}
-use Rattle.stackmap.specs.Section.{recordsAt}
 use Rattle.stackmap.proofs.OneWalk.{Folding, fold-start, fold-on, fold-end, here-ends}
 use Rattle.questions.specs.Kept.{noStretch, picked}
 use Rattle.questions.proofs.Kept.{located-none, located-some}

@@ -1,10 +1,8 @@
 -- The walk goes from one turn to the next, and what is ahead gives what the whole gives.
-use Prim.Native.Nat.{_-_}
-use mathlib.Core.Path.{_≡_, sym, _∙_}
+use mathlib.Core.Path.{sym, _∙_}
 use native.Mathlib.Omega.{arith}
 use borrow.Author.Needs.{needs}
 use Rattle.stackmap.specs.Verdict.{bind}
-use Rattle.stackmap.specs.Walk.{ahead}
 use Rattle.stackmap.proofs.Turns.{Walking, walk-start, walk-here, walk-on, walk-end}
 use Rattle.stackmap.proofs.walk.all_records.Statement.{statement}
 use Rattle.stackmap.proofs.walk.all_records.Tie as tie
