@@ -12,10 +12,10 @@ use Rattle.stackmap.specs.Fields.{Field, _of_, bytesOf, size, all, many}
 use Rattle.stackmap.specs.Section.{functionFields, constantFields, recordFields, sectionFields, encodeSection}
 use Rattle.stackmap.proofs.Fields.{size-append, length-many, size-many}
 use Rattle.stackmap.proofs.Items.{function-size, constant-size}
+use Rattle.stackmap.proofs.Tests.{and-true}
 use Rattle.stackmap.proofs.Verdicts.{must-held, must-rest}
 use Rattle.listing.specs.Layout.{recordKind, recordItemSize, itemsMost}
 use Rattle.listing.specs.Listing.{stands, listedFunction, listedConstant, listedRecord, readListing}
-use Rattle.listing.proofs.Fits.{and-true}
 use Rattle.parser.specs.Count.{Tabled, Shaped}
 use Rattle.parser.specs.Survey.{recordSize, recordsFrom, recordsAfter}
 use Rattle.parser.specs.Walk.{functionsOf}

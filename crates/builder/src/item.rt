@@ -1,7 +1,7 @@
 // Items of a listing, written as items of a section. Each function writes its item's bytes and nothing else, and
 // requires that they are inside: `to_section` has shown it before the first write.
 ghost use mathlib.Core.Path.{_≡_};
-ghost use Prim.Native.Nat.{_+_, _≤_, _<_};
+ghost use Prim.Native.Nat.{_+_, _≤_};
 ghost use lib.ListN.{length};
 ghost use lib.Seq.{sets};
 ghost use Rattle.wire.specs.Word.{bytes};

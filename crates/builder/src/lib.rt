@@ -1,5 +1,4 @@
 // Listing to section. Nothing is written before the answer is known, and no second buffer is needed.
-ghost use mathlib.Core.Path.{_≡_};
 ghost use Rattle.listing.specs.Answers.{Answers};
 ghost use Rattle.listing.specs.Listing.{toSection};
 use listing::Conversion;

@@ -1,7 +1,7 @@
 // Runs of items, records and the whole section, written to the output. Each function writes its bytes and nothing else, and
 // requires that they are inside: `to_section` has shown it before the first write.
 ghost use mathlib.Core.Path.{_≡_};
-ghost use Prim.Native.Nat.{_+_, _*_, _≤_, _<_};
+ghost use Prim.Native.Nat.{_+_, _*_, _≤_};
 ghost use lib.ListN.{length};
 ghost use lib.Seq.{sets};
 ghost use Rattle.stackmap.specs.Layout.{headerSize, functionSize, constantSize, recordHeadSize, locationSize, liveOutSize};

@@ -16,7 +16,7 @@ use Rattle.stackmap.proofs.Back.{section-size}
 use Rattle.stackmap.proofs.Entries.{begins}
 use Rattle.stackmap.proofs.Forth.{section-long, accepted-length}
 use Rattle.listing.specs.Listing.{functionItem, constantItem, recordItems, endItem, listingFields, encodeListing, toListing}
-use Rattle.listing.proofs.Listing.{function-item-size, constant-item-size}
+use Rattle.listing.proofs.Items.{function-item-size, constant-item-size}
 use Rattle.listing.proofs.Listing.{listing-length as encoded-listing}
 use Rattle.listing.proofs.Writes.{give-short, give-all}
 use Rattle.lister.specs.Put.{Put}

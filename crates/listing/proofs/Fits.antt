@@ -1,47 +1,24 @@
 -- Numbers that fit the section's fields fit the listing's, and the other way where no list is too long.
-use Prim.Native.Nat.{ℕ, _+_, _*_, _-_, _%_, _^_, _≤_, _<_}
-use mathlib.Core.Path.{_≡_, refl, ap}
-use mathlib.Core.List.{List, [], _∷_, _++_, List·Memᴰ, List·Memᴰ·head, List·Memᴰ·tail}
-use mathlib.Core.Bool.{Bool, true, false, _&&_}
+use Prim.Native.Nat.{ℕ, _+_, _*_, _%_, _^_, _≤_, _<_}
+use mathlib.Core.Path.{_≡_, ap}
+use mathlib.Core.List.{List, [], _∷_, _++_}
 use native.Mathlib.Omega.{arith}
 use native.Mathlib.Nat.{one-le-pow}
 use borrow.Author.Tests.{le-leb, leb-true}
 use lib.ListN.{length}
 use Rattle.stackmap.specs.declared.Verdict.the-variants.{Valid}
-use Rattle.stackmap.specs.Fields.{size, Field, Fit, _of_, all}
-use Rattle.stackmap.specs.Section.{Encodable, Function, LiveOut, Location, Record, Section, constantFields, functionFields, liveOutFields, locationFields, recordFields, sectionFields}
+use Rattle.stackmap.specs.Fields.{size, Field, Fit, all}
+use Rattle.stackmap.specs.Section.{Encodable, Function, LiveOut, Location, Record, Section, constantFields, functionFields, liveOutFields, locationFields, recordHead, recordMiddle, recordEnd, recordFields, header, sectionFields}
 use Rattle.stackmap.specs.Verdict.{must}
-use Rattle.stackmap.proofs.Fields.{size-append}
+use Rattle.stackmap.proofs.Fields.{size-append, fit-join, fit-first, fit-second}
+use Rattle.stackmap.proofs.Tests.{and-true}
 use Rattle.stackmap.proofs.Verdicts.{must-held, must-rest}
 use Rattle.listing.specs.Listing.{functionItem, constantItem, recordItem, locationItem, liveOutItem, endItem, recordItems, listingFields, notTooMany}
-
-pub fit-join : (fs gs : List Field) → Fit fs → Fit gs → Fit (fs ++ gs)
-fit-join [] gs h k = k
-fit-join (f ∷ fs) gs h k = (h .0, fit-join fs gs (h .1) k)
-
-pub fit-first : (fs gs : List Field) → Fit (fs ++ gs) → Fit fs
-fit-first [] gs h = tt
-fit-first (f ∷ fs) gs h = (h .0, fit-first fs gs (h .1))
-
-pub fit-second : (fs gs : List Field) → Fit (fs ++ gs) → Fit gs
-fit-second [] gs h = h
-fit-second (f ∷ fs) gs h = fit-second fs gs (h .1)
 
 fit-map : {A : Type 0} (f g : A → List Field) → ((x : A) → Fit (f x) → Fit (g x)) → (xs : List A) → Fit (all f xs) → Fit (all g xs)
 unfolding all
 fit-map f g h [] k = tt
 fit-map f g h (x ∷ xs) k = fit-join (g x) (all g xs) (h x (fit-first (f x) (all f xs) k)) (fit-map f g h xs (fit-second (f x) (all f xs) k))
-
--- each item's numbers fit
-pub fit-each : {A : Type 0} (f : A → List Field) (xs : List A) → ((x : A) → List·Memᴰ x xs → Fit (f x)) → Fit (all f xs)
-unfolding all
-fit-each f [] h = tt
-fit-each f (x ∷ xs) h = fit-join (f x) (all f xs) (h x (List·Memᴰ·head refl)) (fit-each f xs (λ y m. h y (List·Memᴰ·tail m)))
-
-pub each-fit : {A : Type 0} (f : A → List Field) {x : A} {xs : List A} → Fit (all f xs) → List·Memᴰ x xs → Fit (f x)
-unfolding all
-each-fit f {x} h (List·Memᴰ·head {x = y} {xs = ys} e) = rw e (fit-first (f y) (all f ys) h)
-each-fit f {x} h (List·Memᴰ·tail {x = y} {xs = ys} m) = each-fit f (fit-second (f y) (all f ys) h) m
 
 function-to : (f : Function) → Fit (functionFields f) → Fit (functionItem f)
 unfolding functionFields functionItem
@@ -92,19 +69,19 @@ module _ (r : Record) where
   m = length (r .liveOuts)
 
   abbrev A : List Field
-  A = (8 of r .id) ∷ (4 of r .offset) ∷ (2 of 0) ∷ (2 of n) ∷ []
+  A = recordHead r
 
   abbrev B : List Field
   B = all locationFields (r .locations)
 
   abbrev C : List Field
-  C = ((n % 2 * 4 + 2) of 0) ∷ (2 of m) ∷ []
+  C = recordMiddle r
 
   abbrev D : List Field
   D = all liveOutFields (r .liveOuts)
 
   abbrev E : List Field
-  E = (((m + 1) % 2 * 4) of 0) ∷ []
+  E = recordEnd r
 
   record-to : Fit (recordFields r) → Fit (recordItems r) × Small r
   unfolding recordFields recordItems recordItem
@@ -152,10 +129,6 @@ records-from (r ∷ rs) h s =
     fit-join (recordFields r) (all recordFields rs) (record-from r (fit-first (recordItems r) (all recordItems rs) h) (s .0))
     (records-from rs (fit-second (recordItems r) (all recordItems rs) h) (s .1))
 
-pub and-true : (a b : Bool) → (a && b) ≡ true → (a ≡ true) × (b ≡ true)
-and-true true b h = (refl, h)
-and-true false b h = absurd (let z : _≡_ {A = ℕ} 0 1 = cc in omega arith)
-
 pub small-whole : (rs : List Record) (at : ℕ) → AllSmall rs → notTooMany rs at ≡ Valid (at + size (all recordItems rs))
 unfolding notTooMany must all size
 small-whole [] at s = ap Valid (omega arith)
@@ -172,7 +145,7 @@ whole-small (r ∷ rs) at e h =
 
 module _ (t : Section) where
   abbrev H : List Field
-  H = (1 of 3) ∷ (3 of 0) ∷ (4 of length (t .functions)) ∷ (4 of length (t .constants)) ∷ (4 of length (t .records)) ∷ []
+  H = header t
 
   abbrev F : List Field
   F = all functionFields (t .functions)

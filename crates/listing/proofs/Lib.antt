@@ -1,6 +1,7 @@
 pub mod Fits
+pub mod Items
 pub mod Listing
-pub mod Above
+pub mod Refusals
 pub mod Writes
 pub mod RoundTrip
 pub mod Short

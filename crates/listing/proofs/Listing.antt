@@ -1,146 +1,25 @@
--- The listing's two laws.
-use Prim.Native.Nat.{ℕ, zero, suc, _+_, _*_, _-_, _≤_, _<_}
+-- The listing's two laws: the listing of a section is accepted and read as the section, and an accepted listing is the
+-- listing of what is read from it.
+use Prim.Native.Nat.{ℕ, zero, suc, _+_, _*_, _≤_}
 use mathlib.Core.Path.{_≡_, refl, sym, _∙_, ap, subst}
 use mathlib.Core.List.{List, [], _∷_, _++_, append-nil, append-assoc}
-use mathlib.Core.Bool.{Bool, true, false, and-false}
+use mathlib.Core.Bool.{Bool, true, false}
 use native.Mathlib.Omega.{arith}
-use native.Mathlib.Nat.{add-zero, zero-add, add-assoc, mul-suc}
-use borrow.Author.Tests.{le-leb, lt-leb, leb-true, eq-eqb, ne-eqb, eqb-true}
-use lib.ListN.{length, getD}
+use native.Mathlib.Nat.{add-zero, zero-add, add-assoc}
+use borrow.Author.Tests.{le-leb, leb-true, eq-eqb, eqb-true}
+use lib.ListN.{length}
 use lib.Seq.{drop-length}
-use lib.Dec.{leb}
 use Rattle.wire.specs.Word.{Bytes, word}
 use Rattle.stackmap.specs.Fields.{size, Field, Fit, _of_, all, many}
-use Rattle.stackmap.specs.Section.{Encodable, Function, LiveOut, Location, Record, Section}
+use Rattle.stackmap.specs.Section.{Encodable, LiveOut, Record, Section}
 use Rattle.stackmap.specs.Verdict.{chain, must}
 use Rattle.stackmap.proofs.Fields.{Has, fields-back, has-bytes, has-fit, join, length-bytesOf, many-back, size-all, size-append, size-many, split}
 use Rattle.stackmap.proofs.Items.{byte-word}
-use Rattle.stackmap.proofs.Verdicts.{chain-first, chain-rest, must-held, must-rest}
+use Rattle.stackmap.proofs.Verdicts.{chain-first, must-held, must-rest}
 use Rattle.stackmap.specs.declared.Verdict.the-variants.{Valid}
 use Rattle.listing.specs.Listing.{functionItem, constantItem, recordItem, locationItem, liveOutItem, endItem, recordItems, listingFields, encodeListing, stands, run, listedFunction, listedConstant, listedLocation, listedLiveOut, listedLocations, listedLiveOuts, listedRecord, recordStop, listedRecords, recordsStop, functionsListed, constantsListed, recordsBegin, readListing, itemsStop, listingCheck}
-use Rattle.listing.proofs.Fits.{and-true, AllSmall, small-whole, whole-small, listing-to-section}
-
-pub function-item-size : (f : Function) → size (functionItem f) ≡ 25
-unfolding size functionItem
-function-item-size f = refl
-
-pub constant-item-size : (v : ℕ) → size (constantItem v) ≡ 9
-unfolding size constantItem
-constant-item-size v = refl
-
-pub record-item-size : (r : Record) → size (recordItem r) ≡ 13
-unfolding size recordItem
-record-item-size r = refl
-
-pub location-item-size : (l : Location) → size (locationItem l) ≡ 10
-unfolding size locationItem
-location-item-size l = refl
-
-pub live-out-item-size : (o : LiveOut) → size (liveOutItem o) ≡ 4
-unfolding size liveOutItem
-live-out-item-size o = refl
-
-function-back : (l : List ℕ) (f : Function) (a : ℕ) → Has l a (functionItem f) → listedFunction l a ≡ f
-unfolding functionItem listedFunction
-function-back l f a h = rw (h .1 .0, h .1 .1 .0, h .1 .1 .1 .0)
-
-constant-back : (l : List ℕ) (v a : ℕ) → Has l a (constantItem v) → listedConstant l a ≡ v
-unfolding constantItem listedConstant
-constant-back l v a h = h .1 .0
-
-location-back : (l : List ℕ) (x : Location) (a : ℕ) → Has l a (locationItem x) → listedLocation l a ≡ x
-unfolding locationItem listedLocation
-location-back l x a h = rw (h .1 .0, h .1 .1 .0, h .1 .1 .1 .0, h .1 .1 .1 .1 .0)
-
-live-out-back : (l : List ℕ) (o : LiveOut) (a : ℕ) → Has l a (liveOutItem o) → listedLiveOut l a ≡ o
-unfolding liveOutItem listedLiveOut
-live-out-back l o a h = rw (h .1 .0, h .1 .1 .0)
-
--- the fields begin with a kind that is not k
-abbrev Leads : ℕ → List Field → Type 0
-Leads k [] = ⊥
-Leads k (f ∷ fs) = (f .width ≡ 1) × (f .value ≡ k → ⊥)
-
-no-item : (k n : ℕ) (l : List ℕ) (at : ℕ) (fs : List Field) → Leads k fs → Has l at fs → stands k n l at ≡ false
-unfolding stands
-no-item k n l at [] d h = absurd d
-no-item k n l at (f ∷ fs) d h =
-    let e : word 1 l at ≡ f .value = rw (add-zero, d .0) at (h .0) in
-    let g : getD l at 0 ≡ f .value = sym (byte-word l at) ∙ e in
-    let z : getD l at 0 ≡ k → ⊥ = λ q. d .1 (sym g ∙ q) in
-    rw (ne-eqb _ _ z) (and-false (leb (at + n) (length l)))
-
-pub run-yes : (k n m : ℕ) (l : List ℕ) (at : ℕ) → stands k n l at ≡ true → run k n (suc m) l at ≡ suc (run k n m l (at + n))
-unfolding run
-run-yes k n m l at e = rw (e, run)
-
-pub run-no : (k n m : ℕ) (l : List ℕ) (at : ℕ) → stands k n l at ≡ false → run k n m l at ≡ 0
-unfolding run
-run-no k n zero l at e = refl
-run-no k n (suc m) l at e = rw (e, run)
-
-pub yes-item : (k n : ℕ) (l : List ℕ) (at : ℕ) → at + n ≤ length l → getD l at 0 ≡ k → stands k n l at ≡ true
-unfolding stands
-yes-item k n l at i e = rw (le-leb _ _ i, eq-eqb _ _ e)
-
-pub no-room : (k n : ℕ) (l : List ℕ) (at : ℕ) → length l < at + n → stands k n l at ≡ false
-unfolding stands
-no-room k n l at i = rw (lt-leb _ _ i)
-
-pub other-kind : (k n : ℕ) (l : List ℕ) (at : ℕ) → (getD l at 0 ≡ k → ⊥) → stands k n l at ≡ false
-unfolding stands
-other-kind k n l at h = rw (ne-eqb _ _ h) (and-false (leb (at + n) (length l)))
-
-pub is-item : (k n : ℕ) (l : List ℕ) (at : ℕ) → stands k n l at ≡ true → (at + n ≤ length l) × (getD l at 0 ≡ k)
-unfolding stands
-is-item k n l at e = let a = and-true _ _ e in (leb-true _ _ (a .0), eqb-true _ _ (a .1))
-
--- a run is inside
-pub run-inside : (k n m : ℕ) (l : List ℕ) (at : ℕ) → at ≤ length l → at + n * run k n m l at ≤ length l
-run-inside k n zero l at i = unfold run in omega arith
-run-inside k n (suc m) l at i = go (run-inside k n m l (at + n)) (stands k n l at) refl
-  where
-    go : (at + n ≤ length l → at + n + n * run k n m l (at + n) ≤ length l) → (b : Bool) → stands k n l at ≡ b → at + n * run k n (suc m) l at ≤ length l
-    go ih true e =
-        let z = mul-suc n (run k n m l (at + n)) in
-        let h = ih (is-item k n l at e .0) in
-        rw (run-yes k n m l at e) (omega arith)
-    go ih false e = rw (run-no k n (suc m) l at e) (omega arith)
-
-module _ {A : Type 0} (item : A → List Field) (k n : ℕ) (even : (x : A) → size (item x) ≡ n) (l : List ℕ) where
-  -- the items of one kind are all found
-  run-back : ((x : A) (at : ℕ) → Has l at (item x) → getD l at 0 ≡ k)
-      → (xs : List A) (at m : ℕ) → length xs ≤ m → Has l at (all item xs) → at + n * length xs ≤ length l
-      → stands k n l (at + n * length xs) ≡ false → run k n m l at ≡ length xs
-  unfolding all
-  run-back kind [] at m f h i e = let e₂ : at + n * 0 ≡ at = omega arith in run-no k n m l at (rw e₂ at e)
-  run-back kind (x ∷ xs) at zero f h i e = absurd (omega arith)
-  run-back kind (x ∷ xs) at (suc m) f h i e =
-      let z = mul-suc n (length xs) in
-      let j = split l at (at + n) (item x) (all item xs) (rw (even x)) h in
-      let p : at + n * suc (length xs) ≡ at + n + n * length xs = omega arith in
-      run-yes k n m l at (yes-item k n l at (omega arith) (kind x at (j .0)))
-      ∙ ap suc (run-back kind xs (at + n) m (omega arith) (j .1) (omega arith) (rw p at e))
-
-  -- what is found are items, all inside
-  run-has : (read : List ℕ → ℕ → A) → ((at : ℕ) → getD l at 0 ≡ k → Has l at (item (read l at)))
-      → (m at : ℕ) → at ≤ length l → Has l at (all item (many read n (run k n m l at) l at)) × (at + n * run k n m l at ≤ length l)
-  unfolding all many
-  run-has read has zero at i = unfold run in (tt, omega arith)
-  run-has read has (suc m) at i = go (run-has read has m (at + n)) (stands k n l at) refl
-    where
-      go : (at + n ≤ length l → Has l (at + n) (all item (many read n (run k n m l (at + n)) l (at + n))) × (at + n + n * run k n m l (at + n) ≤ length l))
-          → (b : Bool) → stands k n l at ≡ b
-          → Has l at (all item (many read n (run k n (suc m) l at) l at)) × (at + n * run k n (suc m) l at ≤ length l)
-      go ih true e =
-          let a = is-item k n l at e in
-          let z = mul-suc n (run k n m l (at + n)) in
-          let r = ih (a .0) in
-          rw (run-yes k n m l at e) (
-            join l at (at + n) (item (read l at)) (all item (many read n (run k n m l (at + n)) l (at + n))) (rw (even (read l at))) (has at (a .1)) (r .0),
-            omega arith,
-          )
-      go ih false e = rw (run-no k n (suc m) l at e) (tt, omega arith)
+use Rattle.listing.proofs.Items.{function-item-size, constant-item-size, location-item-size, live-out-item-size, function-back, constant-back, location-back, live-out-back, function-has, constant-has, location-has, live-out-has, kind-byte, function-kind, constant-kind, location-kind, live-out-kind, yes-item, is-item, Leads, no-item, run-inside, run-back, run-has, records-yes, records-no}
+use Rattle.listing.proofs.Fits.{AllSmall, small-whole, whole-small, listing-to-section}
 
 -- what stands after the items of a kind is another kind
 
@@ -163,36 +42,6 @@ regroup : (r : Record) (rs : List Record)
     → recordItems r ++ all recordItems rs ++ endItem ≡ recordItem r ++ (all locationItem (r .locations) ++ (all liveOutItem (r .liveOuts) ++ (all recordItems rs ++ endItem)))
 unfolding recordItems
 regroup r rs = simp append-assoc
-
-kind-byte : (l : List ℕ) (at k : ℕ) → word 1 l (at + 0) ≡ k → getD l at 0 ≡ k
-kind-byte l at k h = sym (byte-word l at) ∙ (rw add-zero at h)
-
-module _ (l : List ℕ) where
-  function-kind : (x : Function) (at : ℕ) → Has l at (functionItem x) → getD l at 0 ≡ 1
-  unfolding functionItem
-  function-kind x at h = kind-byte l at 1 (h .0)
-
-  constant-kind : (x : ℕ) (at : ℕ) → Has l at (constantItem x) → getD l at 0 ≡ 2
-  unfolding constantItem
-  constant-kind x at h = kind-byte l at 2 (h .0)
-
-  location-kind : (x : Location) (at : ℕ) → Has l at (locationItem x) → getD l at 0 ≡ 4
-  unfolding locationItem
-  location-kind x at h = kind-byte l at 4 (h .0)
-
-  live-out-kind : (x : LiveOut) (at : ℕ) → Has l at (liveOutItem x) → getD l at 0 ≡ 5
-  unfolding liveOutItem
-  live-out-kind x at h = kind-byte l at 5 (h .0)
-
-  pub records-yes : (m at : ℕ) → stands 3 13 l at ≡ true
-      → (listedRecords l (suc m) at ≡ listedRecord l at ∷ listedRecords l m (recordStop l at)) × (recordsStop l (suc m) at ≡ recordsStop l m (recordStop l at))
-  unfolding listedRecords recordsStop
-  records-yes m at e = (rw (e, listedRecords), rw (e, recordsStop))
-
-  pub records-no : (m at : ℕ) → stands 3 13 l at ≡ false → (listedRecords l m at ≡ []) × (recordsStop l m at ≡ at)
-  unfolding listedRecords recordsStop
-  records-no zero at e = (refl, refl)
-  records-no (suc m) at e = (rw (e, listedRecords), rw (e, recordsStop))
 
 module _ (r : Record) where
   abbrev n : ℕ
@@ -350,22 +199,6 @@ module _ (t : Section) where
 
 -- an accepted listing
 
-function-has : (l : List ℕ) (at : ℕ) → getD l at 0 ≡ 1 → Has l at (functionItem (listedFunction l at))
-unfolding functionItem listedFunction
-function-has l at e = (rw add-zero (byte-word l at ∙ e), (refl, (refl, (refl, tt))))
-
-constant-has : (l : List ℕ) (at : ℕ) → getD l at 0 ≡ 2 → Has l at (constantItem (listedConstant l at))
-unfolding constantItem listedConstant
-constant-has l at e = (rw add-zero (byte-word l at ∙ e), (refl, tt))
-
-location-has : (l : List ℕ) (at : ℕ) → getD l at 0 ≡ 4 → Has l at (locationItem (listedLocation l at))
-unfolding locationItem listedLocation
-location-has l at e = (rw add-zero (byte-word l at ∙ e), (refl, (refl, (refl, (refl, tt)))))
-
-live-out-has : (l : List ℕ) (at : ℕ) → getD l at 0 ≡ 5 → Has l at (liveOutItem (listedLiveOut l at))
-unfolding liveOutItem listedLiveOut
-live-out-has l at e = (rw add-zero (byte-word l at ∙ e), (refl, (refl, tt)))
-
 module _ (l : List ℕ) where
   record-has : (at : ℕ) → stands 3 13 l at ≡ true
       → Has l at (recordItems (listedRecord l at)) × (recordStop l at ≡ at + size (recordItems (listedRecord l at))) × (recordStop l at ≤ length l)
@@ -377,14 +210,14 @@ module _ (l : List ℕ) where
       let L = all locationItem (many listedLocation 10 nl l (at + 13)) in
       let O = all liveOutItem (many listedLiveOut 4 no l (at + 13 + 10 * nl)) in
       let I : List Field = (1 of 3) ∷ (8 of word 8 l (at + 1)) ∷ (4 of word 4 l (at + 9)) ∷ [] in
-      let h₁ = run-has locationItem 4 10 location-item-size l listedLocation (location-has l) (length l) (at + 13) (a .0) in
-      let h₂ = run-has liveOutItem 5 4 live-out-item-size l listedLiveOut (live-out-has l) (length l) (at + 13 + 10 * nl) (h₁ .1) in
+      let h₁ = run-has locationItem 4 10 location-item-size l listedLocation (location-has l) (length l) (at + 13) in
+      let h₂ = run-has liveOutItem 5 4 live-out-item-size l listedLiveOut (live-out-has l) (length l) (at + 13 + 10 * nl) in
       let z₁ : size L ≡ 10 * nl = size-many locationItem listedLocation 10 10 location-item-size nl l (at + 13) in
       let z₂ : size O ≡ 4 * no = size-many liveOutItem listedLiveOut 4 4 live-out-item-size no l (at + 13 + 10 * nl) in
       let i : Has l at I = (rw add-zero (byte-word l at ∙ a .1), (refl, (refl, tt))) in (
-        join l at (at + 13) I (L ++ O) refl i (join l (at + 13) (at + 13 + 10 * nl) L O (rw z₁) (h₁ .0) (h₂ .0)),
+        join l at (at + 13) I (L ++ O) refl i (join l (at + 13) (at + 13 + 10 * nl) L O (rw z₁) h₁ h₂),
         (let z : size (L ++ O) ≡ 10 * nl + 4 * no = rw (size-append, z₁, z₂) in omega arith),
-        h₂ .1,
+        run-inside 5 4 (length l) l (at + 13 + 10 * nl) (run-inside 4 10 (length l) l (at + 13) (a .0)),
       )
 
   records-has : (m at : ℕ) → at ≤ length l
@@ -425,17 +258,16 @@ module _ (l : List ℕ) where
       long : size (listingFields (readListing l)) ≡ length l
       small : AllSmall (readListing l .records)
       under : length l ≤ 33554432
-      ends-at : e ≡ length l
 
     kept : Kept
     unfolding listingCheck itemsStop listingFields readListing size
     kept =
         let nf = functionsListed l in
         let nc = constantsListed l in
-        let h₁ = run-has functionItem 1 25 function-item-size l listedFunction (function-has l) (length l) 0 (omega arith) in
-        let l₁ : 25 * nf ≤ length l = omega (arith, h₁ .1) in
-        let h₂ = run-has constantItem 2 9 constant-item-size l listedConstant (constant-has l) (length l) (25 * nf) l₁ in
-        let h₃ = records-has (length l) (recordsBegin l) (h₂ .1) in
+        let h₁ = run-has functionItem 1 25 function-item-size l listedFunction (function-has l) (length l) 0 in
+        let l₁ : 25 * nf ≤ length l = omega (arith, run-inside 1 25 (length l) l 0 (omega arith)) in
+        let h₂ = run-has constantItem 2 9 constant-item-size l listedConstant (constant-has l) (length l) (25 * nf) in
+        let h₃ = records-has (length l) (recordsBegin l) (run-inside 2 9 (length l) l (25 * nf) l₁) in
         let z₁ : size F′ ≡ 25 * nf = size-many functionItem listedFunction 25 25 function-item-size nf l 0 in
         let z₂ : size K′ ≡ 9 * nc = size-many constantItem listedConstant 9 9 constant-item-size nc l (25 * nf) in
         let k₁ = must-rest _ _ _ _ _ k in
@@ -445,16 +277,12 @@ module _ (l : List ℕ) where
         let n : recordsStop l (length l) (recordsBegin l) + 1 ≡ length l = eqb-true _ _ (must-held _ _ _ _ _ k₂) in
         let b : Has l (recordsStop l (length l) (recordsBegin l)) endItem = (rw add-zero (byte-word l _ ∙ s .1), tt) in
         record {
-          has-it = join l 0 (25 * nf) F′ (K′ ++ (R′ ++ endItem)) (omega arith) (h₁ .0)
-              (join l (25 * nf) (recordsBegin l) K′ (R′ ++ endItem) (omega arith) (h₂ .0) (join l (recordsBegin l) _ R′ endItem (h₃ .1) (h₃ .0) b));
+          has-it = join l 0 (25 * nf) F′ (K′ ++ (R′ ++ endItem)) (omega arith) h₁
+              (join l (25 * nf) (recordsBegin l) K′ (R′ ++ endItem) (omega arith) h₂ (join l (recordsBegin l) _ R′ endItem (h₃ .1) (h₃ .0) b));
           long = simp size-append (let q = h₃ .1 in omega arith);
           small = whole-small _ _ _ (chain-first _ _ _ k₃ .1);
           under = leb-true _ _ (must-held _ _ _ _ _ k);
-          ends-at = let q = chain-rest _ _ _ k₃ in cc;
         }
-
-    pub listing-accepted : (e ≡ length l) × (length l ≤ 33554432)
-    listing-accepted = (kept .ends-at, kept .under)
 
     module _ (w : Bytes l) where
       -- an accepted listing is the listing of what is read from it

@@ -22,8 +22,8 @@ use Rattle.listing.specs.Listing.{listingFields, encodeListing, listingC
 use Rattle.listing.specs.RoundTrip.{result, gives, RoundTrips, OutputKept, ListingOneToOne}
 use Rattle.listing.proofs.Fits.{section-to-listing}
 use Rattle.listing.proofs.Listing.{listing-length, listing-back, listing-check, accepted-listing, listing-encodable}
-use Rattle.stackmap.proofs.Numbers.{Above, a-chain, section-above}
-use Rattle.listing.proofs.Above.{listing-above}
+use Rattle.stackmap.proofs.Numbers.{Numbered, n-more, n-chain, section-numbered}
+use Rattle.listing.proofs.Refusals.{listing-numbered}
 use Rattle.listing.proofs.Short.{records-short}
 
 -- where nothing is refused, all is whole, and the result is written
@@ -32,7 +32,7 @@ record Gave (c : Verdict) (r out : List ℕ) : Type 0 where
   whole : c ≡ Valid end
   wrote : result (give c r out) ≡ r
 
-gave : (c : Verdict) (r out : List ℕ) → Above c → give c r out .number ≡ 0 → Gave c r out
+gave : {m : ℕ} (c : Verdict) (r out : List ℕ) → Numbered m c → give c r out .number ≡ 0 → Gave c r out
 unfolding result
 gave (Refused n p) r out a h = absurd (let z = a .above in omega arith)
 gave (Valid e) r out a h = go (leb (length r) (length out)) refl h
@@ -45,7 +45,7 @@ section-first : (s out out′ : List ℕ) → Bytes s → toListing s out .numbe
 unfolding toListing toSection chain
 section-first s out out′ w h =
     let t = readSection s in
-    let g = gave (sectionCheck s) (encodeListing t) out (section-above s) h in
+    let g = gave (sectionCheck s) (encodeListing t) out (section-numbered s) h in
     let k = g .whole in
     let fit = accepted-encodable s _ k w in
     let b = accepted-bytes s _ k w in
@@ -63,7 +63,7 @@ listing-first : (l out out′ : List ℕ) → Bytes l → toSection l out .numbe
 unfolding toListing toSection
 listing-first l out out′ w h =
     let t = readListing l in
-    let g = gave (chain (listingCheck l) (sectionCheck (encodeSection t))) (encodeSection t) out (a-chain _ _ (listing-above l) (section-above (encodeSection t))) h in
+    let g = gave (chain (listingCheck l) (sectionCheck (encodeSection t))) (encodeSection t) out (n-chain _ _ (listing-numbered l) (n-more (omega arith) (section-numbered (encodeSection t)))) h in
     let k = chain-first _ _ _ (g .whole) .1 in
     let j = chain-rest _ _ _ (g .whole) in
     rw (g .wrote, j, read-back t (listing-encodable l _ k w), accepted-listing l _ k w)

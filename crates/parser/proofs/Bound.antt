@@ -8,7 +8,7 @@ use lib.ListN.{length}
 use Rattle.stackmap.specs.Section.{Record}
 use Rattle.listing.specs.Layout.{recordKind, recordItemSize}
 use Rattle.listing.specs.Listing.{stands, run, listedRecord, recordStop, listedRecords, recordsStop}
-use Rattle.listing.proofs.Listing.{run-yes, run-no, is-item, no-room, run-inside, records-yes, records-no}
+use Rattle.listing.proofs.Items.{run-yes, run-no, is-item, no-room, run-inside, records-yes, records-no}
 use Rattle.parser.specs.Count.{Ran}
 
 -- A run.

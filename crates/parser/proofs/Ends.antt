@@ -10,7 +10,7 @@ use Rattle.stackmap.specs.declared.Verdict.the-variants.{Valid, Refused}
 use Rattle.stackmap.specs.Verdict.{must, chain}
 use Rattle.listing.specs.Layout.{listingMost, endKind, endItemSize}
 use Rattle.listing.specs.Listing.{stands, recordsBegin, readListing, itemsStop, notTooMany, listingCheck}
-use Rattle.listing.proofs.Listing.{records-no}
+use Rattle.listing.proofs.Items.{records-no}
 use Rattle.parser.specs.Survey.{stopFrom, Passed, Ends}
 use Rattle.parser.specs.Grammar.{endCheck, itemsCheck}
 

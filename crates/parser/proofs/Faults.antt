@@ -1,10 +1,11 @@
 -- The refusals of a listing's items, as the section that is built of them would get them.
-use Prim.Native.Nat.{ℕ, _+_, _*_, _-_, _<_, _^_}
+use Prim.Native.Nat.{ℕ, _+_, _*_, _-_, _≤_, _<_, _^_}
 use mathlib.Core.Path.{_≡_, refl, ap}
 use mathlib.Core.List.{List, [], _∷_}
 use mathlib.Core.Bool.{Bool, true, false}
 use native.Mathlib.Omega.{arith}
 use native.Mathlib.Nat.{add-zero, add-assoc}
+use borrow.Author.Tests.{le-leb}
 use lib.ListN.{getD}
 use lib.Dec.{leb, eqb, ltb}
 use Rattle.wire.specs.Word.{word}
@@ -82,3 +83,9 @@ pub entry-listed : {l : List ℕ} {at n m stop : ℕ} (i p c : ℕ) → Shaped l
     (chain (locationsFault c (many listedLocation 10 n l (at + 13)) (p + 16)) (Valid (p + recordSize n m)))
 unfolding address ownerAt listedFunction listedRecord
 entry-listed {l} {at} i p c h = rw (entry-placed p c (entryAt l i at p), shape-size h, h .locations-are)
+
+-- its address fits
+pub entry-fits : {l : List ℕ} {at n m stop : ℕ} (i p c : ℕ) → Shaped l at n m stop → word 8 l (25 * i + 1) + word 4 l (at + 9) ≤ 2 ^ 64 - 1
+    → shift p (entryFault c (entryAt l i at p)) ≡ chain (locationsFault c (many listedLocation 10 n l (at + 13)) (p + 16)) (Valid (p + recordSize n m))
+unfolding must
+entry-fits i p c h f = rw (entry-listed i p c h, le-leb _ _ f)

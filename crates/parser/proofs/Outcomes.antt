@@ -15,7 +15,7 @@ use Rattle.stackmap.proofs.Verdicts.{never, must-rest, chain-first, chain-rest}
 use Rattle.stackmap.proofs.Back.{entries-valid}
 use Rattle.listing.specs.Layout.{listingMost}
 use Rattle.listing.specs.Listing.{readListing}
-use Rattle.listing.proofs.Listing.{records-no}
+use Rattle.listing.proofs.Items.{records-no}
 use Rattle.parser.specs.Count.{Tabled}
 use Rattle.parser.specs.Survey.{recordsFrom, recordsAfter, Passed, Ends, Planned}
 use Rattle.parser.specs.Grammar.{itemsCheck}

@@ -15,7 +15,7 @@ use Rattle.stackmap.proofs.Verdicts.{shift-valid}
 use Rattle.stackmap.proofs.Back.{entry-valid}
 use Rattle.listing.specs.Layout.{recordKind, recordItemSize}
 use Rattle.listing.specs.Listing.{stands}
-use Rattle.listing.proofs.Listing.{is-item, records-no}
+use Rattle.listing.proofs.Items.{is-item, records-no}
 use Rattle.parser.specs.Count.{Shaped}
 use Rattle.parser.specs.Survey.{recordSize, recordsFrom}
 use Rattle.parser.specs.Walk.{functionsOf, ahead, entryAt, Turning, Walkable}

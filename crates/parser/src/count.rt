@@ -1,6 +1,5 @@
 // How many items of each kind a listing has.
-ghost use mathlib.Core.Path.{_≡_};
-ghost use Prim.Native.Nat.{_+_, _*_, _≤_};
+ghost use Prim.Native.Nat.{_≤_};
 ghost use lib.ListN.{length};
 ghost use Rattle.listing.specs.Layout.{listingMost};
 ghost use Rattle.parser.specs.Count.{Ran, Tabled};

@@ -1,6 +1,6 @@
 // The refusals that the built section would get, said of the listing's items: 6, 7 and 8. A place is one of the section.
 ghost use mathlib.Core.Path.{_≡_};
-ghost use Prim.Native.Nat.{_+_, _*_, _≤_, _<_};
+ghost use Prim.Native.Nat.{_+_, _*_, _≤_};
 ghost use lib.ListN.{length};
 ghost use Rattle.stackmap.specs.Layout.{locationSize, sectionMost};
 ghost use Rattle.stackmap.specs.Verdict.{shift};

@@ -1,6 +1,6 @@
 // The refusals that the built section would get, over the whole listing: 1, 5, and those of each record.
 ghost use mathlib.Core.Path.{_≡_};
-ghost use Prim.Native.Nat.{_+_, _*_, _≤_, _<_};
+ghost use Prim.Native.Nat.{_*_, _≤_, _<_};
 ghost use lib.ListN.{length};
 ghost use lib.Dec.{eqb};
 ghost use Rattle.stackmap.specs.Section.{owners, counted, entriesFrom};

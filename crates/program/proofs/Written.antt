@@ -10,7 +10,7 @@ use Rattle.stackmap.specs.declared.Verdict.{Verdict}
 use Rattle.stackmap.specs.declared.Verdict.the-variants.{Valid, Refused}
 use Rattle.stackmap.specs.Section.{readSection}
 use Rattle.stackmap.specs.Check.{sectionCheck}
-use Rattle.stackmap.proofs.Numbers.{Above, section-above}
+use Rattle.stackmap.proofs.Numbers.{Numbered, section-numbered}
 use Rattle.listing.specs.Listing.{encodeListing, give, toListing}
 use Rattle.listing.proofs.Short.{listing-short}
 use Rattle.listing.proofs.Writes.{sets-whole}
@@ -51,9 +51,9 @@ module _ (s out : List ℕ) (short : length s ≤ 57344) (room : length out ≡ 
 
   pub written-listed : toListing s out .number ≡ 0 → Listed
   unfolding written toListing
-  written-listed h = go (sectionCheck s) refl (section-above s)
+  written-listed h = go (sectionCheck s) refl (section-numbered s)
     where
-      go : (v : Verdict) → sectionCheck s ≡ v → Above (sectionCheck s) → Listed
+      go : (v : Verdict) → sectionCheck s ≡ v → Numbered 9 (sectionCheck s) → Listed
       go (Refused n p) e a = absurd (let z = (rw e at a) .above in let y : n ≡ 0 = rw e at h in omega arith)
       go (Valid n) e a =
           record {

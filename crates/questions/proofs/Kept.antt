@@ -1,5 +1,5 @@
 -- What a walk has kept at its end answers the question.
-use Prim.Native.Nat.{ℕ, zero, suc, _+_, _-_, _<_}
+use Prim.Native.Nat.{ℕ, zero, suc, _+_, _<_}
 use mathlib.Core.Path.{_≡_, refl, sym, _∙_, ap}
 use mathlib.Core.Bool.{Bool, true, false, cond}
 use mathlib.Core.Option.{Option, none, some}
@@ -19,7 +19,7 @@ use Rattle.questions.specs.declared.Found.{Found}
 use Rattle.questions.specs.declared.Hits.{Hits}
 use Rattle.questions.specs.declared.Stretch.{Stretch}
 use Rattle.questions.specs.declared.Located.{Located}
-use Rattle.questions.specs.Kept.{noHits, hit, noted, noStretch, picked}
+use Rattle.questions.specs.Kept.{noHits, noted, noStretch, picked}
 use Rattle.questions.specs.Questions.{among, withAddress, notFound, firstOf, notLocated, located}
 
 -- By address.

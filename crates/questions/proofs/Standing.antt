@@ -12,7 +12,7 @@ use Rattle.stackmap.specs.Check.{sectionCheck}
 use Rattle.stackmap.proofs.Verdicts.{chain-first}
 use Rattle.stackmap.proofs.Forth.{read-size}
 use Rattle.stackmap.proofs.Entries.{entry-body}
-use Rattle.stackmap.proofs.Numbers.{Above, section-above}
+use Rattle.stackmap.proofs.Numbers.{Numbered, section-numbered}
 use Rattle.stackmap.proofs.Within.{begin-held, section-parts}
 use Rattle.questions.specs.declared.Located.{Located}
 use Rattle.questions.specs.Questions.{ask, among, notLocated, located, recordPlace}
@@ -54,7 +54,7 @@ module _ {A : Type 0} (refused : ℕ → ℕ → A) (found : Entry → A) (s : L
     pub long : recordLength (drop first s) ≡ length
     pub inside : recordsAt s ≤ lib.ListN.length s
 
-  asked-here : (v : Verdict) → sectionCheck s ≡ v → (x : Option Entry) → getElem? (entries s) k ≡ x → Above v → standing v x .number ≡ 0
+  asked-here : (v : Verdict) → sectionCheck s ≡ v → (x : Option Entry) → getElem? (entries s) k ≡ x → Numbered 9 v → standing v x .number ≡ 0
       → Here (standing v x .first) (standing v x .length)
   unfolding ask
   asked-here (Refused n p) e x m a h = absurd (let z = a .above in omega arith)
@@ -71,7 +71,7 @@ module _ {A : Type 0} (refused : ℕ → ℕ → A) (found : Entry → A) (s : L
 
   asked-found : recordPlace s k .number ≡ 0 → Here (recordPlace s k .first) (recordPlace s k .length)
   unfolding recordPlace
-  asked-found h = asked-here (sectionCheck s) refl (getElem? (entries s) k) refl (section-above s) h
+  asked-found h = asked-here (sectionCheck s) refl (getElem? (entries s) k) refl (section-numbered s) h
 
   -- the same of what says where the record stands
   pub refused-at : (l : Located) → l ≡ recordPlace s k → (l .number ≡ 0 → ⊥)

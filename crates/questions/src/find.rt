@@ -1,8 +1,8 @@
 // The question by address.
 ghost use mathlib.Core.Path.{_≡_};
-ghost use Prim.Native.Nat.{_+_, _*_, _^_, _≤_, _<_};
-ghost use lib.ListN.{length, drop};
-ghost use Rattle.stackmap.specs.Section.{numFunctions, constantsAt, recordsAt, readRecord, entries};
+ghost use Prim.Native.Nat.{_+_, _^_, _≤_, _<_};
+ghost use lib.ListN.{length};
+ghost use Rattle.stackmap.specs.Section.{numFunctions, constantsAt, recordsAt, entries};
 ghost use Rattle.stackmap.specs.Check.{walkCheck};
 ghost use Rattle.stackmap.specs.Walk.{entryAt, Walkable};
 ghost use Rattle.questions.specs.Kept.{noted};

@@ -13,17 +13,15 @@ use Rattle.stackmap.specs.declared.Verdict.{Verdict}
 use Rattle.stackmap.specs.declared.Verdict.the-variants.{Valid, Refused}
 use Rattle.stackmap.specs.Section.{numFunctions, constantsAt, readFunction, Entry, address, entries}
 use Rattle.stackmap.specs.Check.{sectionCheck, Accepted}
-use Rattle.stackmap.proofs.Numbers.{Above, section-above}
+use Rattle.stackmap.proofs.Numbers.{Numbered, section-numbered}
 use Rattle.stackmap.proofs.Forth.{accepted-length}
-use Rattle.stackmap.proofs.Entries.{entry-body, entry-inside}
+use Rattle.stackmap.proofs.Entries.{entry-body, entry-inside, entry-owner}
 use Rattle.questions.specs.declared.Found.{Found}
 use Rattle.questions.specs.Questions.{ask, withAddress, notFound, firstOf, byAddress}
 use Rattle.questions.proofs.Standing.{tables-inside}
 use Rattle.moves.specs.Plan.{Plan, refuse}
 use Rattle.relocate.specs.Plan.{only, stackSize}
 use Rattle.relocate.specs.Code.{recordOf, Stands, ofSection}
-use Rattle.relocate.proofs.Refusals.{Low, section-low}
-use Rattle.relocate.proofs.Owned.{entry-owner}
 
 never : _≡_ {A = Bool} true false → ⊥
 never h = true≢false h
@@ -36,15 +34,15 @@ refused-by (Refused n p) es k h = refl
 refused-by (Valid e) [] k h = absurd (never (sym h))
 refused-by (Valid e) (x ∷ es) k h = absurd (never (sym h))
 
-valid-by : (v : Verdict) (es : List Entry) → Above v → Low v → ofSection (ask notFound (firstOf es) v) ≡ false
+valid-by : (v : Verdict) (es : List Entry) → Numbered 9 v → ofSection (ask notFound (firstOf es) v) ≡ false
     → (e : ℕ) × (v ≡ Valid e)
 unfolding ask ofSection
-valid-by (Refused n p) es a l h =
+valid-by (Refused n p) es a h =
     let b = a .above in
-    let c = l .low in
+    let c = a .low in
     let t : (not (eqb n 0) && not (eqb n 10)) ≡ true = rw (ne-eqb n 0 (λ q. omega arith), ne-eqb n 10 (λ q. omega arith)) in
     absurd (never (sym t ∙ h))
-valid-by (Valid e) es a l h = (e, refl)
+valid-by (Valid e) es a h = (e, refl)
 
 module _ (s : List ℕ) (a : ℕ) (r : Found) (e : r ≡ byAddress s a) where
   pub section-refused : (k : Plan) → ofSection r ≡ true → ask refuse k (sectionCheck s) ≡ refuse (r .number) (r .place)
@@ -53,7 +51,7 @@ module _ (s : List ℕ) (a : ℕ) (r : Found) (e : r ≡ byAddress s a) where
 
   valid : ofSection r ≡ false → (n : ℕ) × (sectionCheck s ≡ Valid n)
   unfolding byAddress
-  valid h = valid-by (sectionCheck s) (withAddress a (entries s)) (section-above s) (section-low s) (rw e at h)
+  valid h = valid-by (sectionCheck s) (withAddress a (entries s)) (section-numbered s) (rw e at h)
 
   pub section-accepted : ofSection r ≡ false → Accepted s
   section-accepted h = let v = valid h in v .1 ∙ ap Valid (accepted-length s (v .0) (v .1) .0)

@@ -10,6 +10,7 @@ use lib.Dec.{ltb}
 use lib.ListN.{length, getD, length-map}
 use lib.Seq.{ext-getD}
 use Rattle.stackmap.specs.Section.{Record}
+use Rattle.stackmap.proofs.Tests.{and-true}
 use Rattle.moves.specs.Search.{lowestFrom, lowest}
 use Rattle.moves.specs.Pointers.{Pointer, null}
 use Rattle.moves.specs.Plan.{Plan, refuse}
@@ -20,7 +21,7 @@ use Rattle.relocate.specs.declared.Frame.{Frame}
 use Rattle.relocate.specs.Statepoint.{locationAt, pairsAt, Pair, pairs, isNull, slotAt, slotInside, inside, pointerOf}
 use Rattle.relocate.specs.Plan.{every}
 use Rattle.relocate.specs.Code.{pairNumber, Lives}
-use Rattle.relocate.proofs.Pairing.{and-true, noPair, pair-at}
+use Rattle.relocate.proofs.Pairing.{noPair, pair-at}
 use Rattle.relocate.proofs.Planned.{every-yes, every-no, from-slots}
 
 -- Every pair passes, or the lowest that does not is refused.

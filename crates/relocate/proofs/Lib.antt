@@ -2,12 +2,9 @@ pub mod Pairing
 pub mod Places
 pub mod Records
 pub mod Forms
-pub mod Refusals
-pub mod Owned
 pub mod Asking
 pub mod Planned
 pub mod Demand
-pub mod Fits
 pub mod Like
 pub mod Reorder
 pub mod Consequences

@@ -10,12 +10,11 @@ use lib.Seq.{length-take-le, drop-at, getD-take}
 use Rattle.stackmap.specs.Fields.{Field, size, Fit, all}
 use Rattle.stackmap.specs.Section.{Location, Record, Section, functionFields, constantFields, locationFields, liveOutFields, recordHead, recordMiddle, recordEnd, recordFields, header, sectionFields, Encodable, Owner, Entry, address, owners, entriesFrom, entriesOf}
 use Rattle.stackmap.specs.Fault.{GoodEntry, WellFormed}
-use Rattle.stackmap.proofs.Fields.{size-append}
+use Rattle.stackmap.proofs.Fields.{size-append, fit-join, fit-first, fit-second, fit-each, each-fit}
 use Rattle.stackmap.proofs.Back.{record-size, section-size}
 use Rattle.moves.proofs.Searches.{perm-mem, perm-length}
 use Rattle.relocate.specs.Statepoint.{noLocation, deoptCount, pairsAt, constantHead, pairedRest, isStatepoint, Pair, pairUp, pairs}
 use Rattle.relocate.specs.Reorder.{unpair, Reordered, EachReordered}
-use Rattle.relocate.proofs.Fits.{fit-join, fit-first, fit-second, fit-each, each-fit}
 use Rattle.relocate.proofs.Pairing.{statepoint-tells}
 
 pair-unpair : (ps : List Pair) → pairUp (unpair ps) ≡ ps

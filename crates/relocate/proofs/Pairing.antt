@@ -1,7 +1,7 @@
 -- Statepoints and the pairs of their locations.
 use Prim.Native.Nat.{ℕ, zero, suc, _+_, _*_, _-_, _/_, _%_, _^_, _≤_, _<_}
-use mathlib.Core.Path.{_≡_, refl, sym, _∙_}
-use mathlib.Core.Bool.{Bool, true, false, _&&_, true≢false}
+use mathlib.Core.Path.{_≡_, refl, _∙_}
+use mathlib.Core.Bool.{true, false, _&&_}
 use mathlib.Core.List.{List, [], _∷_}
 use native.Mathlib.Omega.{arith}
 use native.Mathlib.Nat.{not-suc-le-zero}
@@ -11,13 +11,10 @@ use lib.ListN.{length, getD, drop, length-drop}
 use lib.Seq.{getD-drop}
 use Rattle.stackmap.specs.Layout.{negativeFrom}
 use Rattle.stackmap.specs.Section.{Location, Record, numLocations}
+use Rattle.stackmap.proofs.Tests.{and-true}
 use Rattle.relocate.specs.Statepoint.{noLocation, deoptCount, pairsAt, constantHead, pairedRest, isStatepoint, Pair, pairUp, pairs}
 use Rattle.relocate.specs.Code.{recordOf, Stands, pairNumber, Paired}
 use Rattle.relocate.proofs.Records.{count-locations}
-
-pub and-true : (a b : Bool) → (a && b) ≡ true → (a ≡ true) × (b ≡ true)
-and-true true b h = (refl, h)
-and-true false b h = absurd (true≢false (sym h))
 
 -- what a statepoint tells
 pub record Tells (r : Record) : Type 0 where

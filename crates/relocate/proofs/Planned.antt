@@ -10,13 +10,13 @@ use Rattle.stackmap.specs.declared.Verdict.the-variants.{Valid}
 use Rattle.stackmap.specs.Layout.{stackSizeUnknown}
 use Rattle.stackmap.specs.Section.{Location, Entry, entries, readSection}
 use Rattle.stackmap.specs.Check.{sectionCheck}
+use Rattle.stackmap.proofs.Tests.{and-true}
 use Rattle.moves.specs.Pointers.{Pointer, null, slots}
 use Rattle.moves.specs.Plan.{Plan, refuse, window}
 use Rattle.moves.proofs.Lists.{Sound}
 use Rattle.relocate.specs.declared.Frame.{Frame}
 use Rattle.questions.specs.Questions.{ask, withAddress}
 use Rattle.relocate.specs.Statepoint.{Pair, pairs, isNull, slotInside, slotAt, registerOf, excess, inside, pointerOf}
-use Rattle.relocate.proofs.Pairing.{and-true}
 use Rattle.relocate.specs.Plan.{need, only, every, stackSize, extentRight, planPairs, planRecord, plan}
 
 not-true : (a : Bool) → not a ≡ true → a ≡ false

@@ -13,6 +13,7 @@ use Rattle.stackmap.specs.Section.{Record, Entry, entries}
 use Rattle.stackmap.specs.Check.{Accepted}
 use Rattle.questions.specs.declared.Found.{Found}
 use Rattle.questions.specs.Questions.{ask, withAddress, firstOf, byAddress}
+use Rattle.stackmap.proofs.Tests.{and-true}
 use Rattle.moves.specs.declared.Move.{Move}
 use Rattle.moves.specs.Search.{lowest}
 use Rattle.moves.specs.Table.{tableRight, lookUp}
@@ -25,7 +26,6 @@ use Rattle.relocate.specs.Statepoint.{isStatepoint, pairs, rightForm, in
 use Rattle.relocate.specs.Plan.{need, only, stackSize, imageRight, extentRight, planPairs, planRecord, planEntry, plan}
 use Rattle.relocate.specs.Relocation.{answer, moved, Relocates}
 use Rattle.relocate.specs.Code.{recordOf, poolOf, pairNumber, ofSection}
-use Rattle.relocate.proofs.Pairing.{and-true}
 use Rattle.relocate.proofs.Following.{every-refused, every-passed}
 use Rattle.relocate.proofs.Asking.{section-refused, one-found, body-is, size-is}
 

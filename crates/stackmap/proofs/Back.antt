@@ -1,5 +1,5 @@
 -- The bytes of a section are read back as the section, and their refusal is the section's.
-use Prim.Native.Nat.{ℕ, suc, _+_, _*_, _-_, _%_, _≤_}
+use Prim.Native.Nat.{ℕ, suc, _+_, _*_, _%_, _≤_}
 use mathlib.Core.Path.{_≡_, refl, sym, _∙_, ap}
 use mathlib.Core.List.{List, [], _∷_, _++_, append-nil}
 use mathlib.Core.Bool.{Bool, true, false}
@@ -13,8 +13,8 @@ use Rattle.wire.proofs.Laws.{word-drop}
 use Rattle.stackmap.specs.declared.Verdict.{Verdict}
 use Rattle.stackmap.specs.declared.Verdict.the-variants.{Valid, Refused}
 use Rattle.stackmap.specs.Verdict.{must, chain, bind, shift}
-use Rattle.stackmap.specs.Fields.{Field, _of_, size, all}
-use Rattle.stackmap.specs.Section.{Function, Record, Section, functionFields, constantFields, locationFields, liveOutFields, recordFields, sectionFields, encodeSection, Encodable, readFunction, readConstant, readLocation, readLiveOut, recordLength, readRecord, readRecords, readFunctions, readSection, Owner, owners, counted, Entry, address, entriesFrom, entriesOf}
+use Rattle.stackmap.specs.Fields.{Field, size, all}
+use Rattle.stackmap.specs.Section.{Function, Record, Section, functionFields, constantFields, locationFields, liveOutFields, recordHead, recordMiddle, recordEnd, recordFields, header, sectionFields, encodeSection, Encodable, readFunction, readConstant, readLocation, readLiveOut, recordLength, readRecord, readRecords, readFunctions, readSection, Owner, owners, counted, Entry, address, entriesFrom, entriesOf}
 use Rattle.stackmap.specs.Record.{recordInside, recordBytes, recordCheck}
 use Rattle.stackmap.specs.Check.{headerCheck, tablesCheck, recordsCheck, walkCheck, sectionCheck}
 use Rattle.stackmap.specs.Fault.{entryFault, entriesFault, sectionFault}
@@ -35,19 +35,19 @@ module _ (r : Record) where
   locationsStop = 16 + 12 * n + n % 2 * 4
 
   abbrev A : List Field
-  A = (8 of r .id) ∷ (4 of r .offset) ∷ (2 of 0) ∷ (2 of n) ∷ []
+  A = recordHead r
 
   abbrev B : List Field
   B = all locationFields (r .locations)
 
   abbrev C : List Field
-  C = ((n % 2 * 4 + 2) of 0) ∷ (2 of m) ∷ []
+  C = recordMiddle r
 
   abbrev D : List Field
   D = all liveOutFields (r .liveOuts)
 
   abbrev E : List Field
-  E = (((m + 1) % 2 * 4) of 0) ∷ []
+  E = recordEnd r
 
   sizes : (size (all locationFields (r .locations)) ≡ 12 * n) × (size (all liveOutFields (r .liveOuts)) ≡ 4 * m)
   sizes = (size-all locationFields 12 location-size (r .locations), size-all liveOutFields 4 live-out-size (r .liveOuts))
@@ -202,7 +202,7 @@ module _ (t : Section) where
   nc = length (t .constants)
 
   abbrev H : List Field
-  H = (1 of 3) ∷ (3 of 0) ∷ (4 of nf) ∷ (4 of nc) ∷ (4 of length (t .records)) ∷ []
+  H = header t
 
   abbrev F : List Field
   F = all functionFields (t .functions)

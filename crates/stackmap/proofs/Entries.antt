@@ -1,21 +1,18 @@
 -- The entries of a section, as a walk over its bytes finds them.
-use Prim.Native.Nat.{ℕ, zero, suc, _+_, _*_, _≤_}
-use mathlib.Core.Path.{_≡_, refl, sym, _∙_, ap}
-use mathlib.Core.List.{List, [], _∷_, List·Memᴰ, List·Memᴰ·not-nil, List·Memᴰ·cases-cons}
+use Prim.Native.Nat.{ℕ, zero, suc, _+_, _*_, _-_, _≤_, _<_}
+use mathlib.Core.Path.{_≡_, _∙_, ap}
+use mathlib.Core.List.{List, [], _∷_, List·Memᴰ, List·Memᴰ·head, List·Memᴰ·tail, List·Memᴰ·not-nil, List·Memᴰ·cases-cons, List·Memᴰ·append-cases}
 use mathlib.Core.Logic.{⊎-elim}
-use mathlib.Core.Option.{Option, none, some}
 use native.Mathlib.Omega.{arith}
-use native.Mathlib.Nat.{add-zero}
-use lib.ListN.{length, drop, getElem?}
+use lib.ListN.{length, drop, replicate}
 use Rattle.wire.specs.Word.{Bytes}
 use Rattle.stackmap.specs.declared.Verdict.the-variants.{Valid}
-use Rattle.stackmap.specs.Fields.{size, all}
-use Rattle.stackmap.specs.Section.{Record, recordFields, numRecords, recordsAt, readFunction, readConstant, recordLength, readRecord, readRecords, readFunctions, readSection, Owner, owners, Entry, entriesFrom, entriesOf, entries}
+use Rattle.stackmap.specs.Fields.{size, all, many}
+use Rattle.stackmap.specs.Section.{Record, recordFields, numFunctions, numRecords, recordsAt, readFunction, readConstant, recordLength, readRecord, readRecords, readFunctions, readSection, Owner, owners, Entry, entriesFrom, entriesOf, entries}
 use Rattle.stackmap.specs.Check.{sectionCheck}
 use Rattle.stackmap.proofs.Fields.{size-append, length-many}
-use Rattle.stackmap.proofs.Back.{section-size, length-owners}
-use Rattle.stackmap.proofs.Forth.{read-size, section-long, length-records}
-use Rattle.stackmap.proofs.WellFormed.{accepted-well-formed}
+use Rattle.stackmap.proofs.Back.{section-size}
+use Rattle.stackmap.proofs.Forth.{read-size, section-long}
 
 -- one step of the walk, by the bytes at `at`
 pub entries-step : (k at n : ℕ) (o : Owner) (os : List Owner) (s : List ℕ)
@@ -47,24 +44,45 @@ stretch-inside (r ∷ rs) k at (o ∷ os) e m =
     (λ h. let i = stretch-inside rs (suc k) (at + size (recordFields r)) os e h in (omega arith, omega arith))
     (List·Memᴰ·cases-cons m)
 
--- a record's number is its place in the list
-numbered : (j k at : ℕ) (os : List Owner) (rs : List Record) (e : Entry) → getElem? (entriesFrom k at os rs) j ≡ some e → e .number ≡ k + j
-unfolding entriesFrom
-numbered j k at [] rs e h = absurd (let z : _≡_ {A = ℕ} 0 1 = cc in omega arith)
-numbered j k at (o ∷ os) [] e h = absurd (let z : _≡_ {A = ℕ} 0 1 = cc in omega arith)
-numbered zero k at (o ∷ os) (r ∷ rs) e h = let q : e .number ≡ k = ap (λ (x : Option Entry). nameOf x) (sym h) in q ∙ sym (add-zero k)
-  where
-    nameOf : Option Entry → ℕ
-    nameOf none = 0
-    nameOf (some x) = x .number
-numbered (suc j) k at (o ∷ os) (r ∷ rs) e h = numbered j (suc k) (at + size (recordFields r)) os rs e h ∙ omega arith
+-- The function that a record belongs to, by its number.
 
-length-entries : (k at : ℕ) (os : List Owner) (rs : List Record) → length os ≡ length rs → length (entriesFrom k at os rs) ≡ length rs
+all-same : {A : Type 0} (n : ℕ) (x y : A) → List·Memᴰ y (replicate n x) → y ≡ x
+all-same zero x y m = absurd (List·Memᴰ·not-nil m)
+all-same (suc n) x y m = ⊎-elim (λ e. e) (λ h. all-same n x y h) (List·Memᴰ·cases-cons m)
+
+owner-in : (rs : List Record) (k at : ℕ) (os : List Owner) (e : Entry) → List·Memᴰ e (entriesFrom k at os rs) → List·Memᴰ (e .owner) os
 unfolding entriesFrom
-length-entries k at [] [] h = refl
-length-entries k at [] (r ∷ rs) h = absurd (omega arith)
-length-entries k at (o ∷ os) [] h = absurd (omega arith)
-length-entries k at (o ∷ os) (r ∷ rs) h = ap suc (length-entries (suc k) (at + size (recordFields r)) os rs (omega arith))
+owner-in rs k at [] e m = absurd (List·Memᴰ·not-nil m)
+owner-in [] k at (o ∷ os) e m = absurd (List·Memᴰ·not-nil m)
+owner-in (r ∷ rs) k at (o ∷ os) e m =
+    ⊎-elim (λ q. List·Memᴰ·head (ap (λ (x : Entry). x .owner) q))
+    (λ h. List·Memᴰ·tail (owner-in rs (suc k) (at + size (recordFields r)) os e h))
+    (List·Memᴰ·cases-cons m)
+
+-- o is one of the n functions from `at`, of which the first has the number i
+record Among (s : List ℕ) (i n at : ℕ) (o : Owner) : Type 0 where
+  low : i ≤ o .number
+  high : o .number < i + n
+  is : o .function ≡ readFunction s (at + 24 * (o .number - i))
+
+owner-at : (n i at : ℕ) (s : List ℕ) (o : Owner) → List·Memᴰ o (owners i (many readFunction 24 n s at)) → Among s i n at o
+unfolding owners many
+owner-at zero i at s o m = absurd (List·Memᴰ·not-nil m)
+owner-at (suc n) i at s o m =
+    let f = readFunction s at in
+    ⊎-elim
+    (λ h.
+    let q = all-same (f .count) (record { number = i; function = f }) o h in
+    let d : o .number ≡ i = ap (λ (x : Owner). x .number) q in
+    let z : at + 24 * (o .number - i) ≡ at = omega arith in
+    record { low = omega arith; high = omega arith; is = rw z (ap (λ (x : Owner). x .function) q) })
+    (λ h.
+    let r = owner-at n (suc i) (at + 24) s o h in
+    let l = r .low in
+    let u = r .high in
+    let z : at + 24 + 24 * (o .number - suc i) ≡ at + 24 * (o .number - i) = omega arith in
+    record { low = omega arith; high = omega arith; is = rw z at (r .is) })
+    (List·Memᴰ·append-cases (replicate (f .count) (record { number = i; function = f })) m)
 
 module _ (s : List ℕ) where
   pub begins : 16 + 24 * length (readSection s .functions) + 8 * length (readSection s .constants) ≡ recordsAt s
@@ -75,9 +93,15 @@ module _ (s : List ℕ) where
   unfolding entries entriesOf readSection
   entry-body e m = from-stretch (numRecords s) 0 (recordsAt s) (owners 0 (readSection s .functions)) s e (rw begins at m)
 
-  pub entry-number : (j : ℕ) (e : Entry) → getElem? (entries s) j ≡ some e → e .number ≡ j
-  unfolding entries entriesOf
-  entry-number j e h = numbered j 0 _ _ _ e h ∙ omega arith
+  -- an entry's function stands among the section's, at its number
+  pub entry-owner : (e : Entry) → List·Memᴰ e (entries s)
+      → (e .owner .number < numFunctions s) × (e .owner .function ≡ readFunction s (16 + 24 * e .owner .number))
+  unfolding entries entriesOf readSection readFunctions
+  entry-owner e m =
+      let a = owner-at (numFunctions s) 0 16 s (e .owner) (owner-in _ 0 _ _ e m) in
+      let u = a .high in
+      let z : e .owner .number - 0 ≡ e .owner .number = omega arith in
+      (omega arith, rw z at (a .is))
 
   module _ (n : ℕ) (k : sectionCheck s ≡ Valid n) (w : Bytes s) where
     pub entry-inside : (e : Entry) → List·Memᴰ e (entries s) → (16 ≤ e .first) × (e .first + recordLength (drop (e .first) s) ≤ length s)
@@ -88,13 +112,3 @@ module _ (s : List ℕ) where
         let l = section-long s n k in
         let b : size (recordFields (e .body)) ≡ recordLength (drop (e .first) s) = ap (λ (r : Record). size (recordFields r)) (entry-body e m) ∙ read-size (drop (e .first) s) in
         (omega arith, omega arith)
-
-    records-counted : length (readSection s .records) ≡ numRecords s
-    unfolding readSection
-    records-counted = length-records s (numRecords s) (recordsAt s)
-
-    pub entries-counted : length (entries s) ≡ numRecords s
-    unfolding entries entriesOf
-    entries-counted =
-        let v = accepted-well-formed s n w k .0 in
-        length-entries 0 _ _ _ (length-owners 0 (readSection s .functions) ∙ v .adds-up) ∙ records-counted

@@ -1,14 +1,14 @@
 -- Numbers that stand in a list of bytes, both ways.
-use Prim.Native.Nat.{ℕ, zero, suc, _+_, _*_, _-_, _≤_}
+use Prim.Native.Nat.{ℕ, zero, suc, _+_, _*_, _≤_}
 use mathlib.Core.Path.{_≡_, refl, ap, _∙_}
-use mathlib.Core.List.{List, [], _∷_, _++_, append-assoc}
+use mathlib.Core.List.{List, [], _∷_, _++_, append-assoc, List·Memᴰ, List·Memᴰ·head, List·Memᴰ·tail}
 use native.Mathlib.Omega.{arith}
 use native.Mathlib.Nat.{add-zero, zero-add, add-assoc, mul-suc}
 use lib.ListN.{length, drop, length-append}
 use lib.Seq.{drop-drop, drop-append-seam}
 use Rattle.wire.specs.Word.{Bytes, word, bytes}
 use Rattle.wire.proofs.Laws.{word-bound, word-reads, word-back, length-bytes}
-use Rattle.stackmap.specs.Fields.{Field, _of_, bytesOf, size, Fit, all, many}
+use Rattle.stackmap.specs.Fields.{Field, bytesOf, size, Fit, all, many}
 
 -- from the place a + o on the list has these numbers
 abbrev pub HasFrom : List ℕ → ℕ → ℕ → List Field → Type 0
@@ -92,6 +92,31 @@ has-join s a o b (f ∷ fs) gs e h k = (h .0, has-join s a (o + f .width) b fs g
 
 pub join : (s : List ℕ) (a b : ℕ) (fs gs : List Field) → b ≡ a + size fs → Has s a fs → Has s b gs → Has s a (fs ++ gs)
 join s a b fs gs e h k = has-join s a 0 b fs gs (omega arith) h k
+
+-- numbers that fit
+
+pub fit-join : (fs gs : List Field) → Fit fs → Fit gs → Fit (fs ++ gs)
+fit-join [] gs h k = k
+fit-join (f ∷ fs) gs h k = (h .0, fit-join fs gs (h .1) k)
+
+pub fit-first : (fs gs : List Field) → Fit (fs ++ gs) → Fit fs
+fit-first [] gs h = tt
+fit-first (f ∷ fs) gs h = (h .0, fit-first fs gs (h .1))
+
+pub fit-second : (fs gs : List Field) → Fit (fs ++ gs) → Fit gs
+fit-second [] gs h = h
+fit-second (f ∷ fs) gs h = fit-second fs gs (h .1)
+
+-- each item's numbers fit
+pub fit-each : {A : Type 0} (f : A → List Field) (xs : List A) → ((x : A) → List·Memᴰ x xs → Fit (f x)) → Fit (all f xs)
+unfolding all
+fit-each f [] h = tt
+fit-each f (x ∷ xs) h = fit-join (f x) (all f xs) (h x (List·Memᴰ·head refl)) (fit-each f xs (λ y m. h y (List·Memᴰ·tail m)))
+
+pub each-fit : {A : Type 0} (f : A → List Field) {x : A} {xs : List A} → Fit (all f xs) → List·Memᴰ x xs → Fit (f x)
+unfolding all
+each-fit f {x} h (List·Memᴰ·head {x = y} {xs = ys} e) = rw e (fit-first (f y) (all f ys) h)
+each-fit f {x} h (List·Memᴰ·tail {x = y} {xs = ys} m) = each-fit f (fit-second (f y) (all f ys) h) m
 
 -- items of one size, one after the other
 

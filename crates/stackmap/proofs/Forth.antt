@@ -1,5 +1,5 @@
 -- The bytes of an accepted section are those of the section that is read from them.
-use Prim.Native.Nat.{ℕ, zero, suc, _+_, _*_, _-_, _%_, _≤_}
+use Prim.Native.Nat.{ℕ, zero, suc, _+_, _*_, _%_, _≤_}
 use mathlib.Core.Path.{_≡_, refl, sym, _∙_, ap}
 use mathlib.Core.List.{List, [], _∷_, _++_, append-nil}
 use native.Mathlib.Omega.{arith}
@@ -169,7 +169,7 @@ module _ (s : List ℕ) (c stop : ℕ) where
       let d : b .0 ≡ at + recordLength (drop at s) = f .2 ∙ ap (λ (x : ℕ). at + x) (ends (drop at s) c (o .function .address) _ (f .1)) in
       one-more (length os) at (o .function .address) _ (f .1) (records-stand os (at + recordLength (drop at s)) (rw d at (b .2)))
 
-pub length-records : (s : List ℕ) (n at : ℕ) → length (readRecords n s at) ≡ n
+length-records : (s : List ℕ) (n at : ℕ) → length (readRecords n s at) ≡ n
 unfolding readRecords
 length-records s zero at = refl
 length-records s (suc n) at = ap suc (length-records s n _)

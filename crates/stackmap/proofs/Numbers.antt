@@ -1,12 +1,12 @@
--- No refusal has the number 0.
-use Prim.Native.Nat.{ℕ, zero, suc, _+_, _<_}
+-- Which numbers refusals have: those of a section have 1 to 9.
+use Prim.Native.Nat.{ℕ, zero, suc, _+_, _≤_, _<_}
 use mathlib.Core.List.{List, [], _∷_}
 use mathlib.Core.Bool.{Bool, true, false}
 use native.Mathlib.Omega.{arith}
 use lib.ListN.{drop}
 use Rattle.stackmap.specs.declared.Verdict.{Verdict}
 use Rattle.stackmap.specs.declared.Verdict.the-variants.{Valid, Refused}
-use Rattle.stackmap.specs.Verdict.{must, chain, pick, shift, bind}
+use Rattle.stackmap.specs.Verdict.{numberOf, must, chain, pick, shift, bind}
 use Rattle.stackmap.specs.Section.{Owner}
 use Rattle.stackmap.specs.Record.{zeros, locationCheck, locations, liveOuts, recordInside, recordBytes, recordCheck}
 use Rattle.stackmap.specs.Check.{headerCheck, tablesCheck, recordsCheck, walkCheck, sectionCheck}
@@ -15,72 +15,80 @@ abbrev pub aboveOf : Verdict → ℕ
 aboveOf (Valid e) = 1
 aboveOf (Refused n p) = n
 
-pub record Above (c : Verdict) : Type 0 where
+-- a refusal has a number from 1 to m
+pub record Numbered (m : ℕ) (c : Verdict) : Type 0 where
   pub above : 0 < aboveOf c
+  pub low : numberOf c ≤ m
 
-pub a-must : (b : Bool) (n p : ℕ) (k : Verdict) → Above k → Above (must b (suc n) p k)
-unfolding must
-a-must true n p k a = a
-a-must false n p k a = record { above = omega arith }
+pub n-more : {m k : ℕ} {c : Verdict} → m ≤ k → Numbered m c → Numbered k c
+n-more h a = record { above = a .above; low = let l = a .low in omega arith }
 
-pub a-valid : (e : ℕ) → Above (Valid e)
-a-valid e = record { above = omega arith }
+module _ {m : ℕ} where
+  pub n-valid : (e : ℕ) → Numbered m (Valid e)
+  n-valid e = record { above = omega arith; low = omega arith }
 
-pub a-chain : (a k : Verdict) → Above a → Above k → Above (chain a k)
-unfolding chain
-a-chain (Valid e) k h w = w
-a-chain (Refused n p) k h w = h
+  pub n-must : (b : Bool) (n p : ℕ) (k : Verdict) → n < m → Numbered m k → Numbered m (must b (suc n) p k)
+  unfolding must
+  n-must true n p k h a = a
+  n-must false n p k h a = record { above = omega arith; low = omega arith }
 
-a-pick : (b : Bool) (j k : Verdict) → Above j → Above k → Above (pick b j k)
-unfolding pick
-a-pick true j k h w = h
-a-pick false j k h w = w
+  pub n-chain : (a k : Verdict) → Numbered m a → Numbered m k → Numbered m (chain a k)
+  unfolding chain
+  n-chain (Valid e) k h w = w
+  n-chain (Refused n p) k h w = h
 
-a-shift : (p : ℕ) (c : Verdict) → Above c → Above (shift p c)
-unfolding shift
-a-shift p (Valid e) h = record { above = omega arith }
-a-shift p (Refused n q) h = record { above = h .above }
+  n-pick : (b : Bool) (j k : Verdict) → Numbered m j → Numbered m k → Numbered m (pick b j k)
+  unfolding pick
+  n-pick true j k h w = h
+  n-pick false j k h w = w
 
-a-bind : (a : Verdict) (k : ℕ → Verdict) → Above a → ((e : ℕ) → Above (k e)) → Above (bind a k)
-unfolding bind
-a-bind (Valid e) k h w = w e
-a-bind (Refused n p) k h w = record { above = h .above }
+  n-shift : (p : ℕ) (c : Verdict) → Numbered m c → Numbered m (shift p c)
+  unfolding shift
+  n-shift p (Valid e) h = n-valid (p + e)
+  n-shift p (Refused n q) h = record { above = h .above; low = h .low }
 
-a-zeros : (n : ℕ) (s : List ℕ) (at : ℕ) → Above (zeros n s at)
+  n-bind : (a : Verdict) (k : ℕ → Verdict) → Numbered m a → ((e : ℕ) → Numbered m (k e)) → Numbered m (bind a k)
+  unfolding bind
+  n-bind (Valid e) k h w = w e
+  n-bind (Refused n p) k h w = record { above = h .above; low = h .low }
+
+n-zeros : (n : ℕ) (s : List ℕ) (at : ℕ) → Numbered 9 (zeros n s at)
 unfolding zeros
-a-zeros zero s at = a-valid at
-a-zeros (suc n) s at = a-must _ 2 at _ (a-zeros n s (at + 1))
+n-zeros zero s at = n-valid at
+n-zeros (suc n) s at = n-must _ 2 at _ (omega arith) (n-zeros n s (at + 1))
 
-a-location : (s : List ℕ) (c at : ℕ) → Above (locationCheck s c at)
+n-location : (s : List ℕ) (c at : ℕ) → Numbered 9 (locationCheck s c at)
 unfolding locationCheck
-a-location s c at =
-    a-must _ 5 _ _ (a-must _ 5 _ _ (a-must _ 2 _ _ (a-must _ 2 _ _ (a-must _ 2 _ _
-    (a-pick _ _ _ (a-must _ 6 _ _ (a-must _ 6 _ _ (a-valid _))) (a-valid _))))))
+n-location s c at =
+    n-must _ 5 _ _ (omega arith) (n-must _ 5 _ _ (omega arith)
+    (n-must _ 2 _ _ (omega arith) (n-must _ 2 _ _ (omega arith) (n-must _ 2 _ _ (omega arith)
+    (n-pick _ _ _ (n-must _ 6 _ _ (omega arith) (n-must _ 6 _ _ (omega arith) (n-valid _))) (n-valid _))))))
 
-a-locations : (n : ℕ) (s : List ℕ) (c at : ℕ) → Above (locations n s c at)
+n-locations : (n : ℕ) (s : List ℕ) (c at : ℕ) → Numbered 9 (locations n s c at)
 unfolding locations
-a-locations zero s c at = a-valid at
-a-locations (suc n) s c at = a-chain _ _ (a-location s c at) (a-locations n s c (at + 12))
+n-locations zero s c at = n-valid at
+n-locations (suc n) s c at = n-chain _ _ (n-location s c at) (n-locations n s c (at + 12))
 
-a-outs : (n : ℕ) (s : List ℕ) (at : ℕ) → Above (liveOuts n s at)
+n-outs : (n : ℕ) (s : List ℕ) (at : ℕ) → Numbered 9 (liveOuts n s at)
 unfolding liveOuts
-a-outs zero s at = a-valid at
-a-outs (suc n) s at = a-must _ 2 _ _ (a-outs n s (at + 4))
+n-outs zero s at = n-valid at
+n-outs (suc n) s at = n-must _ 2 _ _ (omega arith) (n-outs n s (at + 4))
 
-a-record : (s : List ℕ) (c a : ℕ) → Above (recordCheck s c a)
+n-record : (s : List ℕ) (c a : ℕ) → Numbered 9 (recordCheck s c a)
 unfolding recordCheck recordInside recordBytes
-a-record s c a =
-    a-chain _ _ (a-must _ 3 _ _ (a-valid _)) (a-must _ 7 _ _
-    (a-chain _ _ (a-zeros 2 s 12) (a-chain _ _ (a-locations _ s c 16) (a-chain _ _ (a-zeros _ s _) (a-chain _ _ (a-outs _ s _) (a-chain _ _ (a-zeros _ s _) (a-valid _)))))))
+n-record s c a =
+    n-chain _ _ (n-must _ 3 _ _ (omega arith) (n-valid _)) (n-must _ 7 _ _ (omega arith)
+    (n-chain _ _ (n-zeros 2 s 12) (n-chain _ _ (n-locations _ s c 16) (n-chain _ _ (n-zeros _ s _)
+    (n-chain _ _ (n-outs _ s _) (n-chain _ _ (n-zeros _ s _) (n-valid _)))))))
 
-a-walk : (os : List Owner) (s : List ℕ) (c at : ℕ) → Above (recordsCheck os s c at)
+n-walk : (os : List Owner) (s : List ℕ) (c at : ℕ) → Numbered 9 (recordsCheck os s c at)
 unfolding recordsCheck
-a-walk [] s c at = a-valid at
-a-walk (o ∷ os) s c at = a-bind _ _ (a-shift at _ (a-record (drop at s) c (o .function .address))) (λ e. a-walk os s c e)
+n-walk [] s c at = n-valid at
+n-walk (o ∷ os) s c at = n-bind _ _ (n-shift at _ (n-record (drop at s) c (o .function .address))) (λ e. n-walk os s c e)
 
-pub section-above : (s : List ℕ) → Above (sectionCheck s)
+pub section-numbered : (s : List ℕ) → Numbered 9 (sectionCheck s)
 unfolding sectionCheck headerCheck tablesCheck walkCheck
-section-above s =
-    a-chain _ _ (a-must _ 0 _ _ (a-must _ 0 _ _ (a-must _ 1 _ _ (a-zeros 3 s 1))))
-    (a-chain _ _ (a-must _ 3 _ _ (a-must _ 3 _ _ (a-must _ 4 _ _ (a-valid _))))
-    (a-bind _ _ (a-walk _ s _ _) (λ p. a-must _ 8 _ _ (a-valid p))))
+section-numbered s =
+    n-chain _ _ (n-must _ 0 _ _ (omega arith) (n-must _ 0 _ _ (omega arith) (n-must _ 1 _ _ (omega arith) (n-zeros 3 s 1))))
+    (n-chain _ _ (n-must _ 3 _ _ (omega arith) (n-must _ 3 _ _ (omega arith) (n-must _ 4 _ _ (omega arith) (n-valid _))))
+    (n-bind _ _ (n-walk _ s _ _) (λ p. n-must _ 8 _ _ (omega arith) (n-valid p))))

@@ -32,8 +32,9 @@ module _ {H : Type 0} (add : Entry → H → H) where
     pub walking : Walking s c (recordsAt s) next left remaining p
     pub kept : fold (entries s) h₀ ≡ fold (entriesFrom number p (ahead s next left) (readRecords remaining s p)) h
 
-  pub fold-start : {s : List ℕ} {c : ℕ} (h : H) → Walkable s → recordsAt s ≤ length s → Folding s c h 0 0 (numRecords s) 0 (recordsAt s) h
-  fold-start {s} {c} h w i = record { walking = walk-start w i; kept = rw (ahead-start s) (ap (λ (es : List Entry). fold es h) same) }
+  pub fold-start : {s : List ℕ} {c at count : ℕ} (h : H) → Walkable s → at ≡ recordsAt s → at ≤ length s → count ≡ numRecords s → Folding s c h 0 0 count 0 at h
+  fold-start {s} {c} {at} {count} h w e i n =
+      rw (n, e) (record { walking = walk-start w (rw e at i); kept = rw (ahead-start s) (ap (λ (es : List Entry). fold es h) same) })
     where
       same : entries s ≡ entriesFrom 0 (recordsAt s) (owners 0 (readFunctions s)) (readRecords (numRecords s) s (recordsAt s))
       same = unfold entries entriesOf in rw (begins s) (unfold readSection in refl)
@@ -51,8 +52,9 @@ module _ {H : Type 0} (add : Entry → H → H) where
       ∙ rw (← e, ahead-one s next′ left′ l, entries-step number p (remaining - 1) (ownerAt s (next′ - 1)) (ahead s next′ (left′ - 1)) s, d, add-one) in
       record { walking = walk-on next′ left′ (f .walking) e l b m v; kept = f .kept ∙ ap (λ (es : List Entry). fold es h) t }
 
-  pub fold-end : {s : List ℕ} {c next left number p : ℕ} {h₀ h : H} → Folding s c h₀ next left 0 number p h → fold (entries s) h₀ ≡ h
-  fold-end {s} {c} {next} {left} {number} {p} {h₀} {h} f = f .kept ∙ none (ahead s next left)
+  pub fold-end : {s : List ℕ} {c next left remaining number p : ℕ} {h₀ h : H} → Folding s c h₀ next left remaining number p h → remaining ≡ 0
+      → fold (entries s) h₀ ≡ h
+  fold-end {s} {c} {next} {left} {remaining} {number} {p} {h₀} {h} f z = f .kept ∙ rw z (none (ahead s next left))
     where
       none : (os : List Owner) → fold (entriesFrom number p os (readRecords 0 s p)) h ≡ h
       none [] = unfold entriesFrom in refl

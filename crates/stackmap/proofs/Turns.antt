@@ -84,9 +84,9 @@ module _ {s : List ℕ} {c at : ℕ} where
           same = walk-here ∙ rw v;
         }
 
-  pub walk-end : {next left p : ℕ} → Walking s c at next left 0 p → recordsCheck (owners 0 (readFunctions s)) s c at ≡ Valid p
+  pub walk-end : {next left remaining p : ℕ} → Walking s c at next left remaining p → remaining ≡ 0 → recordsCheck (owners 0 (readFunctions s)) s c at ≡ Valid p
   unfolding recordsCheck
-  walk-end {next} {left} {p} w = w .same ∙ none (ahead s next left) (w .counted)
+  walk-end {next} {left} {p = p} w z = w .same ∙ none (ahead s next left) (w .counted ∙ z)
     where
       none : (os : List Owner) → length os ≡ 0 → recordsCheck os s c p ≡ Valid p
       none [] h = refl

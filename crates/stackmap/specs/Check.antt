@@ -1,15 +1,15 @@
 -- The check of a whole section, in document 01's order: 1, 2, 3 in the header, 4 for functions then constants, 5, then each
 -- record, and 9 last.
-use Prim.Native.Nat.{ℕ, zero, suc, _+_, _*_, _-_, _/_}
+use Prim.Native.Nat.{ℕ, _+_, _*_, _-_, _/_}
 use mathlib.Core.Path.{_≡_}
 use mathlib.Core.List.{List, [], _∷_}
 use lib.ListN.{length, getD, drop}
 use lib.Dec.{leb, eqb}
 use Rattle.stackmap.specs.declared.Verdict.{Verdict}
-use Rattle.stackmap.specs.declared.Verdict.the-variants.{Valid, Refused}
+use Rattle.stackmap.specs.declared.Verdict.the-variants.{Valid}
 use Rattle.stackmap.specs.Layout.{headerSize, version, headerZerosAt, headerZeros, numRecordsAt, functionSize, constantSize, sectionMost}
 use Rattle.stackmap.specs.Verdict.{must, chain, bind, shift}
-use Rattle.stackmap.specs.Section.{numFunctions, numConstants, numRecords, constantsAt, recordsAt, readFunctions, Owner, owners, counted}
+use Rattle.stackmap.specs.Section.{numConstants, numRecords, constantsAt, recordsAt, readFunctions, Owner, owners, counted}
 use Rattle.stackmap.specs.Record.{zeros, recordCheck}
 
 -- 1, 2, 3: the bytes of the header

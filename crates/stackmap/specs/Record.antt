@@ -6,10 +6,10 @@ use lib.ListN.{length, getD}
 use lib.Dec.{ltb, leb, eqb}
 use Rattle.wire.specs.Word.{word}
 use Rattle.stackmap.specs.declared.Verdict.{Verdict}
-use Rattle.stackmap.specs.declared.Verdict.the-variants.{Valid, Refused}
+use Rattle.stackmap.specs.declared.Verdict.the-variants.{Valid}
 use Rattle.stackmap.specs.Layout.{recordHeadSize, instructionOffsetAt, flagsAt, flagsSize, locationsPadding, liveOutsHeadZeros, liveOutsPadding, locationSize, locationOffsetAt, kindLeast, kindMost, kindConstIndex, negativeFrom, liveOutSize, liveOutZeroAt, addressMost}
 use Rattle.stackmap.specs.Verdict.{must, chain, pick}
-use Rattle.stackmap.specs.Section.{numLocations, locationsEnd, numLiveOuts, liveOutsAt, recordLength}
+use Rattle.stackmap.specs.Section.{numLocations, numLiveOuts, liveOutsAt, recordLength}
 
 -- 3: n bytes from `at` are zero
 unfoldable pub zeros : ℕ → List ℕ → ℕ → Verdict

@@ -1,6 +1,6 @@
 // The walk over the records, each read from its own stretch of the section.
 ghost use mathlib.Core.Path.{_≡_};
-ghost use Prim.Native.Nat.{_+_, _*_, _≤_, _<_};
+ghost use Prim.Native.Nat.{_≤_, _<_};
 ghost use lib.ListN.{length, drop};
 ghost use Rattle.stackmap.specs.Verdict.{shift};
 ghost use Rattle.stackmap.specs.Section.{numFunctions, numConstants, constantsAt, readFunctions, owners};

@@ -6,7 +6,7 @@ use Rattle.stackmap.specs.Fields.{all, many}
 use Rattle.stackmap.specs.Section.{readConstant}
 use Rattle.listing.specs.Listing.{constantItem}
 use Rattle.lister.proofs.Puts.{put-long}
-use Rattle.listing.proofs.Listing.{constant-item-size}
+use Rattle.listing.proofs.Items.{constant-item-size}
 use Rattle.lister.proofs.Loops.{Running, run-start, run-on, run-end}
 use Rattle.lister.proofs.runs.put_constants.Statement.{statement}
 use Rattle.lister.proofs.runs.put_constants.Tie as tie

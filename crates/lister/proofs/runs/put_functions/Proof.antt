@@ -6,7 +6,7 @@ use Rattle.stackmap.specs.Fields.{all, many}
 use Rattle.stackmap.specs.Section.{readFunction}
 use Rattle.listing.specs.Listing.{functionItem}
 use Rattle.lister.proofs.Puts.{put-long}
-use Rattle.listing.proofs.Listing.{function-item-size}
+use Rattle.listing.proofs.Items.{function-item-size}
 use Rattle.lister.proofs.Loops.{Running, run-start, run-on, run-end}
 use Rattle.lister.proofs.runs.put_functions.Statement.{statement}
 use Rattle.lister.proofs.runs.put_functions.Tie as tie

@@ -6,7 +6,7 @@ use Rattle.stackmap.specs.Fields.{all, many}
 use Rattle.stackmap.specs.Section.{readLiveOut}
 use Rattle.listing.specs.Listing.{liveOutItem}
 use Rattle.lister.proofs.Puts.{put-long}
-use Rattle.listing.proofs.Listing.{live-out-item-size}
+use Rattle.listing.proofs.Items.{live-out-item-size}
 use Rattle.lister.proofs.Loops.{Running, run-start, run-on, run-end}
 use Rattle.lister.proofs.runs.put_live_outs.Statement.{statement}
 use Rattle.lister.proofs.runs.put_live_outs.Tie as tie

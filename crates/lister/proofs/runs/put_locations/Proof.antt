@@ -6,7 +6,7 @@ use Rattle.stackmap.specs.Fields.{all, many}
 use Rattle.stackmap.specs.Section.{readLocation}
 use Rattle.listing.specs.Listing.{locationItem}
 use Rattle.lister.proofs.Puts.{put-long}
-use Rattle.listing.proofs.Listing.{location-item-size}
+use Rattle.listing.proofs.Items.{location-item-size}
 use Rattle.lister.proofs.Loops.{Running, run-start, run-on, run-end}
 use Rattle.lister.proofs.runs.put_locations.Statement.{statement}
 use Rattle.lister.proofs.runs.put_locations.Tie as tie

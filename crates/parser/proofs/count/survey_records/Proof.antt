@@ -6,7 +6,7 @@ use mathlib.Core.Bool.{true}
 use lib.ListN.{length}
 use Rattle.listing.specs.Layout.{recordKind, recordItemSize}
 use Rattle.listing.specs.Listing.{stands}
-use Rattle.listing.proofs.Listing.{yes-item, no-room, other-kind}
+use Rattle.listing.proofs.Items.{yes-item, no-room, other-kind}
 use Rattle.parser.specs.Survey.{Passed}
 use Rattle.parser.proofs.Records.{passed-start, passed-on, locations-crowded, live-outs-crowded}
 use Rattle.parser.proofs.count.survey_records.Statement.{statement}

@@ -1,8 +1,8 @@
 use native.Mathlib.Omega.{arith}
-use Prim.Native.Nat.{_+_, _-_, _^_, _<_, _≤_}
-use borrow.Author.Tests.{le-leb, lt-leb}
+use Prim.Native.Nat.{_+_, _-_, _^_, _<_}
+use borrow.Author.Tests.{lt-leb}
 use Rattle.stackmap.specs.Verdict.{must, chain}
-use Rattle.parser.proofs.Faults.{entry-listed}
+use Rattle.parser.proofs.Faults.{entry-listed, entry-fits}
 use borrow.Author.Needs.{needs}
 use Rattle.parser.proofs.fault.entry.Statement.{statement}
 use Rattle.parser.proofs.fault.entry.Tie as tie
@@ -48,15 +48,11 @@ enum-known-number : tie.Need-enum-known-number
 enum-known-number c = search needs
 
 returns-2 : tie.Need-returns-2
-unfolding must chain
+unfolding chain
 returns-2 c =
-    let a = c .before .before .before .before .before .before .before .before .args in
-    let fits : c .before .before .before .before .before .before .u64-at .result + c .before .before .before .before .before .u32-at .result ≤ 2 ^ 64 - 1 = omega (arith, c .before .before .before .before .before .before .u64-at .ok) in
+    let b = c .before .before .before .before .before .before .before .before in
     rw (
-      entry-listed (a .function) (a .place) (a .constants) (c .before .before .before .before .before .before .before .before .pre .0),
-      ← c .before .before .before .before .before .before .u64-at .ensures,
-      ← c .before .before .before .before .before .u32-at .ensures,
-      le-leb _ _ fits,
+      entry-fits (b .args .function) (b .args .place) (b .args .constants) (b .pre .0) (omega (arith, c .before .before .before .before .before .before .u64-at .ok)),
       ← c .before .before .before .locations .ensures,
       c .before .number .given .1,
     )
@@ -71,15 +67,11 @@ add-t14 : tie.Need-add-t14
 add-t14 c = search needs
 
 returns-3 : tie.Need-returns-3
-unfolding must chain
+unfolding chain
 returns-3 c =
-    let a = c .before .before .before .before .before .before .before .before .args in
-    let fits : c .before .before .before .before .before .before .u64-at .result + c .before .before .before .before .before .u32-at .result ≤ 2 ^ 64 - 1 = omega (arith, c .before .before .before .before .before .before .u64-at .ok) in
+    let b = c .before .before .before .before .before .before .before .before in
     rw (
-      entry-listed (a .function) (a .place) (a .constants) (c .before .before .before .before .before .before .before .before .pre .0),
-      ← c .before .before .before .before .before .before .u64-at .ensures,
-      ← c .before .before .before .before .before .u32-at .ensures,
-      le-leb _ _ fits,
+      entry-fits (b .args .function) (b .args .place) (b .args .constants) (b .pre .0) (omega (arith, c .before .before .before .before .before .before .u64-at .ok)),
       ← c .before .before .before .locations .ensures,
       c .before .enum-told .given .1,
       c .record-size .ensures,

@@ -2,7 +2,7 @@ use borrow.Author.Tests.{eq-eqb, ne-eqb}
 use native.Mathlib.Omega.{arith}
 use Rattle.stackmap.specs.Verdict.{must}
 use Rattle.listing.specs.Layout.{endKind, endItemSize}
-use Rattle.listing.proofs.Listing.{yes-item, no-room, other-kind}
+use Rattle.listing.proofs.Items.{yes-item, no-room, other-kind}
 use Rattle.parser.specs.Grammar.{endCheck}
 use borrow.Author.Needs.{needs}
 use Rattle.parser.proofs.grammar.end.Statement.{statement}

@@ -4,7 +4,7 @@ use Prim.Native.Nat.{_-_, _≤_}
 use mathlib.Core.Path.{_≡_, sym, _∙_}
 use lib.ListN.{length}
 use Rattle.listing.specs.Layout.{recordKind, recordItemSize}
-use Rattle.listing.proofs.Listing.{yes-item, no-room, other-kind, records-no}
+use Rattle.listing.proofs.Items.{yes-item, no-room, other-kind, records-no}
 use Rattle.parser.specs.Survey.{stopFrom}
 use Rattle.parser.proofs.Records.{stops-here}
 use Rattle.parser.proofs.grammar.records_stop.Statement.{statement}

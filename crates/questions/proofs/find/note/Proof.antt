@@ -1,5 +1,4 @@
 -- The record has the address exactly if its function's start is not above it and the gap is its offset.
-use Prim.Native.Nat.{_-_}
 use mathlib.Core.Path.{_≡_, sym}
 use native.Mathlib.Omega.{arith}
 use native.Mathlib.Numerals.{add-one}

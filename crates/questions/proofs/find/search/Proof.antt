@@ -1,11 +1,9 @@
 -- One walk checks the records and keeps what the search finds.
-use Prim.Native.Nat.{_+_, _-_, _^_, _≤_, _<_}
+use Prim.Native.Nat.{_+_, _^_, _≤_, _<_}
 use mathlib.Core.Path.{_≡_, sym, _∙_}
 use native.Mathlib.Omega.{arith}
 use borrow.Author.Needs.{needs}
-use lib.ListN.{length}
-use Rattle.stackmap.specs.Section.{recordsAt, entries}
-use Rattle.stackmap.proofs.Turns.{walk-stop, walk-end}
+use Rattle.stackmap.specs.Section.{entries}
 use Rattle.stackmap.proofs.OneWalk.{Folding, fold-start, fold-on, fold-end}
 use Rattle.stackmap.proofs.Within.{here-inside}
 use Rattle.questions.specs.Kept.{noHits, noted}
@@ -28,8 +26,8 @@ u32-at-requires-2 c κs = let w = c .before .before .pre .0 .inside in omega ari
 
 loop-holds : tie.Need-loop-holds Inv-loop μ-loop
 loop-holds c =
-    let i : recordsAt (c .before .before .before .args .s .now) ≤ length (c .before .before .before .args .s .now) = rw (← c .before .before .before .pre .1) (c .before .before .before .pre .2) in
-    (rw (c .u32-at2 .ensures, c .before .before .before .pre .1) (fold-start (noted (c .before .before .before .args .address)) noHits (c .before .before .before .pre .0) i), omega arith, omega arith)
+    let b = c .before .before .before in
+    (fold-start (noted (b .args .address)) noHits (b .pre .0) (b .pre .1) (b .pre .2) (c .u32-at2 .ensures), omega arith, omega arith)
 
 owner-requires : tie.Need-owner-requires Inv-loop μ-loop
 owner-requires c κs =
@@ -53,10 +51,10 @@ refused-requires c κs = search needs
 
 returns : tie.Need-returns Inv-loop μ-loop
 returns c =
+    let b = c .before .before .before .before .before in
     c .refused .ensures
-    ∙ sym (ask-stop _ _ (c .before .before .before .before .before .before .before .before .before .before .before .args .s .now) _ (c .before .before .before .before .before .before .before .before .before .u32-at .ensures) _ _
-    (walk-stop (c .before .before .before .before .before .owner .result .next) (c .before .before .before .before .before .owner .result .left) (c .before .before .before .before .before .before .before .loop .inv .0 .walking) (c .before .before .before .before .before .owner .ensures .0) (c .before .before .before .before .before .owner .ensures .1)
-    (sym (c .before .before .before .before .record-at .ensures) ∙ c .before .before .n .given .1)))
+    ∙ ask-stop _ _ (b .before .before .before .before .u32-at .ensures) (b .before .before .loop .inv .0) (b .owner .result .next) (b .owner .result .left) (b .owner .ensures .0) (b .owner .ensures .1)
+    (sym (c .before .before .before .before .record-at .ensures) ∙ c .before .before .n .given .1)
 
 enum-known-end : tie.Need-enum-known-end Inv-loop μ-loop
 enum-known-end c = search needs
@@ -98,9 +96,8 @@ refused-requires-2 c κs = search needs
 
 returns-2 : tie.Need-returns-2 Inv-loop μ-loop
 returns-2 c =
-    let none : c .before .before .before .loop .remaining ≡ 0 = omega arith in
     c .refused2 .ensures
-    ∙ sym (ask-after _ _ (c .before .before .before .before .before .before .before .args .s .now) _ (c .before .before .before .before .before .u32-at .ensures) _ (walk-end (rw none at (c .before .before .before .loop .inv .0 .walking))) (c .before .if1 .taken))
+    ∙ ask-after _ _ (c .before .before .before .before .before .u32-at .ensures) (c .before .before .before .loop .inv .0) (omega arith) (c .before .if1 .taken)
 
 refused-requires-3 : tie.Need-refused-requires-3 Inv-loop μ-loop
 refused-requires-3 c κs = search needs
@@ -108,19 +105,19 @@ refused-requires-3 c κs = search needs
 returns-3 : tie.Need-returns-3 Inv-loop μ-loop
 returns-3 c =
     let none : c .before .before .before .before .before .loop .remaining ≡ 0 = omega arith in
-    let f = rw none at (c .before .before .before .before .before .loop .inv .0) in
+    let f = c .before .before .before .before .before .loop .inv .0 in
     let a = c .before .before .before .before .before .before .before .before .before .args in
     c .refused3 .ensures
-    ∙ sym (found-none (a .address) (entries (a .s .now)) (c .before .before .before .before .before .loop .hits) (fold-end (noted (a .address)) f) (c .before .if2 .taken))
-    ∙ sym (ask-whole _ _ (a .s .now) _ (c .before .before .before .before .before .before .before .u32-at .ensures) _ (walk-end (f .walking)) (c .before .before .before .if1 .left))
+    ∙ sym (found-none (a .address) (entries (a .s .now)) (c .before .before .before .before .before .loop .hits) (fold-end (noted (a .address)) f none) (c .before .if2 .taken))
+    ∙ ask-whole _ _ (c .before .before .before .before .before .before .before .u32-at .ensures) f none (c .before .before .before .if1 .left)
 
 returns-4 : tie.Need-returns-4 Inv-loop μ-loop
 returns-4 c =
     let none : c .before .before .before .before .loop .remaining ≡ 0 = omega arith in
-    let f = rw none at (c .before .before .before .before .loop .inv .0) in
+    let f = c .before .before .before .before .loop .inv .0 in
     let a = c .before .before .before .before .before .before .before .before .args in
-    sym (found-some (a .address) (entries (a .s .now)) (c .before .before .before .before .loop .hits) (fold-end (noted (a .address)) f) (c .if2 .left))
-    ∙ sym (ask-whole _ _ (a .s .now) _ (c .before .before .before .before .before .before .u32-at .ensures) _ (walk-end (f .walking)) (c .before .before .if1 .left))
+    sym (found-some (a .address) (entries (a .s .now)) (c .before .before .before .before .loop .hits) (fold-end (noted (a .address)) f none) (c .if2 .left))
+    ∙ ask-whole _ _ (c .before .before .before .before .before .before .u32-at .ensures) f none (c .before .before .if1 .left)
 
 pub search-spec : {M : Type 1} → statement M
 search-spec =

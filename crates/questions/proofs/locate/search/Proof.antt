@@ -3,9 +3,6 @@ use Prim.Native.Nat.{_+_, _-_, _^_, _≤_, _<_}
 use mathlib.Core.Path.{_≡_, sym, _∙_}
 use native.Mathlib.Omega.{arith}
 use borrow.Author.Needs.{needs}
-use lib.ListN.{length}
-use Rattle.stackmap.specs.Section.{recordsAt}
-use Rattle.stackmap.proofs.Turns.{walk-stop, walk-end}
 use Rattle.stackmap.proofs.OneWalk.{Folding, fold-start, fold-on, fold-end, here-ends}
 use Rattle.questions.specs.Kept.{noStretch, picked}
 use Rattle.questions.proofs.Kept.{located-none, located-some}
@@ -27,8 +24,8 @@ u32-at-requires-2 c κs = let w = c .before .before .pre .0 .inside in omega ari
 
 loop-holds : tie.Need-loop-holds Inv-loop μ-loop
 loop-holds c =
-    let i : recordsAt (c .before .before .before .args .s .now) ≤ length (c .before .before .before .args .s .now) = rw (← c .before .before .before .pre .1) (c .before .before .before .pre .2) in
-    (rw (c .u32-at2 .ensures, c .before .before .before .pre .1) (fold-start (picked (c .before .before .before .args .wanted)) noStretch (c .before .before .before .pre .0) i), omega arith, omega arith)
+    let b = c .before .before .before in
+    (fold-start (picked (b .args .wanted)) noStretch (b .pre .0) (b .pre .1) (b .pre .2) (c .u32-at2 .ensures), omega arith, omega arith)
 
 owner-requires : tie.Need-owner-requires Inv-loop μ-loop
 owner-requires c κs =
@@ -51,11 +48,10 @@ refused-requires : tie.Need-refused-requires Inv-loop μ-loop
 refused-requires c κs = search needs
 
 returns : tie.Need-returns Inv-loop μ-loop
-returns c = (
+returns c = let b = c .before .before .before .before .before in (
   c .refused .ensures
-      ∙ sym (ask-stop _ _ (c .before .before .before .before .before .before .before .before .before .before .before .args .s .now) _ (c .before .before .before .before .before .before .before .before .before .u32-at .ensures) _ _
-      (walk-stop (c .before .before .before .before .before .owner .result .next) (c .before .before .before .before .before .owner .result .left) (c .before .before .before .before .before .before .before .loop .inv .0 .walking) (c .before .before .before .before .before .owner .ensures .0) (c .before .before .before .before .before .owner .ensures .1)
-      (sym (c .before .before .before .before .record-at .ensures) ∙ c .before .before .n .given .1))),
+      ∙ ask-stop _ _ (b .before .before .before .before .u32-at .ensures) (b .before .before .loop .inv .0) (b .owner .result .next) (b .owner .result .left) (b .owner .ensures .0) (b .owner .ensures .1)
+      (sym (c .before .before .before .before .record-at .ensures) ∙ c .before .before .n .given .1),
   rw (c .refused .ensures) (omega arith),
 )
 
@@ -89,12 +85,11 @@ refused-requires-2 : tie.Need-refused-requires-2 Inv-loop μ-loop
 refused-requires-2 c κs = search needs
 
 returns-2 : tie.Need-returns-2 Inv-loop μ-loop
-returns-2 c =
-    let none : c .before .before .before .loop .remaining ≡ 0 = omega arith in (
-      c .refused2 .ensures
-          ∙ sym (ask-after _ _ (c .before .before .before .before .before .before .before .args .s .now) _ (c .before .before .before .before .before .u32-at .ensures) _ (walk-end (rw none at (c .before .before .before .loop .inv .0 .walking))) (c .before .if1 .taken)),
-      rw (c .refused2 .ensures) (omega arith),
-    )
+returns-2 c = (
+  c .refused2 .ensures
+      ∙ ask-after _ _ (c .before .before .before .before .before .u32-at .ensures) (c .before .before .before .loop .inv .0) (omega arith) (c .before .if1 .taken),
+  rw (c .refused2 .ensures) (omega arith),
+)
 
 refused-requires-3 : tie.Need-refused-requires-3 Inv-loop μ-loop
 refused-requires-3 c κs = search needs
@@ -102,22 +97,22 @@ refused-requires-3 c κs = search needs
 returns-3 : tie.Need-returns-3 Inv-loop μ-loop
 returns-3 c =
     let none : c .before .before .before .before .before .loop .remaining ≡ 0 = omega arith in
-    let f = rw none at (c .before .before .before .before .before .loop .inv .0) in
+    let f = c .before .before .before .before .before .loop .inv .0 in
     let a = c .before .before .before .before .before .before .before .before .before .args in (
       c .refused3 .ensures
-          ∙ sym (located-none (a .wanted) (a .s .now) (c .before .before .before .before .before .loop .kept) (fold-end (picked (a .wanted)) f) (c .before .if2 .taken))
-          ∙ sym (ask-whole _ _ (a .s .now) _ (c .before .before .before .before .before .before .before .u32-at .ensures) _ (walk-end (f .walking)) (c .before .before .before .if1 .left)),
+          ∙ sym (located-none (a .wanted) (a .s .now) (c .before .before .before .before .before .loop .kept) (fold-end (picked (a .wanted)) f none) (c .before .if2 .taken))
+          ∙ ask-whole _ _ (c .before .before .before .before .before .before .before .u32-at .ensures) f none (c .before .before .before .if1 .left),
       rw (c .refused3 .ensures) (omega arith),
     )
 
 returns-4 : tie.Need-returns-4 Inv-loop μ-loop
 returns-4 c =
     let none : c .before .before .before .before .loop .remaining ≡ 0 = omega arith in
-    let f = rw none at (c .before .before .before .before .loop .inv .0) in
+    let f = c .before .before .before .before .loop .inv .0 in
     let w = f .walking .inside in
     let a = c .before .before .before .before .before .before .before .before .args in (
-      sym (located-some (a .wanted) (a .s .now) (c .before .before .before .before .loop .kept) (fold-end (picked (a .wanted)) f) (c .if2 .left))
-          ∙ sym (ask-whole _ _ (a .s .now) _ (c .before .before .before .before .before .before .u32-at .ensures) _ (walk-end (f .walking)) (c .before .before .if1 .left)),
+      sym (located-some (a .wanted) (a .s .now) (c .before .before .before .before .loop .kept) (fold-end (picked (a .wanted)) f none) (c .if2 .left))
+          ∙ ask-whole _ _ (c .before .before .before .before .before .before .u32-at .ensures) f none (c .before .before .if1 .left),
       omega arith,
     )
 

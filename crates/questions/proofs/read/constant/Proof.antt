@@ -1,5 +1,5 @@
 -- By the kind: the offset, sign-extended; the pool entry; or 0.
-use Prim.Native.Nat.{_-_, _≤_, _<_}
+use Prim.Native.Nat.{_≤_, _<_}
 use mathlib.Core.Path.{sym, _∙_}
 use Rattle.stackmap.specs.Section.{numConstants}
 use Rattle.questions.proofs.Content.{constant-plain, constant-negative, constant-pool, constant-none, pool-entry, pool-none}

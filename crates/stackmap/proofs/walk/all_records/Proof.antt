@@ -1,10 +1,8 @@
 -- The walk goes from one turn to the next, and what is ahead gives what the whole gives.
-use Prim.Native.Nat.{_-_}
-use mathlib.Core.Path.{_≡_, sym, _∙_}
+use mathlib.Core.Path.{sym, _∙_}
 use native.Mathlib.Omega.{arith}
 use borrow.Author.Needs.{needs}
 use Rattle.stackmap.specs.Verdict.{bind}
-use Rattle.stackmap.specs.Walk.{ahead}
 use Rattle.stackmap.proofs.Turns.{Walking, walk-start, walk-here, walk-on, walk-end}
 use Rattle.stackmap.proofs.walk.all_records.Statement.{statement}
 use Rattle.stackmap.proofs.walk.all_records.Tie as tie
@@ -63,9 +61,7 @@ loop-again c =
     (c .before .before .before .before .before .owner .ensures .2) (c .before .before .before .before .before .owner .ensures .3) (sym (c .before .before .before .before .record-at .ensures) ∙ c .before .before .end .given .1)
 
 returns-2 : tie.Need-returns-2 Inv-loop μ-loop
-returns-2 c =
-    let none : c .before .loop .remaining ≡ 0 = omega arith in
-    sym (rw (← c .before .before .before .u32-at .ensures) (walk-end (rw none at (c .before .loop .inv))))
+returns-2 c = sym (rw (← c .before .before .before .u32-at .ensures) (walk-end (c .before .loop .inv) (omega arith)))
 
 pub all-records-spec : {M : Type 1} → statement M
 all-records-spec =
