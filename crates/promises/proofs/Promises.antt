@@ -4,6 +4,7 @@ use Rattle.listing.proofs.RoundTrip
 use Rattle.relocate.proofs.Demand
 use Rattle.relocate.proofs.Reorder
 use Rattle.relocate.proofs.Consequences
+use Rattle.thread.proofs.OneInstant
 use Rattle.promises.specs.Promises.{Promises}
 use Rattle.promises.proofs.Worked
 
@@ -20,6 +21,7 @@ promises =
       demand3 = Demand.demand3;
       order-free = Demand.order-free;
       pair-order = Reorder.pair-order;
+      one-instant = OneInstant.one-instant;
       keeps-distance = Consequences.keeps-distance;
       only-slots-count = Consequences.only-slots-count;
       worked = Worked.worked;

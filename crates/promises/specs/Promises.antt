@@ -4,6 +4,7 @@ use Rattle.listing.specs.RoundTrip.{ListingOneToOne, RoundTrips, OutputKept}
 use Rattle.relocate.specs.Lists.{Demand3, OrderFree}
 use Rattle.relocate.specs.Reorder.{PairOrder}
 use Rattle.relocate.specs.Consequences.{Untouched, Counts, KeepsDistance, OnlySlotsCount}
+use Rattle.thread.specs.Theorems.{OneInstant}
 use Rattle.promises.specs.Worked.{WorkedTable}
 
 pub record Promises : Type 0 where
@@ -20,6 +21,8 @@ pub record Promises : Type 0 where
   pub demand3 : Demand3
   pub order-free : OrderFree
   pub pair-order : PairOrder
+  -- a whole thread in one call: all frames move, or none does
+  pub one-instant : OneInstant
   -- the two consequences that are wanted, and the worked table
   pub keeps-distance : KeepsDistance
   pub only-slots-count : OnlySlotsCount

@@ -19,7 +19,7 @@ use Rattle.moves.specs.Settle.{refusedMove}
 use Rattle.relocate.specs.declared.Frame.{Frame}
 use Rattle.relocate.specs.Plan.{imageRight, stackSize}
 use Rattle.relocate.specs.Relocation.{answer}
-use Rattle.relocate.proofs.Pairing.{and-true}
+use Rattle.stackmap.proofs.Tests.{and-true}
 use Rattle.relocate.proofs.Planned.{planned}
 use Rattle.relocate.proofs.Asking.{owner-number, size-is}
 use Rattle.relocate.proofs.Demand.{accepts}

@@ -10,7 +10,7 @@ use lib.Dec.{eqb, leb}
 use lib.ListN.{length, getD}
 use Rattle.sorted.specs.Sorted.{Sorted, LowerBound, Inserted, EntryOf}
 use Rattle.sorted.proofs.Laws.{old-kept, new-there, inserted-sorted}
-use Rattle.relocate.proofs.Pairing.{and-true}
+use Rattle.stackmap.proofs.Tests.{and-true}
 use Rattle.thread.specs.Thread.{listRight, frameAt}
 use Rattle.thread.specs.Code.{Gathered}
 

@@ -10,7 +10,7 @@ use lib.Dec.{eqb}
 use Rattle.stackmap.specs.declared.Verdict.{Verdict}
 use Rattle.stackmap.specs.declared.Verdict.the-variants.{Valid, Refused}
 use Rattle.stackmap.specs.Check.{sectionCheck}
-use Rattle.stackmap.proofs.Numbers.{Above, section-above}
+use Rattle.stackmap.proofs.Numbers.{Numbered, section-numbered}
 use Rattle.stackmap.proofs.Forth.{accepted-length}
 use Rattle.questions.specs.Questions.{ask}
 use Rattle.moves.specs.declared.Move.{Move}
@@ -26,7 +26,7 @@ use Rattle.thread.proofs.Overlaps.{apart-passes, apart-tells}
 
 -- An answer with the number 0 has passed each step.
 
-ask-tells : (v : Verdict) (k : Move) → Above v → ask refusedMove k v .number ≡ 0 → ((e : ℕ) × (v ≡ Valid e)) × (k .number ≡ 0)
+ask-tells : (v : Verdict) (k : Move) → Numbered 9 v → ask refusedMove k v .number ≡ 0 → ((e : ℕ) × (v ≡ Valid e)) × (k .number ≡ 0)
 unfolding ask
 ask-tells (Refused n p) k a h = absurd (omega (arith, a .above))
 ask-tells (Valid e) k a h = ((e, refl), h)
@@ -83,7 +83,7 @@ module _ (s olds news : List ℕ) (first : ℕ) (im : List ℕ) where
     accepted-tells : threadAnswer s olds news first im ns .number ≡ 0 → Movable s olds news first im ns
     unfolding threadAnswer
     accepted-tells h =
-        let v = ask-tells (sectionCheck s) _ (section-above s) h in
+        let v = ask-tells (sectionCheck s) _ (section-numbered s) h in
         let i = demand-tells _ 12 _ (v .1) in
         let t = demand-tells _ 13 _ (i .1) in
         let l = demand-tells _ 24 _ (t .1) in

@@ -17,7 +17,7 @@ use Rattle.relocate.specs.declared.Frame.{Frame}
 use Rattle.relocate.specs.Plan.{stackSize}
 use Rattle.relocate.specs.Relocation.{InExtent}
 use Rattle.relocate.specs.Lists.{Disjoint}
-use Rattle.relocate.proofs.Pairing.{and-true}
+use Rattle.stackmap.proofs.Tests.{and-true}
 use Rattle.thread.specs.Stretches.{share}
 use Rattle.thread.specs.Thread.{Extent, extentBy, extentOf, sharesOne, apart}
 use Rattle.thread.proofs.StretchesApart.{share-yes, share-told}

@@ -11,7 +11,7 @@ use lib.ListN.{length, getD, replicate}
 use Rattle.stackmap.specs.declared.Verdict.{Verdict}
 use Rattle.stackmap.specs.declared.Verdict.the-variants.{Valid, Refused}
 use Rattle.stackmap.specs.Check.{sectionCheck, Accepted}
-use Rattle.stackmap.proofs.Numbers.{Above, section-above}
+use Rattle.stackmap.proofs.Numbers.{section-numbered}
 use Rattle.stackmap.proofs.Forth.{accepted-length}
 use Rattle.questions.specs.declared.Hits.{Hits}
 use Rattle.questions.specs.Kept.{noHits}
@@ -101,7 +101,7 @@ module _ (s olds news : List ℕ) (first : ℕ) (im : List ℕ) where
     pub thread-section : (n p : ℕ) → sectionCheck s ≡ Refused n p → Threads s olds news first im ns (refusedMove n p) im
     unfolding threadAnswer ask
     thread-section n p h =
-        let a = (rw h at (section-above s)) .above in
+        let a = (rw h at (section-numbered s)) .above in
         refused-threads n p (λ z. omega arith) (rw h)
 
     module _ (k : Accepted s) where

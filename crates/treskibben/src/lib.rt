@@ -4,6 +4,7 @@ ghost use Rattle.stackmap.specs.Check.{sectionCheck};
 ghost use Rattle.questions.specs.Questions.{byAddress, recordPlace, locationAnswer, liveOutAnswer};
 ghost use Rattle.listing.specs.Listing.{toListing, toSection};
 ghost use Rattle.relocate.specs.Relocation;
+ghost use Rattle.thread.specs.Thread.{threadAnswer, threadImage};
 ghost use Rattle.treskibben.specs.Answer.{answer, converted, moveAnswer, frameOf, foundAt, standsAt, placed, passed};
 use stackmap::Verdict;
 
@@ -188,6 +189,27 @@ pub extern "C" fn treskibben_relocate(
         rsp: frame.rsp,
     };
     let m = relocate::relocate(section, image, first, olds, news, f);
+    Answer {
+        number: m.number as u64,
+        place: m.place as u64,
+        value: m.count as u64,
+    }
+}
+
+// The move of a whole thread: the frames of a list, three numbers each, address, RBP and RSP, at most 4,096 frames. A refusal, with
+// the image as it was; or accepted with the sum of the pairs, and each derived slot of each frame moved.
+#[no_mangle]
+pub extern "C" fn treskibben_thread(
+    section: &[u8],
+    image: &mut [u8],
+    first: u64,
+    olds: &[u64],
+    news: &[u64],
+    frames: &[u64],
+) -> Answer
+    ensures { λ r. ⌜ (r ≡ moveAnswer (threadAnswer (now (section .entry)) (now (olds .entry)) (now (news .entry)) first (now (image .entry)) (now (frames .entry)))) × (now (image .exit) ≡ threadImage (now (section .entry)) (now (olds .entry)) (now (news .entry)) first (now (image .entry)) (now (frames .entry))) ⌝ }
+{
+    let m = thread::relocate_thread(section, image, first, olds, news, frames);
     Answer {
         number: m.number as u64,
         place: m.place as u64,

@@ -3,8 +3,6 @@ use Prim.Native.Nat.{ℕ, _+_, _-_, _^_, _≤_, _<_}
 use mathlib.Core.Path.{_≡_, sym, _∙_}
 use mathlib.Core.List.{List}
 use native.Mathlib.Omega.{arith}
-use lib.ListN.{length}
-use Rattle.stackmap.specs.Section.{recordsAt, entries}
 use Rattle.stackmap.specs.Walk.{entryAt}
 use Rattle.stackmap.proofs.Turns.{walk-stop, walk-end}
 use Rattle.stackmap.proofs.OneWalk.{Folding, fold-start, fold-on, fold-end}
@@ -34,8 +32,7 @@ u32-at-requires-2 c κs = let w = c .before .before .pre .0 .inside in omega ari
 loop-holds : tie.Need-loop-holds Inv-loop μ-loop
 loop-holds c =
     let q = c .before .before .before in
-    let i : recordsAt (q .args .s .now) ≤ length (q .args .s .now) = rw (← q .pre .1) (q .pre .2) in
-    ((λ a. noHits), rw (c .u32-at2 .ensures, q .pre .1) (fold-start notedAll (λ a. noHits) (q .pre .0) i), q .pre .5, q .pre .6, omega arith)
+    ((λ a. noHits), fold-start notedAll (λ a. noHits) (q .pre .0) (q .pre .1) (q .pre .2) (c .u32-at2 .ensures), q .pre .5, q .pre .6, omega arith)
 
 owner-requires : tie.Need-owner-requires Inv-loop μ-loop
 owner-requires c κs =
@@ -104,15 +101,15 @@ returns-2 : tie.Need-returns-2 Inv-loop μ-loop
 returns-2 c =
     let none : c .before .before .loop .remaining ≡ 0 = omega arith in
     let q = c .before .before .before .before .before .before in
-    (walk-after (q .args .s .now) _ (c .before .before .before .before .u32-at .ensures) _ (walk-end (rw none at (c .before .before .loop .inv .1 .walking))) (c .if1 .taken), λ e z. never-valid z)
+    (walk-after (q .args .s .now) _ (c .before .before .before .before .u32-at .ensures) _ (walk-end (c .before .before .loop .inv .1 .walking) none) (c .if1 .taken), λ e z. never-valid z)
 
 returns-3 : tie.Need-returns-3 Inv-loop μ-loop
 returns-3 c =
     let none : c .before .before .loop .remaining ≡ 0 = omega arith in
     let q = c .before .before .before .before .before .before in
-    let f = rw none at (c .before .before .loop .inv .1) in (
-      walk-whole (q .args .s .now) _ (c .before .before .before .before .u32-at .ensures) _ (walk-end (f .walking)) (c .if1 .left),
-      λ e z. sought (q .args .s .now) _ _ _ (c .before .before .loop .inv .0) (fold-end notedAll f) (c .before .before .loop .inv .2),
+    let f = c .before .before .loop .inv .1 in (
+      walk-whole (q .args .s .now) _ (c .before .before .before .before .u32-at .ensures) _ (walk-end (f .walking) none) (c .if1 .left),
+      λ e z. sought (q .args .s .now) _ _ _ (c .before .before .loop .inv .0) (fold-end notedAll f none) (c .before .before .loop .inv .2),
     )
 
 pub walk-all-spec : {M : Type 1} → statement M
