@@ -97,8 +97,8 @@ pub fn move_all(
     requires { ⌜ Ready (now s) (now olds) (now news) first (length (now image)) (now frames) count (now keys) (now hits) ⌝ }
     ensures { λ r. ⌜ now (image .exit) ≡ final (now (s .entry)) (now (olds .entry)) (now (news .entry)) first (framesFrom (now (frames .entry)) count 0) (now (image .entry)) ⌝ }
 {
-    let mut k: usize = 0;
-    while k < count {
+    let mut next: usize = 0;
+    while next < count {
         one(
             s,
             image,
@@ -109,9 +109,9 @@ pub fn move_all(
             count,
             keys,
             hits,
-            k,
+            next,
             true,
         );
-        k += 1;
+        next += 1;
     }
 }

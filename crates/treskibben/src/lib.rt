@@ -209,10 +209,10 @@ pub extern "C" fn treskibben_thread(
 ) -> Answer
     ensures { λ r. ⌜ (r ≡ moveAnswer (threadAnswer (now (section .entry)) (now (olds .entry)) (now (news .entry)) first (now (image .entry)) (now (frames .entry)))) × (now (image .exit) ≡ threadImage (now (section .entry)) (now (olds .entry)) (now (news .entry)) first (now (image .entry)) (now (frames .entry))) ⌝ }
 {
-    let m = thread::relocate_thread(section, image, first, olds, news, frames);
+    let t = thread::relocate_thread(section, image, first, olds, news, frames);
     Answer {
-        number: m.number as u64,
-        place: m.place as u64,
-        value: m.count as u64,
+        number: t.number as u64,
+        place: t.place as u64,
+        value: t.count as u64,
     }
 }

@@ -6,10 +6,10 @@ use Rattle.thread.proofs.frames.move_all.Statement.{statement}
 use Rattle.thread.proofs.frames.move_all.Tie as tie
 
 abbrev Inv-loop : tie.InvT-loop
-Inv-loop s image₀ first olds news frames count keys hits k₀ image k = Moving s olds news first image₀ frames count k image
+Inv-loop s image₀ first olds news frames count keys hits next₀ image next = Moving s olds news first image₀ frames count next image
 
 abbrev μ-loop : tie.MeasureT-loop
-μ-loop s image₀ first olds news frames count keys hits k₀ image k = count - k
+μ-loop s image₀ first olds news frames count keys hits next₀ image next = count - next
 
 loop-holds : tie.Need-loop-holds Inv-loop μ-loop
 loop-holds c =
@@ -22,8 +22,8 @@ one-requires c κs =
     let q = c .before .before .before .before .before .before .before .before in
     (rw (c .before .before .loop .inv .long) (q .pre), c .before .loop-test .taken)
 
-add-k : tie.Need-add-k Inv-loop μ-loop
-add-k c =
+add-next : tie.Need-add-next Inv-loop μ-loop
+add-next c =
     let q = c .before .before .before .before .before .before .before .before .before .before .before in
     let a = q .args in
     omega (arith, c .before .before .before .before .before .loop .inv .most, q .pre .looked .most)
@@ -54,7 +54,7 @@ move-all-spec =
     μ-loop
     loop-holds
     one-requires
-    add-k
+    add-next
     loop-less
     loop-again
     same-length
