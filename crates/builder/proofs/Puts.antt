@@ -126,7 +126,7 @@ module _ {A : Type 0} {fields : A → List Field} {read : List ℕ → ℕ → A
       }
 
   -- all are put
-  pub put-end : {out : List ℕ} {p q : ℕ} → Putting fields read k step l at n out₀ to out p q 0
+  pub put-end : {out : List ℕ} {p q left : ℕ} → Putting fields read k step l at n out₀ to out p q left → left ≡ 0
       → out ≡ sets out₀ to (bytesOf (all fields (many read step n l at)))
   unfolding many all bytesOf
-  put-end w = sym (w .same)
+  put-end w z = sym (w .same ∙ rw z)

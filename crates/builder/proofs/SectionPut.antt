@@ -81,8 +81,9 @@ module _ {l : List ℕ} {from : ℕ} {out₀ : List ℕ} {to : ℕ} where
               (unfold all in sym (then-put (recordFields (listedRecord l at)) (all recordFields (recordsFrom l stop)) out q (q + recordSize a b) (rw (shape-size s))));
         }
 
-  pub records-end : {out : List ℕ} {at q : ℕ} → PuttingRecords l from out₀ to out at q 0 → out ≡ sets out₀ to (bytesOf (all recordFields (recordsFrom l from)))
-  records-end {out} {at} {q} w = sym (w .same ∙ none (recordsFrom l at) (w .ready .counted))
+  pub records-end : {out : List ℕ} {at q left : ℕ} → PuttingRecords l from out₀ to out at q left → left ≡ 0
+      → out ≡ sets out₀ to (bytesOf (all recordFields (recordsFrom l from)))
+  records-end {out} {at} {q} w z = sym (w .same ∙ none (recordsFrom l at) (w .ready .counted ∙ z))
     where
       none : (rs : List _) → length rs ≡ 0 → sets out q (bytesOf (all recordFields rs)) ≡ out
       none [] e = unfold all bytesOf in refl

@@ -16,14 +16,15 @@ module _ {A : Type 0} (item : A → List Field) (read : List ℕ → ℕ → A) 
     pub room : t + long * left ≤ length out
     pub putting : Putting out₀ to whole out t (all item (many read step left s p))
 
-  module _ (even : (x : A) → size (item x) ≡ long) {s : List ℕ} where
-    pub run-start : {out : List ℕ} {at count to : ℕ} → at + step * count ≤ length s → to + long * count ≤ length out
-        → Running s out to (all item (many read step count s at)) out at count to
-    run-start h k = record { inside = h; room = k; putting = putting-start _ _ _ }
+module _ {A : Type 0} {item : A → List Field} {read : List ℕ → ℕ → A} {step long : ℕ} {s : List ℕ} where
+  pub run-start : {out : List ℕ} {at count to : ℕ} → at + step * count ≤ length s → to + long * count ≤ length out
+      → Running item read step long s out to (all item (many read step count s at)) out at count to
+  run-start h k = record { inside = h; room = k; putting = putting-start _ _ _ }
 
-    pub run-on : {out₀ out out′ : List ℕ} {to p left t t′ : ℕ} {whole : List Field} → Running s out₀ to whole out p left t → 0 < left
-        → Put out out′ t t′ (item (read s p)) → Running s out₀ to whole out′ (p + step) (left - 1) t′
-    run-on {out} {p = p} {left = left} w h q =
+  module _ {out₀ out : List ℕ} {to p left t : ℕ} {whole : List Field} (w : Running item read step long s out₀ to whole out p left t) where
+    pub run-on : {out′ : List ℕ} {t′ : ℕ} → ((x : A) → size (item x) ≡ long) → 0 < left → Put out out′ t t′ (item (read s p))
+        → Running item read step long s out₀ to whole out′ (p + step) (left - 1) t′
+    run-on even h q =
         let i = w .inside in
         let r = w .room in
         let e = q .ends in
@@ -35,5 +36,5 @@ module _ {A : Type 0} (item : A → List Field) (read : List ℕ → ℕ → A) 
           putting = putting-on (item (read s p)) _ (w .putting) (first-item item read step s left p h) q;
         }
 
-    pub run-end : {out₀ out : List ℕ} {to p left t : ℕ} {whole : List Field} → Running s out₀ to whole out p left t → left ≡ 0 → Put out₀ out to t whole
-    run-end {p = p} {left = left} w h = putting-end (w .putting) (no-item item read step s left p h)
+    pub run-end : left ≡ 0 → Put out₀ out to t whole
+    run-end h = putting-end (w .putting) (no-item item read step s left p h)

@@ -117,8 +117,8 @@ module _ {l : List ℕ} {n c from place end : ℕ} where
               same = walk-here ∙ rw (v, d) (unfold chain in refl);
             }
 
-  pub walk-end : {next left at to : ℕ} → Walking l n c from place end next left 0 at to → whole l n c from place end ≡ Valid to
-  walk-end {next} {left} {at} {to} w = w .same ∙ none (ahead l n next left) (recordsFrom l at) (w .listed) (w .ends)
+  pub walk-end : {next left remaining at to : ℕ} → Walking l n c from place end next left remaining at to → remaining ≡ 0 → whole l n c from place end ≡ Valid to
+  walk-end {next} {left} {at = at} {to = to} w z = w .same ∙ none (ahead l n next left) (recordsFrom l at) (w .listed ∙ z) (w .ends)
     where
       none : (os : List Owner) (rs : List Record) → length rs ≡ 0 → to + size (all recordFields rs) ≡ end
           → entriesFault c (entriesFrom 0 to os rs) end ≡ Valid to

@@ -1,7 +1,7 @@
 -- The tests of one pair, as the code makes them one after the other.
-use Prim.Native.Nat.{ℕ, _+_, _*_, _<_}
-use mathlib.Core.Path.{_≡_, refl, sym, ap}
-use mathlib.Core.Bool.{Bool, true, false, not}
+use Prim.Native.Nat.{ℕ, _+_, _*_, _-_, _≤_, _<_}
+use mathlib.Core.Path.{_≡_, refl, sym, ap, _∙_}
+use mathlib.Core.Bool.{Bool, true, false, not, _&&_, _||_}
 use mathlib.Core.Option.{none, some}
 use mathlib.Core.List.{List}
 use native.Mathlib.Omega.{arith}
@@ -12,8 +12,10 @@ use lib.Seq.{getD-set-same, getD-set-other}
 use Rattle.stackmap.specs.Section.{Location, Record}
 use Rattle.questions.specs.declared.LocationAnswer.{LocationAnswer}
 use Rattle.questions.specs.Questions.{thisLocation}
+use Rattle.moves.specs.Search.{lowestFrom, lowest}
+use Rattle.moves.proofs.Searches.{low-start, low-end, low-hit, low-step}
 use Rattle.relocate.specs.declared.Frame.{Frame}
-use Rattle.relocate.specs.Statepoint.{pairsAt, Pair, isZero, isNull, isSlot, rightForm, slotAt, slotInside, inside}
+use Rattle.relocate.specs.Statepoint.{pairsAt, Pair, isZero, isNull, isSlot, slotAt, slotInside}
 use Rattle.relocate.specs.Code.{pairFrom, pairNumber, locationOf, zeroSaid, slotIn, Lives}
 
 -- what the reader says of a location is said of the location
@@ -46,50 +48,49 @@ module _ (f : Frame) (n : ℕ) (l : Location) where
       go true q = absurd (let w : none ≡ some (slotAt f l) = rw q at h in let z : _≡_ {A = ℕ} 0 1 = cc in omega arith)
       go false q = sym q
 
-module _ (pool : List ℕ) (p : Pair) where
-  pub null-no : isZero pool (p .base) ≡ false → false ≡ isNull pool p
-  unfolding isNull
-  null-no h = rw h
+-- two tests, by the first of them
+module _ (a k : Bool) where
+  pub and-no : a ≡ false → false ≡ (a && k)
+  and-no h = rw h
 
-  pub null-rest : isZero pool (p .base) ≡ true → isZero pool (p .derived) ≡ isNull pool p
-  unfolding isNull
-  null-rest h = rw h
+  pub and-rest : a ≡ true → k ≡ (a && k)
+  and-rest h = rw h
 
-  pub form-null : isNull pool p ≡ true → true ≡ rightForm pool p
-  unfolding rightForm
-  form-null h = rw h
+  pub or-yes : a ≡ true → true ≡ (a || k)
+  or-yes h = rw h
 
-  pub form-no : isNull pool p ≡ false → isSlot (p .base) ≡ false → false ≡ rightForm pool p
-  unfolding rightForm
-  form-no h k = rw (h, k)
-
-  pub form-rest : isNull pool p ≡ false → isSlot (p .base) ≡ true → isSlot (p .derived) ≡ rightForm pool p
-  unfolding rightForm
-  form-rest h k = rw (h, k)
-
-  module _ (f : Frame) (n : ℕ) where
-    pub inside-null : isNull pool p ≡ true → true ≡ inside pool f n p
-    unfolding inside
-    inside-null h = rw h
-
-    pub inside-no : isNull pool p ≡ false → slotInside f n (p .base) ≡ false → false ≡ inside pool f n p
-    unfolding inside
-    inside-no h k = rw (h, k)
-
-    pub inside-rest : isNull pool p ≡ false → slotInside f n (p .base) ≡ true → slotInside f n (p .derived) ≡ inside pool f n p
-    unfolding inside
-    inside-rest h k = rw (h, k)
+  pub or-rest : a ≡ false → k ≡ (a || k)
+  or-rest h = rw h
 
 -- a pair by its base's location number, and by its own
 pub pair-from : (r : Record) (start p : ℕ) → start ≡ pairsAt r → pairFrom r (start + 2 * p) ≡ pairNumber r p
 pair-from r start p e = rw e
 
--- a test that fails, and one that holds
-pub not-good : (b : Bool) → b ≡ false → not b ≡ true
-not-good b e = rw e
+-- A search for the lowest of n pairs that is not good.
 
-pub not-bad : (b : Bool) → b ≡ true → not b ≡ false
-not-bad b e = rw e
+module _ (good : Pair → Bool) (r : Record) where
+  abbrev pub bad : ℕ → Bool
+  bad p = not (good (pairNumber r p))
+
+  -- the pairs before p are good
+  pub record Looking (n p : ℕ) : Type 0 where
+    pub most : p ≤ n
+    pub same : lowestFrom bad (n - p) p ≡ lowest bad n
+
+  pub look-start : (n : ℕ) → Looking n 0
+  look-start n = record { most = omega arith; same = low-start bad n }
+
+module _ {good : Pair → Bool} {r : Record} {n p : ℕ} (l : Looking good r n p) where
+  pub look-end : n ≤ p → p ≡ lowest (bad good r) n
+  look-end h = sym (low-end (bad good r) n p h) ∙ l .same
+
+  -- the next pair has its base at location number start + 2 * p
+  module _ {start : ℕ} (e : start ≡ pairsAt r) (h : p < n) where
+    pub look-on : good (pairFrom r (start + 2 * p)) ≡ true → Looking good r n (p + 1)
+    look-on g = record { most = omega arith; same = sym (low-step (bad good r) n p h (ap not (sym (ap good (pair-from r start p e)) ∙ g))) ∙ l .same }
+
+    pub look-hit : good (pairFrom r (start + 2 * p)) ≡ false → p ≡ lowest (bad good r) n
+    look-hit g = sym (low-hit (bad good r) n p h (ap not (sym (ap good (pair-from r start p e)) ∙ g))) ∙ l .same
 
 -- the array of null pairs, as it fills
 module _ (pool : List ℕ) (r : Record) where

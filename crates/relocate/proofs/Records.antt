@@ -16,7 +16,7 @@ use Rattle.questions.specs.declared.LocationAnswer.{LocationAnswer}
 use Rattle.questions.specs.Questions.{thisLocation}
 use Rattle.questions.proofs.Content.{getD-some, location-at}
 use Rattle.relocate.specs.Statepoint.{noLocation, locationAt}
-use Rattle.relocate.specs.Code.{recordOf, Stands}
+use Rattle.relocate.specs.Code.{recordOf, Stands, Paired}
 
 module _ (s : List ℕ) (at : ℕ) where
   pub num-locations : numLocations (drop at s) ≡ word 2 s (at + 14)
@@ -57,6 +57,10 @@ module _ (s : List ℕ) (at : ℕ) where
     pub live-outs-inside : Stands s at → at + 16 + 12 * n + n % 2 * 4 + 4 ≤ length s
     unfolding recordLength
     live-outs-inside h = rw e (let i = h .inside in omega arith)
+
+-- the base of pair number p is inside
+pub pair-inside : {s : List ℕ} {at start count : ℕ} → Paired s at start count → (p : ℕ) → p < count → at + 16 + 12 * (start + 2 * p) + 12 ≤ length s
+pair-inside {s} {at} {start} w p h = location-inside s at (w .stands) (start + 2 * p) (omega (arith, w .room))
 
 -- what the reader says of a location's kind
 module _ (a : LocationAnswer) (pool : List ℕ) (l : Location) (e : a ≡ thisLocation pool l) where

@@ -1,6 +1,5 @@
 use borrow.Author.Needs.{needs}
 use native.Mathlib.Omega.{arith}
-use mathlib.Core.Path.{_≡_}
 use Rattle.stackmap.specs.Section.{locationFields}
 use Rattle.stackmap.proofs.Items.{location-size}
 use Rattle.listing.specs.Listing.{listedLocation}
@@ -39,9 +38,7 @@ same-length : tie.Need-same-length Inv-loop μ-loop
 same-length c = search needs
 
 returns : tie.Need-returns Inv-loop μ-loop
-returns c =
-    let none : c .before .loop .left ≡ 0 = omega arith in
-    put-end (rw none at (c .before .loop .inv))
+returns c = put-end (c .before .loop .inv) (omega arith)
 
 pub locations-spec : {M : Type 1} → statement M
 locations-spec =

@@ -1,6 +1,5 @@
 use borrow.Author.Needs.{needs}
 use native.Mathlib.Omega.{arith}
-use mathlib.Core.Path.{_≡_}
 use Rattle.parser.proofs.Walking.{record-inside}
 use Rattle.builder.proofs.SectionPut.{PuttingRecords, ready-small, records-start, record-room, records-on, records-end}
 use Rattle.builder.proofs.put.records.Statement.{statement}
@@ -49,9 +48,7 @@ same-length : tie.Need-same-length Inv-loop μ-loop
 same-length c = let w = c .before .loop .inv .long in search needs
 
 returns : tie.Need-returns Inv-loop μ-loop
-returns c =
-    let none : c .before .loop .left ≡ 0 = omega arith in
-    records-end (rw none at (c .before .loop .inv))
+returns c = records-end (c .before .loop .inv) (omega arith)
 
 pub records-spec : {M : Type 1} → statement M
 records-spec =

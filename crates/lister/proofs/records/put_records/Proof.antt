@@ -1,7 +1,6 @@
 -- What is left to be written gives what the whole gives.
 use borrow.Author.Needs.{needs}
 use native.Mathlib.Omega.{arith}
-use mathlib.Core.Path.{_≡_}
 use Rattle.stackmap.specs.Fields.{all}
 use Rattle.stackmap.specs.Section.{readRecords}
 use Rattle.listing.specs.Listing.{recordItems}
@@ -49,9 +48,7 @@ loop-again c =
     pass-on (p .before .before .before .before .loop .inv) (omega arith) (p .put-record .ensures .0) (p .put-record .ensures .1)
 
 returns : tie.Need-returns Inv-loop μ-loop
-returns c =
-    let none : c .before .loop .left ≡ 0 = omega arith in
-    pass-end (c .before .loop .inv) none
+returns c = pass-end (c .before .loop .inv) (omega arith)
 
 same-length : tie.Need-same-length Inv-loop μ-loop
 same-length c = put-long (returns c)

@@ -4,7 +4,6 @@ use borrow.Author.Needs.{needs}
 use native.Mathlib.Omega.{arith}
 use Prim.Native.Nat.{_+_, _*_, _≤_}
 use lib.ListN.{length}
-use mathlib.Core.Path.{_≡_}
 use Rattle.lister.proofs.Passes.{Measuring, inListing, measure-start, measure-here, measure-on, measure-end}
 use Rattle.lister.proofs.records.records_length.Statement.{statement}
 use Rattle.lister.proofs.records.records_length.Tie as tie
@@ -64,9 +63,7 @@ loop-again : tie.Need-loop-again Inv-loop μ-loop
 loop-again c = measure-on (c .before .before .before .before .before .before .loop .inv) (omega arith) (c .before .before .before .record-shape .ensures)
 
 returns : tie.Need-returns Inv-loop μ-loop
-returns c =
-    let none : c .before .loop .left ≡ 0 = omega arith in
-    measure-end (c .before .loop .inv) none
+returns c = measure-end (c .before .loop .inv) (omega arith)
 
 pub records-length-spec : {M : Type 1} → statement M
 records-length-spec =

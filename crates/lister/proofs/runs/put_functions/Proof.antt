@@ -1,6 +1,5 @@
 -- What is left to be written gives what the whole gives.
 use borrow.Author.Needs.{needs}
-use mathlib.Core.Path.{_≡_}
 use native.Mathlib.Omega.{arith}
 use Rattle.stackmap.specs.Fields.{all, many}
 use Rattle.stackmap.specs.Section.{readFunction}
@@ -18,7 +17,7 @@ abbrev μ-loop : tie.MeasureT-loop
 μ-loop s at count out₀ to p₀ functions₀ t₀ out p functions t = functions
 
 loop-holds : tie.Need-loop-holds Inv-loop μ-loop
-loop-holds c = run-start functionItem readFunction 24 25 function-item-size (c .before .before .pre .0) (c .before .before .pre .1)
+loop-holds c = run-start (c .before .before .pre .0) (c .before .before .pre .1)
 
 put-function-requires : tie.Need-put-function-requires Inv-loop μ-loop
 put-function-requires c κs = search needs
@@ -35,13 +34,10 @@ loop-less c = search needs
 loop-again : tie.Need-loop-again Inv-loop μ-loop
 loop-again c =
     let l = c .before .before .before .before .before .loop in
-    run-on functionItem readFunction 24 25 function-item-size (l .inv) (omega arith) (c .before .before .put-function .ensures)
+    run-on (l .inv) function-item-size (omega arith) (c .before .before .put-function .ensures)
 
 returns : tie.Need-returns Inv-loop μ-loop
-returns c =
-    let l = c .before .loop in
-    let none : l .functions ≡ 0 = omega arith in
-    run-end functionItem readFunction 24 25 function-item-size (l .inv) none
+returns c = run-end (c .before .loop .inv) (omega arith)
 
 same-length : tie.Need-same-length Inv-loop μ-loop
 same-length c = put-long (returns c)

@@ -1,6 +1,5 @@
 -- What is left to be written gives what the whole gives.
 use borrow.Author.Needs.{needs}
-use mathlib.Core.Path.{_≡_}
 use native.Mathlib.Omega.{arith}
 use Rattle.stackmap.specs.Fields.{all, many}
 use Rattle.stackmap.specs.Section.{readLiveOut}
@@ -18,7 +17,7 @@ abbrev μ-loop : tie.MeasureT-loop
 μ-loop s at count out₀ to p₀ outs₀ t₀ out p outs t = outs
 
 loop-holds : tie.Need-loop-holds Inv-loop μ-loop
-loop-holds c = run-start liveOutItem readLiveOut 4 4 live-out-item-size (c .before .before .pre .0) (c .before .before .pre .1)
+loop-holds c = run-start (c .before .before .pre .0) (c .before .before .pre .1)
 
 put-live-out-requires : tie.Need-put-live-out-requires Inv-loop μ-loop
 put-live-out-requires c κs = search needs
@@ -35,13 +34,10 @@ loop-less c = search needs
 loop-again : tie.Need-loop-again Inv-loop μ-loop
 loop-again c =
     let l = c .before .before .before .before .before .loop in
-    run-on liveOutItem readLiveOut 4 4 live-out-item-size (l .inv) (omega arith) (c .before .before .put-live-out .ensures)
+    run-on (l .inv) live-out-item-size (omega arith) (c .before .before .put-live-out .ensures)
 
 returns : tie.Need-returns Inv-loop μ-loop
-returns c =
-    let l = c .before .loop in
-    let none : l .outs ≡ 0 = omega arith in
-    run-end liveOutItem readLiveOut 4 4 live-out-item-size (l .inv) none
+returns c = run-end (c .before .loop .inv) (omega arith)
 
 same-length : tie.Need-same-length Inv-loop μ-loop
 same-length c = put-long (returns c)

@@ -1,6 +1,6 @@
 use borrow.Author.Needs.{needs}
 use native.Mathlib.Omega.{arith}
-use mathlib.Core.Path.{_≡_, sym, _∙_}
+use mathlib.Core.Path.{sym, _∙_}
 use Rattle.stackmap.specs.Verdict.{chain}
 use Rattle.parser.proofs.Walking.{Walking, walk-start, record-inside, walk-room, walk-here, walk-on, walk-end}
 use Rattle.parser.proofs.walk.records.Statement.{statement}
@@ -69,9 +69,7 @@ loop-again c =
     (o .ensures .2) (o .ensures .3) (sym (c .before .before .before .entry .ensures) ∙ c .before .stop .given .1)
 
 returns-2 : tie.Need-returns-2 Inv-loop μ-loop
-returns-2 c =
-    let none : c .before .loop .remaining ≡ 0 = omega arith in
-    sym (walk-end (rw none at (c .before .loop .inv)))
+returns-2 c = sym (walk-end (c .before .loop .inv) (omega arith))
 
 pub records-spec : {M : Type 1} → statement M
 records-spec =

@@ -1,8 +1,8 @@
 use mathlib.Core.Path.{sym, _∙_}
 use native.Mathlib.Omega.{arith}
-use Rattle.relocate.specs.Code.{recordOf, poolOf, pairFrom}
+use Rattle.relocate.specs.Statepoint.{inside}
 use Rattle.relocate.proofs.Records.{location-inside}
-use Rattle.relocate.proofs.Forms.{inside-null, inside-no, inside-rest}
+use Rattle.relocate.proofs.Forms.{and-no, and-rest, or-yes, or-rest}
 use borrow.Author.Needs.{needs}
 use Rattle.relocate.proofs.pairs.is_inside.Statement.{statement}
 use Rattle.relocate.proofs.pairs.is_inside.Tie as tie
@@ -11,7 +11,8 @@ is-null-requires : tie.Need-is-null-requires
 is-null-requires c κs = search needs
 
 returns : tie.Need-returns
-returns c = inside-null _ _ _ _ (sym (c .before .is-null .ensures) ∙ c .if1 .taken)
+unfolding inside
+returns c = or-yes _ _ (sym (c .before .is-null .ensures) ∙ c .if1 .taken)
 
 slot-inside-requires : tie.Need-slot-inside-requires
 slot-inside-requires c κs = search needs
@@ -25,17 +26,16 @@ slot-inside-requires-2 : tie.Need-slot-inside-requires-2
 slot-inside-requires-2 c κs = search needs
 
 returns-2 : tie.Need-returns-2
+unfolding inside
 returns-2 c =
-    let a = c .before .before .before .before .before .before .args in
-    c .slot-inside2 .ensures
-    ∙ inside-rest (poolOf (a .s .now)) (pairFrom (recordOf (a .s .now) (a .at)) (a .j)) (a .frame) (a .size) (sym (c .before .before .before .before .is-null .ensures) ∙ c .before .before .before .if1 .left)
-    (sym (c .before .before .slot-inside .ensures) ∙ c .before .if2 .taken)
+    c .slot-inside2 .ensures ∙ and-rest _ _ (sym (c .before .before .slot-inside .ensures) ∙ c .before .if2 .taken)
+    ∙ or-rest _ _ (sym (c .before .before .before .before .is-null .ensures) ∙ c .before .before .before .if1 .left)
 
 returns-3 : tie.Need-returns-3
+unfolding inside
 returns-3 c =
-    let a = c .before .before .before .before .before .args in
-    inside-no (poolOf (a .s .now)) (pairFrom (recordOf (a .s .now) (a .at)) (a .j)) (a .frame) (a .size) (sym (c .before .before .before .is-null .ensures) ∙ c .before .before .if1 .left)
-    (sym (c .before .slot-inside .ensures) ∙ c .if2 .left)
+    and-no _ _ (sym (c .before .slot-inside .ensures) ∙ c .if2 .left)
+    ∙ or-rest _ _ (sym (c .before .before .before .is-null .ensures) ∙ c .before .before .if1 .left)
 
 pub is-inside-spec : {M : Type 1} → statement M
 is-inside-spec =

@@ -1,8 +1,8 @@
 use mathlib.Core.Path.{sym, _∙_}
 use native.Mathlib.Omega.{arith}
-use Rattle.relocate.specs.Code.{recordOf, poolOf, pairFrom}
+use Rattle.relocate.specs.Statepoint.{isNull}
 use Rattle.relocate.proofs.Records.{location-inside}
-use Rattle.relocate.proofs.Forms.{zero-said, null-no, null-rest}
+use Rattle.relocate.proofs.Forms.{zero-said, and-no, and-rest}
 use borrow.Author.Needs.{needs}
 use Rattle.relocate.proofs.pairs.is_null.Statement.{statement}
 use Rattle.relocate.proofs.pairs.is_null.Tie as tie
@@ -25,15 +25,14 @@ is-zero-requires-2 : tie.Need-is-zero-requires-2
 is-zero-requires-2 c κs = search needs
 
 returns : tie.Need-returns
+unfolding isNull
 returns c =
-    let a = c .before .before .before .before .before .before .args in
     c .is-zero2 .ensures ∙ zero-said _ _ _ (c .before .location2 .ensures)
-    ∙ null-rest (poolOf (a .s .now)) (pairFrom (recordOf (a .s .now) (a .at)) (a .j)) (sym (zero-said _ _ _ (c .before .before .before .before .location .ensures)) ∙ sym (c .before .before .before .is-zero .ensures) ∙ c .before .before .if1 .taken)
+    ∙ and-rest _ _ (sym (zero-said _ _ _ (c .before .before .before .before .location .ensures)) ∙ sym (c .before .before .before .is-zero .ensures) ∙ c .before .before .if1 .taken)
 
 returns-2 : tie.Need-returns-2
-returns-2 c =
-    let a = c .before .before .before .before .args in
-    null-no (poolOf (a .s .now)) (pairFrom (recordOf (a .s .now) (a .at)) (a .j)) (sym (zero-said _ _ _ (c .before .before .location .ensures)) ∙ sym (c .before .is-zero .ensures) ∙ c .if1 .left)
+unfolding isNull
+returns-2 c = and-no _ _ (sym (zero-said _ _ _ (c .before .before .location .ensures)) ∙ sym (c .before .is-zero .ensures) ∙ c .if1 .left)
 
 pub is-null-spec : {M : Type 1} → statement M
 is-null-spec =

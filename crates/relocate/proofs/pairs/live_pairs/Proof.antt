@@ -1,4 +1,4 @@
-use Prim.Native.Nat.{_+_, _*_, _-_, _≤_}
+use Prim.Native.Nat.{_-_, _≤_}
 use mathlib.Core.Path.{_≡_, refl, sym, ap, _∙_}
 use mathlib.Core.Logic.{⊎-elim}
 use native.Mathlib.Omega.{arith}
@@ -6,7 +6,7 @@ use borrow.Author.Needs.{needs}
 use lib.ListN.{length, length-set}
 use Rattle.relocate.specs.Statepoint.{isNull}
 use Rattle.relocate.specs.Code.{recordOf, poolOf, Lives}
-use Rattle.relocate.proofs.Records.{location-inside}
+use Rattle.relocate.proofs.Records.{pair-inside}
 use Rattle.relocate.proofs.Forms.{pair-from, lives-start, lives-set}
 use Rattle.relocate.proofs.pairs.live_pairs.Statement.{statement}
 use Rattle.relocate.proofs.pairs.live_pairs.Tie as tie
@@ -21,14 +21,10 @@ loop-holds : tie.Need-loop-holds Inv-loop μ-loop
 loop-holds c = (omega arith, refl, lives-start _ _ _)
 
 mul-is-null : tie.Need-mul-is-null Inv-loop μ-loop
-mul-is-null c =
-    let s = c .before .before .before in
-    omega (arith, location-inside (s .args .s .now) (s .args .at) (s .pre .0 .stands) (s .args .start + 2 * c .before .loop .k) (omega (arith, s .pre .0 .room)))
+mul-is-null c = omega (arith, pair-inside (c .before .before .before .pre .0) (c .before .loop .k) (omega arith))
 
 add-is-null : tie.Need-add-is-null Inv-loop μ-loop
-add-is-null c =
-    let s = c .before .before .before in
-    omega (arith, location-inside (s .args .s .now) (s .args .at) (s .pre .0 .stands) (s .args .start + 2 * c .before .loop .k) (omega (arith, s .pre .0 .room)))
+add-is-null c = omega (arith, pair-inside (c .before .before .before .pre .0) (c .before .loop .k) (omega arith))
 
 is-null-requires : tie.Need-is-null-requires Inv-loop μ-loop
 is-null-requires c κs =

@@ -1,8 +1,8 @@
 use mathlib.Core.Path.{sym, _∙_}
 use native.Mathlib.Omega.{arith}
-use Rattle.relocate.specs.Code.{recordOf, poolOf, pairFrom}
+use Rattle.relocate.specs.Statepoint.{rightForm}
 use Rattle.relocate.proofs.Records.{location-inside}
-use Rattle.relocate.proofs.Forms.{slot-said, form-null, form-no, form-rest}
+use Rattle.relocate.proofs.Forms.{slot-said, and-no, and-rest, or-yes, or-rest}
 use borrow.Author.Needs.{needs}
 use Rattle.relocate.proofs.pairs.right_form.Statement.{statement}
 use Rattle.relocate.proofs.pairs.right_form.Tie as tie
@@ -11,7 +11,8 @@ is-null-requires : tie.Need-is-null-requires
 is-null-requires c κs = search needs
 
 returns : tie.Need-returns
-returns c = form-null _ _ (sym (c .before .is-null .ensures) ∙ c .if1 .taken)
+unfolding rightForm
+returns c = or-yes _ _ (sym (c .before .is-null .ensures) ∙ c .if1 .taken)
 
 location-requires : tie.Need-location-requires
 location-requires c κs = search needs
@@ -31,17 +32,17 @@ is-slot-requires-2 : tie.Need-is-slot-requires-2
 is-slot-requires-2 c κs = search needs
 
 returns-2 : tie.Need-returns-2
+unfolding rightForm
 returns-2 c =
-    let a = c .before .before .before .before .before .before .before .before .args in
     c .is-slot2 .ensures ∙ slot-said _ _ _ (c .before .location2 .ensures)
-    ∙ form-rest (poolOf (a .s .now)) (pairFrom (recordOf (a .s .now) (a .at)) (a .j)) (sym (c .before .before .before .before .before .before .is-null .ensures) ∙ c .before .before .before .before .before .if1 .left)
-    (sym (slot-said _ _ _ (c .before .before .before .before .location .ensures)) ∙ sym (c .before .before .before .is-slot .ensures) ∙ c .before .before .if2 .taken)
+    ∙ and-rest _ _ (sym (slot-said _ _ _ (c .before .before .before .before .location .ensures)) ∙ sym (c .before .before .before .is-slot .ensures) ∙ c .before .before .if2 .taken)
+    ∙ or-rest _ _ (sym (c .before .before .before .before .before .before .is-null .ensures) ∙ c .before .before .before .before .before .if1 .left)
 
 returns-3 : tie.Need-returns-3
+unfolding rightForm
 returns-3 c =
-    let a = c .before .before .before .before .before .before .args in
-    form-no (poolOf (a .s .now)) (pairFrom (recordOf (a .s .now) (a .at)) (a .j)) (sym (c .before .before .before .before .is-null .ensures) ∙ c .before .before .before .if1 .left)
-    (sym (slot-said _ _ _ (c .before .before .location .ensures)) ∙ sym (c .before .is-slot .ensures) ∙ c .if2 .left)
+    and-no _ _ (sym (slot-said _ _ _ (c .before .before .location .ensures)) ∙ sym (c .before .is-slot .ensures) ∙ c .if2 .left)
+    ∙ or-rest _ _ (sym (c .before .before .before .before .is-null .ensures) ∙ c .before .before .before .if1 .left)
 
 pub right-form-spec : {M : Type 1} → statement M
 right-form-spec =
