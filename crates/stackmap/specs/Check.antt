@@ -2,14 +2,15 @@
 -- record, and 9 last.
 use Prim.Native.Nat.{ℕ, _+_, _*_, _-_, _/_}
 use mathlib.Core.Path.{_≡_}
+use mathlib.Core.Bool.{Bool, true, false}
 use mathlib.Core.List.{List, [], _∷_}
 use lib.ListN.{length, getD, drop}
 use lib.Dec.{leb, eqb}
 use Rattle.stackmap.specs.declared.Verdict.{Verdict}
 use Rattle.stackmap.specs.declared.Verdict.the-variants.{Valid}
-use Rattle.stackmap.specs.Layout.{headerSize, version, headerZerosAt, headerZeros, numRecordsAt, functionSize, constantSize, sectionMost}
+use Rattle.stackmap.specs.Layout.{headerSize, versionNumber, headerZerosAt, headerZeros, numRecordsAt, functionSize, constantSize, sectionMost}
 use Rattle.stackmap.specs.Verdict.{must, chain, bind, shift}
-use Rattle.stackmap.specs.Section.{numConstants, numRecords, constantsAt, recordsAt, readFunctions, Owner, owners, counted}
+use Rattle.stackmap.specs.Section.{Function, numConstants, numRecords, isOld, constantsAt, recordsAt, readFunctions, Owner, recordOwners, counted}
 use Rattle.stackmap.specs.Record.{zeros, recordCheck}
 
 -- 1, 2, 3: the bytes of the header
@@ -17,31 +18,36 @@ unfoldable pub headerCheck : List ℕ → Verdict
 headerCheck s =
     must (leb headerSize (length s)) 1 0
     (must (leb (length s) sectionMost) 1 0
-    (must (eqb (getD s 0 0) version) 2 0
+    (must (eqb (getD s 0 0) (versionNumber false)) 2 0
     (zeros headerZeros s headerZerosAt)))
 
 -- 4: the first item of n bytes from `at` that is not wholly inside
 abbrev pub firstOutside : ℕ → List ℕ → ℕ → ℕ
 firstOutside n s at = at + n * ((length s - at) / n)
 
+-- the record counts add up; version 1 states none
+unfoldable pub countsRight : Bool → List Function → ℕ → Bool
+countsRight true fs n = true
+countsRight false fs n = eqb (counted fs) n
+
 -- 4, 5: the functions and the constants are inside, and the record counts add up
 unfoldable pub tablesCheck : List ℕ → Verdict
 tablesCheck s =
-    must (leb (constantsAt s) (length s)) 4 (firstOutside functionSize s headerSize)
+    must (leb (constantsAt s) (length s)) 4 (firstOutside (functionSize (isOld s)) s headerSize)
     (must (leb (recordsAt s) (length s)) 4 (firstOutside constantSize s (constantsAt s))
-    (must (eqb (counted (readFunctions s)) (numRecords s)) 5 numRecordsAt
+    (must (countsRight (isOld s) (readFunctions s) (numRecords s)) 5 numRecordsAt
     (Valid (recordsAt s))))
 
 -- the records of these owners from `at`, in a section of c constants; each is read from its own stretch of s
-unfoldable pub recordsCheck : List Owner → List ℕ → ℕ → ℕ → Verdict
-recordsCheck [] s c at = Valid at
-recordsCheck (o ∷ os) s c at =
-    bind (shift at (recordCheck (drop at s) c (o .function .address))) (λ p. recordsCheck os s c p)
+unfoldable pub recordsCheck : Bool → List Owner → List ℕ → ℕ → ℕ → Verdict
+recordsCheck old [] s c at = Valid at
+recordsCheck old (o ∷ os) s c at =
+    bind (shift at (recordCheck old (drop at s) c (o .function .address))) (λ p. recordsCheck old os s c p)
 
 -- all records, and 9: nothing follows the last one
 unfoldable pub walkCheck : List ℕ → Verdict
 walkCheck s =
-    bind (recordsCheck (owners 0 (readFunctions s)) s (numConstants s) (recordsAt s)) (λ p. must (eqb p (length s)) 9 p (Valid p))
+    bind (recordsCheck (isOld s) (recordOwners (isOld s) (numRecords s) (readFunctions s)) s (numConstants s) (recordsAt s)) (λ p. must (eqb p (length s)) 9 p (Valid p))
 
 -- the whole section
 unfoldable pub sectionCheck : List ℕ → Verdict

@@ -2,42 +2,45 @@
 -- bytes written from data can get. A place in a record is counted from the record's first byte.
 use Prim.Native.Nat.{ℕ, _+_, _≤_, _<_}
 use mathlib.Core.Path.{_≡_}
+use mathlib.Core.Bool.{Bool, true}
 use mathlib.Core.List.{List, [], _∷_, List·Memᴰ}
 use lib.ListN.{length}
-use lib.Dec.{ltb, leb, eqb}
+use lib.Dec.{leb}
 use Rattle.stackmap.specs.declared.Verdict.{Verdict}
 use Rattle.stackmap.specs.declared.Verdict.the-variants.{Valid}
 use Rattle.stackmap.specs.Layout.{sectionMost, addressMost, negativeFrom, recordHeadSize, locationSize, kindLeast, kindMost, kindConstIndex, numRecordsAt}
-use Rattle.stackmap.specs.Verdict.{must, chain, pick, shift}
+use Rattle.stackmap.specs.Verdict.{must, chain, shift}
 use Rattle.stackmap.specs.Fields.{size}
-use Rattle.stackmap.specs.Section.{Location, Section, recordFields, sectionFields, Encodable, Entry, address, entriesOf, counted}
+use Rattle.stackmap.specs.Section.{Function, Location, Section, recordFields, sectionFields, Encodable, Entry, address, entriesOf}
+use Rattle.stackmap.specs.Record.{poolCheck}
+use Rattle.stackmap.specs.Check.{countsRight}
 
-unfoldable pub locationFault : ℕ → Location → ℕ → Verdict
-locationFault constants l at =
+unfoldable pub locationFault : Bool → ℕ → Location → ℕ → Verdict
+locationFault old constants l at =
     must (leb kindLeast (l .kind)) 6 at
     (must (leb (l .kind) kindMost) 6 at
-    (pick (eqb (l .kind) kindConstIndex)
-    (must (ltb (l .offset) negativeFrom) 7 at (must (ltb (l .offset) constants) 7 at (Valid (at + locationSize))))
-    (Valid (at + locationSize))))
+    (poolCheck (l .kind) (l .offset) constants at (at + locationSize old)))
 
-unfoldable pub locationsFault : ℕ → List Location → ℕ → Verdict
-locationsFault constants [] at = Valid at
-locationsFault constants (l ∷ ls) at = chain (locationFault constants l at) (locationsFault constants ls (at + locationSize))
+unfoldable pub locationsFault : Bool → ℕ → List Location → ℕ → Verdict
+locationsFault old constants [] at = Valid at
+locationsFault old constants (l ∷ ls) at =
+    chain (locationFault old constants l at) (locationsFault old constants ls (at + locationSize old))
 
-unfoldable pub entryFault : ℕ → Entry → Verdict
-entryFault constants e =
+unfoldable pub entryFault : Bool → ℕ → Entry → Verdict
+entryFault old constants e =
     must (leb (address e) addressMost) 8 0
-    (chain (locationsFault constants (e .body .locations) recordHeadSize) (Valid (size (recordFields (e .body)))))
+    (chain (locationsFault old constants (e .body .locations) recordHeadSize) (Valid (size (recordFields old (e .body)))))
 
-unfoldable pub entriesFault : ℕ → List Entry → ℕ → Verdict
-entriesFault constants [] end = Valid end
-entriesFault constants (e ∷ es) end = chain (shift (e .first) (entryFault constants e)) (entriesFault constants es end)
+unfoldable pub entriesFault : Bool → ℕ → List Entry → ℕ → Verdict
+entriesFault old constants [] end = Valid end
+entriesFault old constants (e ∷ es) end =
+    chain (shift (e .first) (entryFault old constants e)) (entriesFault old constants es end)
 
 unfoldable pub sectionFault : Section → Verdict
 sectionFault t =
     must (leb (size (sectionFields t)) sectionMost) 1 0
-    (must (eqb (counted (t .functions)) (length (t .records))) 5 numRecordsAt
-    (entriesFault (length (t .constants)) (entriesOf t) (size (sectionFields t))))
+    (must (countsRight (t .old) (t .functions) (length (t .records))) 5 numRecordsAt
+    (entriesFault (t .old) (length (t .constants)) (entriesOf t) (size (sectionFields t))))
 
 -- What an accepted section's data is.
 
@@ -54,5 +57,7 @@ pub record GoodEntry (constants : ℕ) (e : Entry) : Type 0 where
 pub record WellFormed (t : Section) : Type 0 where
   pub fits : Encodable t
   pub small : size (sectionFields t) ≤ sectionMost
-  pub adds-up : counted (t .functions) ≡ length (t .records)
+  pub adds-up : countsRight (t .old) (t .functions) (length (t .records)) ≡ true
+  -- version 1 states no record counts
+  pub no-counts : t .old ≡ true → (f : Function) → List·Memᴰ f (t .functions) → f .count ≡ 0
   pub entries-good : (e : Entry) → List·Memᴰ e (entriesOf t) → GoodEntry (length (t .constants)) e

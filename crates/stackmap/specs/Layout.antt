@@ -1,13 +1,18 @@
 -- The numbers of document 01, "Section bytes", each named once: sizes in bytes, places in an item, paddings and limits.
 use Prim.Native.Nat.{ℕ, _+_, _*_, _-_, _%_, _^_}
+use mathlib.Core.Bool.{Bool, true, false}
+
+-- The two versions of the format differ in the layout of functions and locations, and in the padding after the locations. Where
+-- they do, `old` is true for version 1, which older servers write, and false for version 3.
 
 -- The header: version (one byte), three zero bytes, NumFunctions, NumConstants, NumRecords (4 bytes each).
 
 abbrev pub headerSize : ℕ
 headerSize = 16
 
-abbrev pub version : ℕ
-version = 3
+abbrev pub versionNumber : Bool → ℕ
+versionNumber true = 1
+versionNumber false = 3
 
 -- three zero bytes stand after the version
 abbrev pub headerZerosAt : ℕ
@@ -25,10 +30,11 @@ numConstantsAt = 8
 abbrev pub numRecordsAt : ℕ
 numRecordsAt = 12
 
--- A function: address, stack size, record count, 8 each.
+-- A function: address, stack size, record count, 8 each; no record count in version 1.
 
-abbrev pub functionSize : ℕ
-functionSize = 24
+abbrev pub functionSize : Bool → ℕ
+functionSize true = 16
+functionSize false = 24
 
 abbrev pub stackSizeAt : ℕ
 stackSizeAt = 8
@@ -61,9 +67,10 @@ flagsSize = 2
 abbrev pub numLocationsAt : ℕ
 numLocationsAt = 14
 
--- 4 zero bytes if NumLocations is odd
-abbrev pub locationsPadding : ℕ → ℕ
-locationsPadding n = n % 2 * 4
+-- 4 zero bytes if NumLocations is odd; none in version 1
+abbrev pub locationsPadding : Bool → ℕ → ℕ
+locationsPadding true n = 0
+locationsPadding false n = n % 2 * 4
 
 -- 2 zero bytes and NumLiveOuts stand before the live-outs
 abbrev pub liveOutsHeadZeros : ℕ
@@ -76,19 +83,29 @@ liveOutsHeadSize = 4
 abbrev pub liveOutsPadding : ℕ → ℕ
 liveOutsPadding n = (n + 1) % 2 * 4
 
--- A location: kind (1), zero (1), size (2), register (2), zero (2), signed offset (4).
+-- A location: kind (1), zero (1), size (2), register (2), zero (2), signed offset (4). In version 1: kind (1), size (1), register (2),
+-- signed offset (4).
 
-abbrev pub locationSize : ℕ
-locationSize = 12
+abbrev pub locationSize : Bool → ℕ
+locationSize true = 8
+locationSize false = 12
 
-abbrev pub locationSizeAt : ℕ
-locationSizeAt = 2
+abbrev pub locationSizeAt : Bool → ℕ
+locationSizeAt true = 1
+locationSizeAt false = 2
 
-abbrev pub locationRegisterAt : ℕ
-locationRegisterAt = 4
+-- the width of the size
+abbrev pub locationSizeWidth : Bool → ℕ
+locationSizeWidth true = 1
+locationSizeWidth false = 2
 
-abbrev pub locationOffsetAt : ℕ
-locationOffsetAt = 8
+abbrev pub locationRegisterAt : Bool → ℕ
+locationRegisterAt true = 2
+locationRegisterAt false = 4
+
+abbrev pub locationOffsetAt : Bool → ℕ
+locationOffsetAt true = 4
+locationOffsetAt false = 8
 
 -- Kinds 1 Register, 2 Direct, 3 Indirect, 4 Constant, 5 ConstIndex.
 

@@ -1,6 +1,7 @@
 -- The check of one record, which stands at the start of s, in document 01's order: 4, 8, then its bytes from left to right
 -- (3, 6), with 7 at the end of its location. Places are counted from the record's first byte.
 use Prim.Native.Nat.{ℕ, zero, suc, _+_, _*_}
+use mathlib.Core.Bool.{Bool, true, false}
 use mathlib.Core.List.{List}
 use lib.ListN.{length, getD}
 use lib.Dec.{ltb, leb, eqb}
@@ -16,23 +17,33 @@ unfoldable pub zeros : ℕ → List ℕ → ℕ → Verdict
 zeros zero s at = Valid at
 zeros (suc n) s at = must (eqb (getD s at 0) 0) 3 at (zeros n s (at + 1))
 
+-- 3: the zero bytes of a location; version 1 has none
+unfoldable pub locationZeros : Bool → List ℕ → ℕ → Verdict → Verdict
+locationZeros true s at k = k
+locationZeros false s at k =
+    must (eqb (getD s (at + 1) 0) 0) 3 (at + 1)
+    (must (eqb (getD s (at + 6) 0) 0) 3 (at + 6)
+    (must (eqb (getD s (at + 7) 0) 0) 3 (at + 7) k))
+
+-- 7: the pool entry of a ConstIndex location of this kind and offset; it stands at `at`, and ends at `end`
+unfoldable pub poolCheck : ℕ → ℕ → ℕ → ℕ → ℕ → Verdict
+poolCheck kind offset c at end =
+    pick (eqb kind kindConstIndex)
+    (must (ltb offset negativeFrom) 7 at (must (ltb offset c) 7 at (Valid end)))
+    (Valid end)
+
 -- a location, in a section of c constants: 6 for its kind, 3 for its zero bytes, 7 for a ConstIndex
-unfoldable pub locationCheck : List ℕ → ℕ → ℕ → Verdict
-locationCheck s c at =
+unfoldable pub locationCheck : Bool → List ℕ → ℕ → ℕ → Verdict
+locationCheck old s c at =
     must (leb kindLeast (getD s at 0)) 6 at
     (must (leb (getD s at 0) kindMost) 6 at
-    (must (eqb (getD s (at + 1) 0) 0) 3 (at + 1)
-    (must (eqb (getD s (at + 6) 0) 0) 3 (at + 6)
-    (must (eqb (getD s (at + 7) 0) 0) 3 (at + 7)
-    (pick (eqb (getD s at 0) kindConstIndex)
-    (must (ltb (word 4 s (at + locationOffsetAt)) negativeFrom) 7 at
-    (must (ltb (word 4 s (at + locationOffsetAt)) c) 7 at (Valid (at + locationSize))))
-    (Valid (at + locationSize)))))))
+    (locationZeros old s at
+    (poolCheck (getD s at 0) (word 4 s (at + locationOffsetAt old)) c at (at + locationSize old))))
 
 -- n locations from `at`
-unfoldable pub locations : ℕ → List ℕ → ℕ → ℕ → Verdict
-locations zero s c at = Valid at
-locations (suc n) s c at = chain (locationCheck s c at) (locations n s c (at + locationSize))
+unfoldable pub locations : Bool → ℕ → List ℕ → ℕ → ℕ → Verdict
+locations old zero s c at = Valid at
+locations old (suc n) s c at = chain (locationCheck old s c at) (locations old n s c (at + locationSize old))
 
 -- n live-outs from `at`
 unfoldable pub liveOuts : ℕ → List ℕ → ℕ → Verdict
@@ -41,20 +52,20 @@ liveOuts (suc n) s at =
     must (eqb (getD s (at + liveOutZeroAt) 0) 0) 3 (at + liveOutZeroAt) (liveOuts n s (at + liveOutSize))
 
 -- 4: it is wholly inside
-unfoldable pub recordInside : List ℕ → Verdict
-recordInside s = must (leb (recordLength s) (length s)) 4 0 (Valid (recordLength s))
+unfoldable pub recordInside : Bool → List ℕ → Verdict
+recordInside old s = must (leb (recordLength old s) (length s)) 4 0 (Valid (recordLength old s))
 
 -- its bytes from left to right
-unfoldable pub recordBytes : List ℕ → ℕ → Verdict
-recordBytes s c =
+unfoldable pub recordBytes : Bool → List ℕ → ℕ → Verdict
+recordBytes old s c =
     chain (zeros flagsSize s flagsAt)
-    (chain (locations (numLocations s) s c recordHeadSize)
-    (chain (zeros (locationsPadding (numLocations s) + liveOutsHeadZeros) s (recordHeadSize + locationSize * numLocations s))
-    (chain (liveOuts (numLiveOuts s) s (liveOutsAt s))
-    (chain (zeros (liveOutsPadding (numLiveOuts s)) s (liveOutsAt s + liveOutSize * numLiveOuts s))
-    (Valid (recordLength s))))))
+    (chain (locations old (numLocations s) s c recordHeadSize)
+    (chain (zeros (locationsPadding old (numLocations s) + liveOutsHeadZeros) s (recordHeadSize + locationSize old * numLocations s))
+    (chain (liveOuts (numLiveOuts old s) s (liveOutsAt old s))
+    (chain (zeros (liveOutsPadding (numLiveOuts old s)) s (liveOutsAt old s + liveOutSize * numLiveOuts old s))
+    (Valid (recordLength old s))))))
 
--- 4, 8, then its bytes; it belongs to a function at the address a
-unfoldable pub recordCheck : List ℕ → ℕ → ℕ → Verdict
-recordCheck s c a =
-    chain (recordInside s) (must (leb (a + word 4 s instructionOffsetAt) addressMost) 8 0 (recordBytes s c))
+-- 4, 8, then its bytes; it belongs to a function at the address a, which is 0 in version 1, where 8 isn't given
+unfoldable pub recordCheck : Bool → List ℕ → ℕ → ℕ → Verdict
+recordCheck old s c a =
+    chain (recordInside old s) (must (leb (a + word 4 s instructionOffsetAt) addressMost) 8 0 (recordBytes old s c))

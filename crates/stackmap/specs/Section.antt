@@ -1,9 +1,11 @@
 -- A section as data, its bytes, and what bytes are read as, in the words and order of document 01, "Section bytes".
 use Prim.Native.Nat.{ℕ, zero, suc, _+_, _*_}
+use mathlib.Core.Bool.{Bool, true, false}
 use mathlib.Core.List.{List, [], _∷_, _++_}
-use lib.ListN.{length, drop, replicate}
+use lib.Dec.{eqb}
+use lib.ListN.{length, getD, drop, replicate}
 use Rattle.wire.specs.Word.{word}
-use Rattle.stackmap.specs.Layout.{headerSize, version, headerZeros, numFunctionsAt, numConstantsAt, numRecordsAt, functionSize, stackSizeAt, recordCountAt, constantSize, recordHeadSize, instructionOffsetAt, flagsSize, numLocationsAt, locationsPadding, liveOutsHeadZeros, liveOutsHeadSize, liveOutsPadding, locationSize, locationSizeAt, locationRegisterAt, locationOffsetAt, liveOutSize, liveOutSizeAt}
+use Rattle.stackmap.specs.Layout.{headerSize, versionNumber, headerZeros, numFunctionsAt, numConstantsAt, numRecordsAt, functionSize, stackSizeAt, recordCountAt, constantSize, recordHeadSize, instructionOffsetAt, flagsSize, numLocationsAt, locationsPadding, liveOutsHeadZeros, liveOutsHeadSize, liveOutsPadding, locationSize, locationSizeAt, locationSizeWidth, locationRegisterAt, locationOffsetAt, liveOutSize, liveOutSizeAt}
 use Rattle.stackmap.specs.Fields.{Field, _of_, bytesOf, size, Fit, all, many}
 
 pub record Function : Type 0 where
@@ -28,8 +30,9 @@ pub record Record : Type 0 where
   pub locations : List Location
   pub liveOuts : List LiveOut
 
--- each function states its record count, so that a wrong one (refusal 5) can be said
+-- Each function states its record count, so that a wrong one (refusal 5) can be said. `old` is true for version 1.
 pub record Section : Type 0 where
+  pub old : Bool
   pub functions : List Function
   pub constants : List ℕ
   pub records : List Record
@@ -37,15 +40,17 @@ pub record Section : Type 0 where
 -- Its bytes.
 
 -- address, stack size, record count, 8 each
-unfoldable pub functionFields : Function → List Field
-functionFields f = (8 of f .address) ∷ (8 of f .stackSize) ∷ (8 of f .count) ∷ []
+unfoldable pub functionFields : Bool → Function → List Field
+functionFields true f = (8 of f .address) ∷ (8 of f .stackSize) ∷ []
+functionFields false f = (8 of f .address) ∷ (8 of f .stackSize) ∷ (8 of f .count) ∷ []
 
 unfoldable pub constantFields : ℕ → List Field
 constantFields v = (8 of v) ∷ []
 
 -- kind (1), zero (1), size (2), register (2), zero (2), signed offset (4)
-unfoldable pub locationFields : Location → List Field
-locationFields l = (1 of l .kind) ∷ (1 of 0) ∷ (2 of l .size) ∷ (2 of l .register) ∷ (2 of 0) ∷ (4 of l .offset) ∷ []
+unfoldable pub locationFields : Bool → Location → List Field
+locationFields true l = (1 of l .kind) ∷ (1 of l .size) ∷ (2 of l .register) ∷ (4 of l .offset) ∷ []
+locationFields false l = (1 of l .kind) ∷ (1 of 0) ∷ (2 of l .size) ∷ (2 of l .register) ∷ (2 of 0) ∷ (4 of l .offset) ∷ []
 
 -- register (2), zero (1), size (1)
 unfoldable pub liveOutFields : LiveOut → List Field
@@ -56,26 +61,27 @@ abbrev pub recordHead : Record → List Field
 recordHead r = (8 of r .id) ∷ (4 of r .offset) ∷ (flagsSize of 0) ∷ (2 of length (r .locations)) ∷ []
 
 -- the padding after the locations, and 2 zero bytes; NumLiveOuts (2)
-abbrev pub recordMiddle : Record → List Field
-recordMiddle r = ((locationsPadding (length (r .locations)) + liveOutsHeadZeros) of 0) ∷ (2 of length (r .liveOuts)) ∷ []
+abbrev pub recordMiddle : Bool → Record → List Field
+recordMiddle old r = ((locationsPadding old (length (r .locations)) + liveOutsHeadZeros) of 0) ∷ (2 of length (r .liveOuts)) ∷ []
 
 -- the padding after the live-outs
 abbrev pub recordEnd : Record → List Field
 recordEnd r = (liveOutsPadding (length (r .liveOuts)) of 0) ∷ []
 
-unfoldable pub recordFields : Record → List Field
-recordFields r =
-    recordHead r ++ all locationFields (r .locations) ++ recordMiddle r ++ all liveOutFields (r .liveOuts) ++ recordEnd r
+unfoldable pub recordFields : Bool → Record → List Field
+recordFields old r =
+    recordHead r ++ all (locationFields old) (r .locations) ++ recordMiddle old r ++ all liveOutFields (r .liveOuts) ++ recordEnd r
 
 -- version (one byte), three zero bytes, then NumFunctions, NumConstants, NumRecords (4 bytes each)
 abbrev pub header : Section → List Field
 header t =
-    (1 of version) ∷ (headerZeros of 0)
+    (1 of versionNumber (t .old)) ∷ (headerZeros of 0)
     ∷ (4 of length (t .functions)) ∷ (4 of length (t .constants)) ∷ (4 of length (t .records)) ∷ []
 
 unfoldable pub sectionFields : Section → List Field
 sectionFields t =
-    header t ++ all functionFields (t .functions) ++ all constantFields (t .constants) ++ all recordFields (t .records)
+    header t ++ all (functionFields (t .old)) (t .functions) ++ all constantFields (t .constants)
+    ++ all (recordFields (t .old)) (t .records)
 
 unfoldable pub encodeSection : Section → List ℕ
 encodeSection t = bytesOf (sectionFields t)
@@ -95,27 +101,33 @@ numConstants s = word 4 s numConstantsAt
 abbrev pub numRecords : List ℕ → ℕ
 numRecords s = word 4 s numRecordsAt
 
+-- whether it is of version 1
+abbrev pub isOld : List ℕ → Bool
+isOld s = eqb (getD s 0 0) (versionNumber true)
+
 -- where the constants and the records begin
 abbrev pub constantsAt : List ℕ → ℕ
-constantsAt s = headerSize + functionSize * numFunctions s
+constantsAt s = headerSize + functionSize (isOld s) * numFunctions s
 
 abbrev pub recordsAt : List ℕ → ℕ
 recordsAt s = constantsAt s + constantSize * numConstants s
 
-unfoldable pub readFunction : List ℕ → ℕ → Function
-readFunction s at =
+-- version 1 states no record count
+unfoldable pub readFunction : Bool → List ℕ → ℕ → Function
+readFunction true s at = record { address = word 8 s at; stackSize = word 8 s (at + stackSizeAt); count = 0 }
+readFunction false s at =
     record { address = word 8 s at; stackSize = word 8 s (at + stackSizeAt); count = word 8 s (at + recordCountAt) }
 
 unfoldable pub readConstant : List ℕ → ℕ → ℕ
 readConstant s at = word 8 s at
 
-unfoldable pub readLocation : List ℕ → ℕ → Location
-readLocation s at =
+unfoldable pub readLocation : Bool → List ℕ → ℕ → Location
+readLocation old s at =
     record {
       kind = word 1 s at;
-      size = word 2 s (at + locationSizeAt);
-      register = word 2 s (at + locationRegisterAt);
-      offset = word 4 s (at + locationOffsetAt);
+      size = word (locationSizeWidth old) s (at + locationSizeAt old);
+      register = word 2 s (at + locationRegisterAt old);
+      offset = word 4 s (at + locationOffsetAt old);
     }
 
 unfoldable pub readLiveOut : List ℕ → ℕ → LiveOut
@@ -127,44 +139,45 @@ abbrev pub numLocations : List ℕ → ℕ
 numLocations s = word 2 s numLocationsAt
 
 -- where the locations and their padding end
-abbrev pub locationsEnd : List ℕ → ℕ
-locationsEnd s = recordHeadSize + locationSize * numLocations s + locationsPadding (numLocations s)
+abbrev pub locationsEnd : Bool → List ℕ → ℕ
+locationsEnd old s = recordHeadSize + locationSize old * numLocations s + locationsPadding old (numLocations s)
 
-abbrev pub numLiveOuts : List ℕ → ℕ
-numLiveOuts s = word 2 s (locationsEnd s + liveOutsHeadZeros)
+abbrev pub numLiveOuts : Bool → List ℕ → ℕ
+numLiveOuts old s = word 2 s (locationsEnd old s + liveOutsHeadZeros)
 
-abbrev pub liveOutsAt : List ℕ → ℕ
-liveOutsAt s = locationsEnd s + liveOutsHeadSize
+abbrev pub liveOutsAt : Bool → List ℕ → ℕ
+liveOutsAt old s = locationsEnd old s + liveOutsHeadSize
 
-unfoldable pub recordLength : List ℕ → ℕ
-recordLength s = liveOutsAt s + liveOutSize * numLiveOuts s + liveOutsPadding (numLiveOuts s)
+unfoldable pub recordLength : Bool → List ℕ → ℕ
+recordLength old s = liveOutsAt old s + liveOutSize * numLiveOuts old s + liveOutsPadding (numLiveOuts old s)
 
-unfoldable pub readRecord : List ℕ → Record
-readRecord s =
+unfoldable pub readRecord : Bool → List ℕ → Record
+readRecord old s =
     record {
       id = word 8 s 0;
       offset = word 4 s instructionOffsetAt;
-      locations = many readLocation locationSize (numLocations s) s recordHeadSize;
-      liveOuts = many readLiveOut liveOutSize (numLiveOuts s) s (liveOutsAt s);
+      locations = many (readLocation old) (locationSize old) (numLocations s) s recordHeadSize;
+      liveOuts = many readLiveOut liveOutSize (numLiveOuts old s) s (liveOutsAt old s);
     }
 
 -- n records from `at`
-unfoldable pub readRecords : ℕ → List ℕ → ℕ → List Record
-readRecords zero s at = []
-readRecords (suc n) s at = readRecord (drop at s) ∷ readRecords n s (at + recordLength (drop at s))
+unfoldable pub readRecords : Bool → ℕ → List ℕ → ℕ → List Record
+readRecords old zero s at = []
+readRecords old (suc n) s at = readRecord old (drop at s) ∷ readRecords old n s (at + recordLength old (drop at s))
 
 unfoldable pub readFunctions : List ℕ → List Function
-readFunctions s = many readFunction functionSize (numFunctions s) s headerSize
+readFunctions s = many (readFunction (isOld s)) (functionSize (isOld s)) (numFunctions s) s headerSize
 
 unfoldable pub readSection : List ℕ → Section
 readSection s =
     record {
+      old = isOld s;
       functions = readFunctions s;
       constants = many readConstant constantSize (numConstants s) s (constantsAt s);
-      records = readRecords (numRecords s) s (recordsAt s);
+      records = readRecords (isOld s) (numRecords s) s (recordsAt s);
     }
 
--- Records belong to functions in order, as many as each record count says.
+-- Records belong to functions in order, as many as each record count says. Version 1 does not say which function owns a record.
 
 -- a function's number, and the function
 pub record Owner : Type 0 where
@@ -175,6 +188,15 @@ pub record Owner : Type 0 where
 unfoldable pub owners : ℕ → List Function → List Owner
 owners i [] = []
 owners i (f ∷ fs) = replicate (f .count) (record { number = i; function = f }) ++ owners (suc i) fs
+
+-- the owner of a record of version 1: none is known, and its address counts from 0, so that a record's address is its offset
+abbrev pub nobody : Owner
+nobody = record { number = 0; function = record { address = 0; stackSize = 0; count = 0 } }
+
+-- the owners of n records
+unfoldable pub recordOwners : Bool → ℕ → List Function → List Owner
+recordOwners true n fs = replicate n nobody
+recordOwners false n fs = owners 0 fs
 
 -- the record counts, added exactly
 unfoldable pub counted : List Function → ℕ
@@ -193,16 +215,16 @@ unfoldable pub address : Entry → ℕ
 address e = e .owner .function .address + e .body .offset
 
 -- from the record number k at the place `at`
-unfoldable pub entriesFrom : ℕ → ℕ → List Owner → List Record → List Entry
-entriesFrom k at [] rs = []
-entriesFrom k at (o ∷ os) [] = []
-entriesFrom k at (o ∷ os) (r ∷ rs) =
-    record { number = k; first = at; owner = o; body = r } ∷ entriesFrom (suc k) (at + size (recordFields r)) os rs
+unfoldable pub entriesFrom : Bool → ℕ → ℕ → List Owner → List Record → List Entry
+entriesFrom old k at [] rs = []
+entriesFrom old k at (o ∷ os) [] = []
+entriesFrom old k at (o ∷ os) (r ∷ rs) =
+    record { number = k; first = at; owner = o; body = r } ∷ entriesFrom old (suc k) (at + size (recordFields old r)) os rs
 
 unfoldable pub entriesOf : Section → List Entry
 entriesOf t =
-    entriesFrom 0 (headerSize + functionSize * length (t .functions) + constantSize * length (t .constants))
-    (owners 0 (t .functions))
+    entriesFrom (t .old) 0 (headerSize + functionSize (t .old) * length (t .functions) + constantSize * length (t .constants))
+    (recordOwners (t .old) (length (t .records)) (t .functions))
     (t .records)
 
 -- the records of an accepted section, in order: the meaning of every walk

@@ -1,4 +1,7 @@
-// The numbers of the layout, as specs/Layout.antt names them.
+// The numbers of the layout, as specs/Layout.antt names them. Where the versions differ, `old` is true for version 1.
+ghost use mathlib.Core.Path.{_≡_};
+ghost use Prim.Native.Nat.{_≤_};
+ghost use Rattle.stackmap.specs.Layout.{functionSize, locationSize, locationsPadding};
 
 // The header and the tables.
 pub const HEADER_SIZE: usize = 16;
@@ -9,6 +12,7 @@ pub const NUM_CONSTANTS_AT: usize = 8;
 
 pub const NUM_RECORDS_AT: usize = 12;
 
+// Version 3's; that of version 1 has no record count.
 pub const FUNCTION_SIZE: usize = 24;
 
 pub const STACK_SIZE_AT: usize = 8;
@@ -36,16 +40,6 @@ pub const LIVE_OUTS_HEAD_ZEROS: usize = 2;
 
 pub const LIVE_OUTS_HEAD_SIZE: usize = 4;
 
-pub const LOCATION_SIZE: usize = 12;
-
-pub const LOCATION_SIZE_AT: usize = 2;
-
-pub const LOCATION_REGISTER_AT: usize = 4;
-
-pub const LOCATION_ZEROS_AT: usize = 6;
-
-pub const LOCATION_OFFSET_AT: usize = 8;
-
 pub const LIVE_OUT_SIZE: usize = 4;
 
 pub const LIVE_OUT_ZERO_AT: usize = 2;
@@ -63,3 +57,31 @@ pub const KIND_CONST_INDEX: u8 = 5;
 pub const NEGATIVE_FROM: u32 = 2147483648;
 
 pub const ADDRESS_MOST: u64 = 18446744073709551615;
+
+pub fn function_size(old: bool) -> usize
+    ensures { λ r. ⌜ (r ≡ functionSize old) × (r ≤ 24) ⌝ }
+{
+    if old {
+        return 16;
+    }
+    24
+}
+
+pub fn location_size(old: bool) -> usize
+    ensures { λ r. ⌜ (r ≡ locationSize old) × (r ≤ 12) ⌝ }
+{
+    if old {
+        return 8;
+    }
+    12
+}
+
+// The padding after `count` locations.
+pub fn locations_padding(old: bool, count: usize) -> usize
+    ensures { λ r. ⌜ (r ≡ locationsPadding old count) × (r ≤ 4) ⌝ }
+{
+    if old {
+        return 0;
+    }
+    count % 2 * 4
+}

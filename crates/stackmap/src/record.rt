@@ -4,7 +4,8 @@ ghost use Prim.Native.Nat.{_+_, _*_, _≤_};
 ghost use lib.ListN.{length};
 ghost use Rattle.stackmap.specs.Layout.{locationSize, liveOutSize};
 ghost use Rattle.stackmap.specs.Section.{recordLength};
-ghost use Rattle.stackmap.specs.Record.{zeros, locationCheck, locations, liveOuts, recordInside, recordBytes, recordCheck};
+ghost use Rattle.wire.specs.Word.{word};
+ghost use Rattle.stackmap.specs.Record.{zeros, poolCheck, locationCheck, locations, liveOuts, recordInside, recordBytes, recordCheck};
 use crate::Verdict;
 use crate::layout;
 
@@ -25,10 +26,28 @@ pub fn zero_bytes(s: &[u8], at: usize, count: usize) -> Verdict
     Verdict::Valid(p)
 }
 
+// The pool entry of a location of this kind, whose offset stands at `offset`; it begins at `at` and ends at `end`.
+fn pool(s: &[u8], kind: u8, offset: usize, constants: u32, at: usize, end: usize) -> Verdict
+    requires { ⌜ offset + 4 ≤ length (now s) ⌝ }
+    ensures { λ r. ⌜ r ≡ poolCheck kind (word 4 (now (s .entry)) offset) constants at end ⌝ }
+{
+    if kind != layout::KIND_CONST_INDEX {
+        return Verdict::Valid(end);
+    }
+    let index = wire::u32_at(s, offset);
+    if index >= layout::NEGATIVE_FROM {
+        return Verdict::Refused(7, at);
+    }
+    if index >= constants {
+        return Verdict::Refused(7, at);
+    }
+    Verdict::Valid(end)
+}
+
 // The location at `at`, of a section with `constants` constants.
-fn location(s: &[u8], at: usize, constants: u32) -> Verdict
-    requires { ⌜ at + locationSize ≤ length (now s) ⌝ }
-    ensures { λ r. ⌜ r ≡ locationCheck (now (s .entry)) constants at ⌝ }
+fn location(s: &[u8], old: bool, at: usize, constants: u32) -> Verdict
+    requires { ⌜ at + locationSize old ≤ length (now s) ⌝ }
+    ensures { λ r. ⌜ r ≡ locationCheck old (now (s .entry)) constants at ⌝ }
 {
     let kind = s[at];
     if kind < layout::KIND_LEAST {
@@ -36,6 +55,9 @@ fn location(s: &[u8], at: usize, constants: u32) -> Verdict
     }
     if kind > layout::KIND_MOST {
         return Verdict::Refused(6, at);
+    }
+    if old {
+        return pool(s, kind, at + 4, constants, at, at + 8);
     }
     if s[at + 1] != 0 {
         return Verdict::Refused(3, at + 1);
@@ -46,31 +68,22 @@ fn location(s: &[u8], at: usize, constants: u32) -> Verdict
     if s[at + 7] != 0 {
         return Verdict::Refused(3, at + 7);
     }
-    if kind != layout::KIND_CONST_INDEX {
-        return Verdict::Valid(at + layout::LOCATION_SIZE);
-    }
-    let index = wire::u32_at(s, at + layout::LOCATION_OFFSET_AT);
-    if index >= layout::NEGATIVE_FROM {
-        return Verdict::Refused(7, at);
-    }
-    if index >= constants {
-        return Verdict::Refused(7, at);
-    }
-    Verdict::Valid(at + layout::LOCATION_SIZE)
+    pool(s, kind, at + 8, constants, at, at + 12)
 }
 
 // The `count` locations from `at`.
-fn all_locations(s: &[u8], at: usize, count: usize, constants: u32) -> Verdict
-    requires { ⌜ at + locationSize * count ≤ length (now s) ⌝ }
-    ensures { λ r. ⌜ r ≡ locations count (now (s .entry)) constants at ⌝ }
+fn all_locations(s: &[u8], old: bool, at: usize, count: usize, constants: u32) -> Verdict
+    requires { ⌜ at + locationSize old * count ≤ length (now s) ⌝ }
+    ensures { λ r. ⌜ r ≡ locations old count (now (s .entry)) constants at ⌝ }
 {
+    let step = layout::location_size(old);
     let mut p = at;
     let mut left = count;
     while left > 0 {
-        if let Verdict::Refused(n, q) = location(s, p, constants) {
+        if let Verdict::Refused(n, q) = location(s, old, p, constants) {
             return Verdict::Refused(n, q);
         }
-        p += layout::LOCATION_SIZE;
+        p += step;
         left -= 1;
     }
     Verdict::Valid(p)
@@ -94,14 +107,15 @@ fn all_live_outs(s: &[u8], at: usize, count: usize) -> Verdict
 }
 
 // The length of the record at the start of `s`, where all of it is inside.
-fn record_inside(s: &[u8]) -> Verdict
-    ensures { λ r. ⌜ r ≡ recordInside (now (s .entry)) ⌝ }
+fn record_inside(s: &[u8], old: bool) -> Verdict
+    ensures { λ r. ⌜ r ≡ recordInside old (now (s .entry)) ⌝ }
 {
     if s.len() < layout::RECORD_HEAD_SIZE {
         return Verdict::Refused(4, 0);
     }
     let locations = wire::u16_at(s, layout::NUM_LOCATIONS_AT) as usize;
-    let end = layout::RECORD_HEAD_SIZE + layout::LOCATION_SIZE * locations + locations % 2 * 4;
+    let pad = layout::RECORD_HEAD_SIZE + layout::location_size(old) * locations;
+    let end = pad + layout::locations_padding(old, locations);
     if s.len() < end + layout::LIVE_OUTS_HEAD_SIZE {
         return Verdict::Refused(4, 0);
     }
@@ -117,13 +131,14 @@ fn record_inside(s: &[u8]) -> Verdict
 }
 
 // The bytes of the record at the start of `s`, from left to right.
-fn record_bytes(s: &[u8], constants: u32) -> Verdict
-    requires { ⌜ recordLength (now s) ≤ length (now s) ⌝ }
-    ensures { λ r. ⌜ r ≡ recordBytes (now (s .entry)) constants ⌝ }
+fn record_bytes(s: &[u8], old: bool, constants: u32) -> Verdict
+    requires { ⌜ recordLength old (now s) ≤ length (now s) ⌝ }
+    ensures { λ r. ⌜ r ≡ recordBytes old (now (s .entry)) constants ⌝ }
 {
     let locations = wire::u16_at(s, layout::NUM_LOCATIONS_AT) as usize;
-    let pad = layout::RECORD_HEAD_SIZE + layout::LOCATION_SIZE * locations;
-    let end = pad + locations % 2 * 4;
+    let pad = layout::RECORD_HEAD_SIZE + layout::location_size(old) * locations;
+    let padding = layout::locations_padding(old, locations);
+    let end = pad + padding;
     let outs = wire::u16_at(s, end + layout::LIVE_OUTS_HEAD_ZEROS) as usize;
     let pad2 = end + layout::LIVE_OUTS_HEAD_SIZE + layout::LIVE_OUT_SIZE * outs;
     if let Verdict::Refused(n, p) = zero_bytes(s, layout::FLAGS_AT, layout::FLAGS_SIZE) {
@@ -131,17 +146,14 @@ fn record_bytes(s: &[u8], constants: u32) -> Verdict
     }
     if let Verdict::Refused(n, p) = all_locations(
         s,
+        old,
         layout::RECORD_HEAD_SIZE,
         locations,
         constants,
     ) {
         return Verdict::Refused(n, p);
     }
-    if let Verdict::Refused(n, p) = zero_bytes(
-        s,
-        pad,
-        locations % 2 * 4 + layout::LIVE_OUTS_HEAD_ZEROS,
-    ) {
+    if let Verdict::Refused(n, p) = zero_bytes(s, pad, padding + layout::LIVE_OUTS_HEAD_ZEROS) {
         return Verdict::Refused(n, p);
     }
     if let Verdict::Refused(n, p) = all_live_outs(s, end + layout::LIVE_OUTS_HEAD_SIZE, outs) {
@@ -154,15 +166,15 @@ fn record_bytes(s: &[u8], constants: u32) -> Verdict
 }
 
 // The record at the start of `s`, of a function at `address`.
-pub fn check_record(s: &[u8], constants: u32, address: u64) -> Verdict
-    ensures { λ r. ⌜ r ≡ recordCheck (now (s .entry)) constants address ⌝ }
+pub fn check_record(s: &[u8], old: bool, constants: u32, address: u64) -> Verdict
+    ensures { λ r. ⌜ r ≡ recordCheck old (now (s .entry)) constants address ⌝ }
 {
-    if let Verdict::Refused(n, p) = record_inside(s) {
+    if let Verdict::Refused(n, p) = record_inside(s, old) {
         return Verdict::Refused(n, p);
     }
     let offset = wire::u32_at(s, layout::INSTRUCTION_OFFSET_AT) as u64;
     if offset > layout::ADDRESS_MOST - address {
         return Verdict::Refused(8, 0);
     }
-    record_bytes(s, constants)
+    record_bytes(s, old, constants)
 }

@@ -1,11 +1,12 @@
 // The header, the functions and the constants.
 ghost use mathlib.Core.Path.{_≡_};
+ghost use mathlib.Core.Bool.{false};
 ghost use Prim.Native.Nat.{_+_, _*_, _≤_};
 ghost use lib.ListN.{length};
 ghost use lib.Dec.{eqb};
 ghost use Rattle.stackmap.specs.Layout.{headerSize, functionSize};
 ghost use Rattle.stackmap.specs.Fields.{many};
-ghost use Rattle.stackmap.specs.Section.{readFunction, counted};
+ghost use Rattle.stackmap.specs.Section.{isOld, readFunction, counted};
 ghost use Rattle.stackmap.specs.Verdict.{chain};
 ghost use Rattle.stackmap.specs.Check.{headerCheck, tablesCheck};
 use crate::Verdict;
@@ -29,8 +30,8 @@ fn header(s: &[u8]) -> Verdict
 
 // Whether the record counts of the first `functions` functions add up to `total`, exactly.
 fn counts_add_up(s: &[u8], functions: usize, total: u64) -> bool
-    requires { ⌜ headerSize + functionSize * functions ≤ length (now s) ⌝ }
-    ensures { λ r. ⌜ r ≡ eqb (counted (many readFunction functionSize functions (now (s .entry)) headerSize)) total ⌝ }
+    requires { ⌜ headerSize + functionSize false * functions ≤ length (now s) ⌝ }
+    ensures { λ r. ⌜ r ≡ eqb (counted (many (readFunction false) (functionSize false) functions (now (s .entry)) headerSize)) total ⌝ }
 {
     let mut f: usize = layout::HEADER_SIZE;
     let mut left = functions;
@@ -47,6 +48,14 @@ fn counts_add_up(s: &[u8], functions: usize, total: u64) -> bool
     rest == 0
 }
 
+// Whether the section is of version 1.
+pub fn is_old(s: &[u8]) -> bool
+    requires { ⌜ headerSize ≤ length (now s) ⌝ }
+    ensures { λ r. ⌜ r ≡ isOld (now (s .entry)) ⌝ }
+{
+    s[0] == 1
+}
+
 fn tables(s: &[u8]) -> Verdict
     requires { ⌜ headerSize ≤ length (now s) ⌝ }
     ensures { λ r. ⌜ r ≡ tablesCheck (now (s .entry)) ⌝ }
@@ -54,12 +63,12 @@ fn tables(s: &[u8]) -> Verdict
     let functions = wire::u32_at(s, layout::NUM_FUNCTIONS_AT) as usize;
     let constants = wire::u32_at(s, layout::NUM_CONSTANTS_AT) as usize;
     let records = wire::u32_at(s, layout::NUM_RECORDS_AT) as u64;
-    let after = layout::HEADER_SIZE + layout::FUNCTION_SIZE * functions;
+    let step = layout::function_size(is_old(s));
+    let after = layout::HEADER_SIZE + step * functions;
     if after > s.len() {
         return Verdict::Refused(
             4,
-            layout::HEADER_SIZE
-                + layout::FUNCTION_SIZE * ((s.len() - layout::HEADER_SIZE) / layout::FUNCTION_SIZE),
+            layout::HEADER_SIZE + step * ((s.len() - layout::HEADER_SIZE) / step),
         );
     }
     let end = after + layout::CONSTANT_SIZE * constants;
@@ -68,6 +77,9 @@ fn tables(s: &[u8]) -> Verdict
             4,
             after + layout::CONSTANT_SIZE * ((s.len() - after) / layout::CONSTANT_SIZE),
         );
+    }
+    if is_old(s) {
+        return Verdict::Valid(end);
     }
     if counts_add_up(s, functions, records) {
         Verdict::Valid(end)

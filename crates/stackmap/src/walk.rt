@@ -1,15 +1,17 @@
 // The walk over the records, each read from its own stretch of the section.
 ghost use mathlib.Core.Path.{_≡_};
+ghost use mathlib.Core.Bool.{false};
 ghost use Prim.Native.Nat.{_≤_, _<_};
 ghost use lib.ListN.{length, drop};
 ghost use Rattle.stackmap.specs.Verdict.{shift};
-ghost use Rattle.stackmap.specs.Section.{numFunctions, numConstants, constantsAt, readFunctions, owners};
+ghost use Rattle.stackmap.specs.Section.{numFunctions, numConstants, numRecords, isOld, constantsAt, readFunctions, recordOwners};
 ghost use Rattle.stackmap.specs.Record.{recordCheck};
 ghost use Rattle.stackmap.specs.Check.{recordsCheck};
 ghost use Rattle.stackmap.specs.Walk.{ahead, ownerAt, Turning, Walkable};
 use crate::Verdict;
 use crate::layout;
 use crate::record;
+use crate::tables;
 
 // Which function owns the next record: the one before `next`, while `left` of its records are ahead.
 pub struct Turn {
@@ -20,7 +22,7 @@ pub struct Turn {
 // Passes over functions that have no record left, to the owner of the next record.
 pub fn owner(s: &[u8], turn: Turn) -> Turn
     requires { ⌜ (constantsAt (now s) ≤ length (now s)) × Turning (now s) (turn .next) (turn .left) × (0 < length (ahead (now s) (turn .next) (turn .left))) ⌝ }
-    ensures { λ r. ⌜ (ahead (now (s .entry)) (r .next) (r .left) ≡ ahead (now (s .entry)) (turn .next) (turn .left)) × (0 < r .left) × (0 < r .next) × (r .next ≤ numFunctions (now (s .entry))) ⌝ }
+    ensures { λ r. ⌜ (ahead (now (s .entry)) (r .next) (r .left) ≡ ahead (now (s .entry)) (turn .next) (turn .left)) × (0 < r .left) × (0 < r .next) × (isOld (now (s .entry)) ≡ false → r .next ≤ numFunctions (now (s .entry))) ⌝ }
 {
     let mut next = turn.next;
     let mut left = turn.left;
@@ -34,31 +36,58 @@ pub fn owner(s: &[u8], turn: Turn) -> Turn
     Turn { next, left }
 }
 
-// The record at `at`, of function number `function`.
-pub fn record_at(s: &[u8], constants: u32, function: usize, at: usize) -> Verdict
-    requires { ⌜ (constantsAt (now s) ≤ length (now s)) × (function < numFunctions (now s)) × (at ≤ length (now s)) ⌝ }
-    ensures { λ r. ⌜ r ≡ shift at (recordCheck (drop at (now (s .entry))) constants (ownerAt (now (s .entry)) function .function .address)) ⌝ }
+// The record at `at`, of a function at `address`.
+fn with_address(s: &[u8], old: bool, constants: u32, address: u64, at: usize) -> Verdict
+    requires { ⌜ at ≤ length (now s) ⌝ }
+    ensures { λ r. ⌜ r ≡ shift at (recordCheck old (drop at (now (s .entry))) constants address) ⌝ }
 {
-    let address = wire::u64_at(s, layout::HEADER_SIZE + layout::FUNCTION_SIZE * function);
-    match record::check_record(&s[at..], constants, address) {
+    match record::check_record(&s[at..], old, constants, address) {
         Verdict::Refused(n, p) => Verdict::Refused(n, at + p),
         Verdict::Valid(size) => Verdict::Valid(at + size),
     }
 }
 
+// The record at `at`, of function number `function`, or of nobody.
+pub fn record_at(s: &[u8], old: bool, constants: u32, function: usize, at: usize) -> Verdict
+    requires { ⌜ (old ≡ isOld (now s)) × (constantsAt (now s) ≤ length (now s)) × (isOld (now s) ≡ false → function < numFunctions (now s)) × (at ≤ length (now s)) ⌝ }
+    ensures { λ r. ⌜ r ≡ shift at (recordCheck (isOld (now (s .entry))) (drop at (now (s .entry))) constants (ownerAt (now (s .entry)) function .function .address)) ⌝ }
+{
+    if old {
+        return with_address(s, old, constants, 0, at);
+    }
+    let address = wire::u64_at(s, layout::HEADER_SIZE + layout::FUNCTION_SIZE * function);
+    with_address(s, old, constants, address, at)
+}
+
+// The turn before the first record: the first function is next, or all records are nobody's.
+pub fn start(s: &[u8], old: bool) -> Turn
+    requires { ⌜ (old ≡ isOld (now s)) × Walkable (now s) ⌝ }
+    ensures { λ r. ⌜ (ahead (now (s .entry)) (r .next) (r .left) ≡ recordOwners (isOld (now (s .entry))) (numRecords (now (s .entry))) (readFunctions (now (s .entry)))) × Turning (now (s .entry)) (r .next) (r .left) ⌝ }
+{
+    if old {
+        let records = wire::u32_at(s, layout::NUM_RECORDS_AT) as u64;
+        return Turn {
+            next: 1,
+            left: records,
+        };
+    }
+    Turn { next: 0, left: 0 }
+}
+
 // All records; the first stands at `at`.
 pub fn all_records(s: &[u8], at: usize) -> Verdict
     requires { ⌜ Walkable (now s) × (at ≤ length (now s)) ⌝ }
-    ensures { λ r. ⌜ r ≡ recordsCheck (owners 0 (readFunctions (now (s .entry)))) (now (s .entry)) (numConstants (now (s .entry))) at ⌝ }
+    ensures { λ r. ⌜ r ≡ recordsCheck (isOld (now (s .entry))) (recordOwners (isOld (now (s .entry))) (numRecords (now (s .entry))) (readFunctions (now (s .entry)))) (now (s .entry)) (numConstants (now (s .entry))) at ⌝ }
 {
     let constants = wire::u32_at(s, layout::NUM_CONSTANTS_AT);
     let mut remaining = wire::u32_at(s, layout::NUM_RECORDS_AT);
-    let mut turn = Turn { next: 0, left: 0 };
+    let old = tables::is_old(s);
+    let mut turn = start(s, old);
     let mut p = at;
     while remaining > 0 {
         let t = owner(s, turn);
         let next = t.next;
-        match record_at(s, constants, next - 1, p) {
+        match record_at(s, old, constants, next - 1, p) {
             Verdict::Refused(n, q) => return Verdict::Refused(n, q),
             Verdict::Valid(end) => {
                 p = end;
