@@ -1,7 +1,7 @@
 -- The bytes of a section are read back as the section, and their refusal is the section's.
 use Prim.Native.Nat.{ℕ, suc, _+_, _*_, _%_, _≤_}
 use mathlib.Core.Path.{_≡_, refl, sym, _∙_, ap}
-use mathlib.Core.List.{List, [], _∷_, _++_, append-nil}
+use mathlib.Core.List.{List, [], _∷_, _++_, append-nil, map, map-id, List·Memᴰ, List·Memᴰ·head, List·Memᴰ·tail}
 use mathlib.Core.Bool.{Bool, true, false}
 use native.Mathlib.Omega.{arith}
 use native.Mathlib.Nat.{add-zero, add-assoc}
@@ -12,19 +12,20 @@ use Rattle.wire.specs.Word.{word}
 use Rattle.wire.proofs.Laws.{word-drop}
 use Rattle.stackmap.specs.declared.Verdict.{Verdict}
 use Rattle.stackmap.specs.declared.Verdict.the-variants.{Valid, Refused}
+use Rattle.stackmap.specs.Layout.{versionNumber, functionSize, locationSize, locationsPadding}
 use Rattle.stackmap.specs.Verdict.{must, chain, bind, shift}
 use Rattle.stackmap.specs.Fields.{Field, size, all}
-use Rattle.stackmap.specs.Section.{Function, Record, Section, functionFields, constantFields, locationFields, liveOutFields, recordHead, recordMiddle, recordEnd, recordFields, header, sectionFields, encodeSection, Encodable, readFunction, readConstant, readLocation, readLiveOut, recordLength, readRecord, readRecords, readFunctions, readSection, Owner, owners, counted, Entry, address, entriesFrom, entriesOf}
+use Rattle.stackmap.specs.Section.{Function, Record, Section, functionFields, constantFields, locationFields, liveOutFields, recordHead, recordMiddle, recordEnd, recordFields, header, sectionFields, encodeSection, Encodable, readFunction, readConstant, readLocation, readLiveOut, recordLength, readRecord, readRecords, readFunctions, isOld, readSection, Owner, nobody, owners, recordOwners, counted, Entry, address, entriesFrom, entriesOf}
 use Rattle.stackmap.specs.Record.{recordInside, recordBytes, recordCheck}
-use Rattle.stackmap.specs.Check.{headerCheck, tablesCheck, recordsCheck, walkCheck, sectionCheck}
+use Rattle.stackmap.specs.Check.{versionRight, countsRight, headerCheck, tablesCheck, recordsCheck, walkCheck, sectionCheck}
 use Rattle.stackmap.specs.Fault.{entryFault, entriesFault, sectionFault}
 use Rattle.stackmap.proofs.Verdicts.{must-rest, chain-rest}
-use Rattle.stackmap.proofs.Fields.{Has, HasFrom, split, many-back, fields-back, length-bytesOf, size-append, size-all}
-use Rattle.stackmap.proofs.Items.{function-size, constant-size, location-size, live-out-size, function-back, constant-back, location-back, live-out-back, byte-word, zeros-back, locations-fault, live-outs-valid}
+use Rattle.stackmap.proofs.Fields.{Has, HasFrom, split, many-read, many-back, fields-back, length-bytesOf, size-append, size-all}
+use Rattle.stackmap.proofs.Items.{function-size, constant-size, location-size, live-out-size, written, function-back, constant-back, location-back, live-out-back, byte-word, zeros-back, locations-fault, live-outs-valid}
 
 -- a record
 
-module _ (r : Record) where
+module _ (old : Bool) (r : Record) where
   abbrev n : ℕ
   n = length (r .locations)
 
@@ -32,16 +33,16 @@ module _ (r : Record) where
   m = length (r .liveOuts)
 
   abbrev locationsStop : ℕ
-  locationsStop = 16 + 12 * n + n % 2 * 4
+  locationsStop = 16 + locationSize old * n + locationsPadding old n
 
   abbrev A : List Field
   A = recordHead r
 
   abbrev B : List Field
-  B = all locationFields (r .locations)
+  B = all (locationFields old) (r .locations)
 
   abbrev C : List Field
-  C = recordMiddle r
+  C = recordMiddle old r
 
   abbrev D : List Field
   D = all liveOutFields (r .liveOuts)
@@ -49,10 +50,10 @@ module _ (r : Record) where
   abbrev E : List Field
   E = recordEnd r
 
-  sizes : (size (all locationFields (r .locations)) ≡ 12 * n) × (size (all liveOutFields (r .liveOuts)) ≡ 4 * m)
-  sizes = (size-all locationFields 12 location-size (r .locations), size-all liveOutFields 4 live-out-size (r .liveOuts))
+  sizes : (size (all (locationFields old) (r .locations)) ≡ locationSize old * n) × (size (all liveOutFields (r .liveOuts)) ≡ 4 * m)
+  sizes = (size-all (locationFields old) (locationSize old) (location-size old) (r .locations), size-all liveOutFields 4 live-out-size (r .liveOuts))
 
-  pub record-size : size (recordFields r) ≡ locationsStop + 4 + 4 * m + (m + 1) % 2 * 4
+  pub record-size : size (recordFields old r) ≡ locationsStop + 4 + 4 * m + (m + 1) % 2 * 4
   unfolding recordFields size
   record-size = simp size-append (omega (arith, sizes))
 
@@ -62,20 +63,20 @@ module _ (r : Record) where
     offset : word 4 s 8 ≡ r .offset
     flags : word 2 s 12 ≡ 0
     locations-num : word 2 s 14 ≡ n
-    locations-in : Has s 16 (all locationFields (r .locations))
-    padding : word (n % 2 * 4 + 2) s (16 + 12 * n) ≡ 0
+    locations-in : Has s 16 (all (locationFields old) (r .locations))
+    padding : word (locationsPadding old n + 2) s (16 + locationSize old * n) ≡ 0
     live-outs-num : word 2 s (locationsStop + 2) ≡ m
     live-outs-in : Has s (locationsStop + 4) (all liveOutFields (r .liveOuts))
     last : word ((m + 1) % 2 * 4) s (locationsStop + 4 + 4 * m) ≡ 0
 
-  parts : (s : List ℕ) → Has s 0 (recordFields r) → Parts s
+  parts : (s : List ℕ) → Has s 0 (recordFields old r) → Parts s
   unfolding recordFields size
   parts s h =
       let k₁ = split s 0 (locationsStop + 4 + 4 * m) (A ++ B ++ C ++ D) E (simp size-append (omega (arith, sizes))) h in
       let k₂ = split s 0 (locationsStop + 4) (A ++ B ++ C) D (simp size-append (omega (arith, sizes))) (k₁ .0) in
-      let k₃ = split s 0 (16 + 12 * n) (A ++ B) C (simp size-append (omega (arith, sizes))) (k₂ .0) in
+      let k₃ = split s 0 (16 + locationSize old * n) (A ++ B) C (simp size-append (omega (arith, sizes))) (k₂ .0) in
       let k₄ = split s 0 16 A B refl (k₃ .0) in
-      let e₂ : 16 + 12 * n + (0 + (n % 2 * 4 + 2)) ≡ locationsStop + 2 = omega arith in
+      let e₂ : 16 + locationSize old * n + (0 + (locationsPadding old n + 2)) ≡ locationsStop + 2 = omega arith in
       record {
         id = k₄ .0 .0;
         offset = k₄ .0 .1 .0;
@@ -88,7 +89,7 @@ module _ (r : Record) where
         last = rw add-zero at (k₁ .1 .0);
       }
 
-  record-back : (s : List ℕ) → Has s 0 (recordFields r) → readRecord s ≡ r
+  record-back : (s : List ℕ) → Has s 0 (recordFields old r) → readRecord old s ≡ r
   unfolding readRecord
   record-back s h =
       let p = parts s h in
@@ -97,29 +98,29 @@ module _ (r : Record) where
         p .offset,
         p .locations-num,
         p .live-outs-num,
-        many-back locationFields readLocation 12 location-size s (location-back s) (r .locations) 16 (p .locations-in),
+        many-back (locationFields old) (readLocation old) (locationSize old) (location-size old) s (location-back old s) (r .locations) 16 (p .locations-in),
         many-back liveOutFields readLiveOut 4 live-out-size s (live-out-back s) (r .liveOuts) _ (p .live-outs-in),
       )
 
-  record-long : (s : List ℕ) → Has s 0 (recordFields r) → recordLength s ≡ size (recordFields r)
+  record-long : (s : List ℕ) → Has s 0 (recordFields old r) → recordLength old s ≡ size (recordFields old r)
   unfolding recordLength
   record-long s h = let p = parts s h in rw (p .locations-num, p .live-outs-num, record-size)
 
 -- the check of its bytes, where they are inside
-record-fault : (e : Entry) (s : List ℕ) (c : ℕ) → Has s 0 (recordFields (e .body)) → size (recordFields (e .body)) ≤ length s
-    → recordCheck s c (e .owner .function .address) ≡ entryFault c e
+record-fault : (old : Bool) (e : Entry) (s : List ℕ) (c : ℕ) → Has s 0 (recordFields old (e .body)) → size (recordFields old (e .body)) ≤ length s
+    → recordCheck old s c (e .owner .function .address) ≡ entryFault old c e
 unfolding recordCheck recordInside recordBytes entryFault address must chain
-record-fault e s c h l =
-    let p = parts (e .body) s h in
+record-fault old e s c h l =
+    let p = parts old (e .body) s h in
     let b = e .body in
     rw (
-      record-long b s h,
+      record-long old b s h,
       le-leb _ _ l,
       p .offset,
       zeros-back 2 s 12 (p .flags),
       p .locations-num,
       p .live-outs-num,
-      locations-fault s c (b .locations) 16 (p .locations-in),
+      locations-fault old s c (b .locations) 16 (p .locations-in),
       zeros-back _ s _ (p .padding),
       live-outs-valid s (b .liveOuts) _ (p .live-outs-in),
       zeros-back _ s _ (p .last),
@@ -132,13 +133,13 @@ has-drop : (s : List ℕ) (p a o : ℕ) (fs : List Field) → HasFrom s (p + a) 
 has-drop s p a o [] h = tt
 has-drop s p a o (f ∷ fs) h = (rw (word-drop, ← add-assoc p a o) (h .0), has-drop s p a (o + f .width) fs (h .1))
 
-records-back : (s : List ℕ) (rs : List Record) (at : ℕ) → Has s at (all recordFields rs) → readRecords (length rs) s at ≡ rs
+records-back : (old : Bool) (s : List ℕ) (rs : List Record) (at : ℕ) → Has s at (all (recordFields old) rs) → readRecords old (length rs) s at ≡ rs
 unfolding readRecords all
-records-back s [] at h = refl
-records-back s (r ∷ rs) at h =
-    let k = split s at (at + size (recordFields r)) (recordFields r) (all recordFields rs) refl h in
-    let j : Has (drop at s) 0 (recordFields r) = has-drop s at 0 0 (recordFields r) (rw add-zero (k .0)) in
-    rw (record-back r (drop at s) j, record-long r (drop at s) j, records-back s rs _ (k .1))
+records-back old s [] at h = refl
+records-back old s (r ∷ rs) at h =
+    let k = split s at (at + size (recordFields old r)) (recordFields old r) (all (recordFields old) rs) refl h in
+    let j : Has (drop at s) 0 (recordFields old r) = has-drop s at 0 0 (recordFields old r) (rw add-zero (k .0)) in
+    rw (record-back old r (drop at s) j, record-long old r (drop at s) j, records-back old s rs _ (k .1))
 
 -- go on after a part that ends at n, if it is valid
 on : (at n : ℕ) (x : Verdict) (k : ℕ → Verdict) (y : Verdict) → ((e : ℕ) → x ≡ Valid e → e ≡ n) → k (at + n) ≡ y
@@ -147,36 +148,36 @@ unfolding bind shift chain
 on at n (Valid e) k y h g = rw (h e refl) g
 on at n (Refused q p) k y h g = refl
 
-pub entry-valid : (c : ℕ) (e : Entry) (n : ℕ) → entryFault c e ≡ Valid n → n ≡ size (recordFields (e .body))
+pub entry-valid : (old : Bool) (c : ℕ) (e : Entry) (n : ℕ) → entryFault old c e ≡ Valid n → n ≡ size (recordFields old (e .body))
 unfolding entryFault
-entry-valid c e n h = let k = chain-rest _ _ _ (must-rest _ _ _ _ _ h) in cc
+entry-valid old c e n h = let k = chain-rest _ _ _ (must-rest _ _ _ _ _ h) in cc
 
 -- the walk over the bytes gives what the entries' refusals give
-records-walk : (s : List ℕ) (c stop : ℕ) → stop ≤ length s → (os : List Owner) (i at : ℕ) (rs : List Record) → length os ≡ length rs
-    → Has s at (all recordFields rs) → at + size (all recordFields rs) ≡ stop
-    → recordsCheck os s c at ≡ entriesFault c (entriesFrom i at os rs) stop
+records-walk : (old : Bool) (s : List ℕ) (c stop : ℕ) → stop ≤ length s → (os : List Owner) (i at : ℕ) (rs : List Record) → length os ≡ length rs
+    → Has s at (all (recordFields old) rs) → at + size (all (recordFields old) rs) ≡ stop
+    → recordsCheck old os s c at ≡ entriesFault old c (entriesFrom old i at os rs) stop
 unfolding recordsCheck entriesFrom entriesFault all size
-records-walk s c stop inside [] i at [] l h e = ap Valid (omega arith)
-records-walk s c stop inside [] i at (r ∷ rs) l h e = absurd (omega arith)
-records-walk s c stop inside (o ∷ os) i at [] l h e = absurd (omega arith)
-records-walk s c stop inside (o ∷ os) i at (r ∷ rs) l h e =
+records-walk old s c stop inside [] i at [] l h e = ap Valid (omega arith)
+records-walk old s c stop inside [] i at (r ∷ rs) l h e = absurd (omega arith)
+records-walk old s c stop inside (o ∷ os) i at [] l h e = absurd (omega arith)
+records-walk old s c stop inside (o ∷ os) i at (r ∷ rs) l h e =
     let x : Entry = record { number = i; first = at; owner = o; body = r } in
-    let z = size-append (recordFields r) (all recordFields rs) in
-    let j = split s at (at + size (recordFields r)) (recordFields r) (all recordFields rs) refl h in
-    let d = has-drop s at 0 0 (recordFields r) (rw add-zero (j .0)) in
-    let f = record-fault x (drop at s) c d (rw length-drop (omega arith)) in
-    let t = records-walk s c stop inside os (suc i) (at + size (recordFields r)) rs (omega arith) (j .1) (omega arith) in
-    rw f (on at _ (entryFault c x) _ _ (entry-valid c x) t)
+    let z = size-append (recordFields old r) (all (recordFields old) rs) in
+    let j = split s at (at + size (recordFields old r)) (recordFields old r) (all (recordFields old) rs) refl h in
+    let d = has-drop s at 0 0 (recordFields old r) (rw add-zero (j .0)) in
+    let f = record-fault old x (drop at s) c d (rw length-drop (omega arith)) in
+    let t = records-walk old s c stop inside os (suc i) (at + size (recordFields old r)) rs (omega arith) (j .1) (omega arith) in
+    rw f (on at _ (entryFault old c x) _ _ (entry-valid old c x) t)
 
 pub length-owners : (i : ℕ) (fs : List Function) → length (owners i fs) ≡ counted fs
 unfolding owners counted
 length-owners i [] = refl
 length-owners i (f ∷ fs) = rw (length-append, length-replicate, length-owners (suc i) fs)
 
-pub entries-valid : (c : ℕ) (es : List Entry) (stop n : ℕ) → entriesFault c es stop ≡ Valid n → n ≡ stop
+pub entries-valid : (old : Bool) (c : ℕ) (es : List Entry) (stop n : ℕ) → entriesFault old c es stop ≡ Valid n → n ≡ stop
 unfolding entriesFault
-entries-valid c [] stop n h = cc
-entries-valid c (e ∷ es) stop n h = entries-valid c es stop n (chain-rest _ _ _ h)
+entries-valid old c [] stop n h = cc
+entries-valid old c (e ∷ es) stop n h = entries-valid old c es stop n (chain-rest _ _ _ h)
 
 -- the test of the end, where the end is known
 at-end : (x : Verdict) (n : ℕ) → ((e : ℕ) → x ≡ Valid e → e ≡ n) → bind x (λ p. must (eqb p n) 9 p (Valid p)) ≡ x
@@ -184,12 +185,43 @@ unfolding bind must
 at-end (Valid e) n h = rw (eq-eqb e n (h e refl))
 at-end (Refused q p) n h = refl
 
--- 1 and then 5, and then what is left
-finish : (a b : Bool) (q : ℕ) (x y : Verdict) → (b ≡ true → x ≡ y) → chain (must a 1 0 (Valid 4)) (chain (must b 5 12 (Valid q)) x) ≡ must a 1 0 (must b 5 12 y)
+-- 1, 2 and then 5, and then what is left
+finish : (a d b : Bool) (q : ℕ) (x y : Verdict) → (b ≡ true → x ≡ y)
+    → chain (must a 1 0 (must d 2 0 (Valid 4))) (chain (must b 5 12 (Valid q)) x) ≡ must a 1 0 (must d 2 0 (must b 5 12 y))
 unfolding chain must
-finish true true q x y h = h refl
-finish true false q x y h = refl
-finish false b q x y h = refl
+finish true true true q x y h = h refl
+finish true true false q x y h = refl
+finish true false b q x y h = refl
+finish false d b q x y h = refl
+
+-- What is read of the functions of version 1 has no record counts, and nothing else in version 1 reads them.
+
+counts-same : (old : Bool) (fs : List Function) (n : ℕ) → countsRight old (map (written old) fs) n ≡ countsRight old fs n
+unfolding countsRight
+counts-same true fs n = refl
+counts-same false fs n = rw (map-id fs)
+
+owners-same : (old : Bool) (n : ℕ) (fs : List Function) → recordOwners old n (map (written old) fs) ≡ recordOwners old n fs
+unfolding recordOwners
+owners-same true n fs = refl
+owners-same false n fs = rw (map-id fs)
+
+written-same : (old : Bool) (fs : List Function) → (old ≡ true → (f : Function) → List·Memᴰ f fs → f .count ≡ 0) → map (written old) fs ≡ fs
+written-same false fs h = map-id fs
+written-same true [] h = refl
+written-same true (f ∷ fs) h =
+    let z = h refl f (List·Memᴰ·head refl) in
+    rw (← z, written-same true fs (λ e g m. h e g (List·Memᴰ·tail m)))
+
+-- there are as many owners as records, where the record counts add up
+pub owners-enough : (old : Bool) (n : ℕ) (fs : List Function) → countsRight old fs n ≡ true → length (recordOwners old n fs) ≡ n
+unfolding countsRight recordOwners
+owners-enough true n fs h = length-replicate n nobody
+owners-enough false n fs h = length-owners 0 fs ∙ eqb-true _ _ h
+
+old-read : (old : Bool) → eqb (versionNumber old) 1 ≡ old
+old-read true = refl
+old-read false = refl
 
 module _ (t : Section) where
   abbrev s : List ℕ
@@ -205,22 +237,22 @@ module _ (t : Section) where
   H = header t
 
   abbrev F : List Field
-  F = all functionFields (t .functions)
+  F = all (functionFields (t .old)) (t .functions)
 
   abbrev K : List Field
   K = all constantFields (t .constants)
 
   abbrev R : List Field
-  R = all recordFields (t .records)
+  R = all (recordFields (t .old)) (t .records)
 
-  tables : (size F ≡ 24 * nf) × (size K ≡ 8 * nc)
-  tables = (size-all functionFields 24 function-size (t .functions), size-all constantFields 8 constant-size (t .constants))
+  tables : (size F ≡ functionSize (t .old) * nf) × (size K ≡ 8 * nc)
+  tables = (size-all (functionFields (t .old)) (functionSize (t .old)) (function-size (t .old)) (t .functions), size-all constantFields 8 constant-size (t .constants))
 
   pub encoded-length : length (encodeSection t) ≡ size (sectionFields t)
   unfolding encodeSection
   encoded-length = length-bytesOf (sectionFields t)
 
-  pub section-size : size (sectionFields t) ≡ 16 + 24 * nf + 8 * nc + size R
+  pub section-size : size (sectionFields t) ≡ 16 + functionSize (t .old) * nf + 8 * nc + size R
   unfolding sectionFields size
   section-size = simp size-append (omega (arith, tables))
 
@@ -230,20 +262,20 @@ module _ (t : Section) where
     has = fields-back s 0 0 (sectionFields t) [] fit (rw append-nil)
 
     record Whats : Type 0 where
-      version : word 1 s 0 ≡ 3
+      version : word 1 s 0 ≡ versionNumber (t .old)
       reserved : word 3 s 1 ≡ 0
       functions-num : word 4 s 4 ≡ nf
       constants-num : word 4 s 8 ≡ nc
       records-num : word 4 s 12 ≡ length (t .records)
       functions-in : Has s 16 F
-      constants-in : Has s (16 + 24 * nf) K
-      records-in : Has s (16 + 24 * nf + 8 * nc) R
+      constants-in : Has s (16 + functionSize (t .old) * nf) K
+      records-in : Has s (16 + functionSize (t .old) * nf + 8 * nc) R
 
     whats : Whats
     unfolding sectionFields size
     whats =
-        let k₁ = split s 0 (16 + 24 * nf + 8 * nc) (H ++ F ++ K) R (simp size-append (omega (arith, tables))) has in
-        let k₂ = split s 0 (16 + 24 * nf) (H ++ F) K (simp size-append (omega (arith, tables))) (k₁ .0) in
+        let k₁ = split s 0 (16 + functionSize (t .old) * nf + 8 * nc) (H ++ F ++ K) R (simp size-append (omega (arith, tables))) has in
+        let k₂ = split s 0 (16 + functionSize (t .old) * nf) (H ++ F) K (simp size-append (omega (arith, tables))) (k₁ .0) in
         let k₃ = split s 0 16 H F refl (k₂ .0) in
         record {
           version = k₃ .0 .0;
@@ -256,55 +288,63 @@ module _ (t : Section) where
           records-in = k₁ .1;
         }
 
-    functions-read : readFunctions (encodeSection t) ≡ t .functions
+    old-is : isOld (encodeSection t) ≡ t .old
+    old-is = ap (λ (b : ℕ). eqb b 1) (sym (byte-word s 0) ∙ whats .version) ∙ old-read (t .old)
+
+    functions-read : readFunctions (encodeSection t) ≡ map (written (t .old)) (t .functions)
     unfolding readFunctions
     functions-read =
         let w = whats in
-        rw (w .functions-num, many-back functionFields readFunction 24 function-size s (function-back s) (t .functions) 16 (w .functions-in))
+        rw (old-is, w .functions-num)
+        (many-read (functionFields (t .old)) (readFunction (t .old)) (functionSize (t .old)) (function-size (t .old)) s (written (t .old)) (function-back (t .old) s) (t .functions) 16 (w .functions-in))
 
     -- the bytes of a section are read back as the section
-    pub read-back : readSection (encodeSection t) ≡ t
+    pub read-back : (t .old ≡ true → (f : Function) → List·Memᴰ f (t .functions) → f .count ≡ 0) → readSection (encodeSection t) ≡ t
     unfolding readSection
-    read-back =
+    read-back none =
         let w = whats in
         rw (
           functions-read,
+          written-same (t .old) (t .functions) none,
+          old-is,
           w .functions-num,
           w .constants-num,
           w .records-num,
           many-back constantFields readConstant 8 constant-size s (constant-back s) (t .constants) _ (w .constants-in),
-          records-back s (t .records) _ (w .records-in),
+          records-back (t .old) s (t .records) _ (w .records-in),
         )
 
-    walk : eqb (counted (t .functions)) (length (t .records)) ≡ true
-        → recordsCheck (owners 0 (t .functions)) s nc (16 + 24 * nf + 8 * nc) ≡ entriesFault nc (entriesOf t) (size (sectionFields t))
+    walk : countsRight (t .old) (t .functions) (length (t .records)) ≡ true
+        → recordsCheck (t .old) (recordOwners (t .old) (length (t .records)) (t .functions)) s nc (16 + functionSize (t .old) * nf + 8 * nc) ≡ entriesFault (t .old) nc (entriesOf t) (size (sectionFields t))
     unfolding entriesOf
     walk e =
         let w = whats in
-        let n : length (owners 0 (t .functions)) ≡ length (t .records) = length-owners 0 (t .functions) ∙ eqb-true _ _ e in
-        records-walk s nc (size (sectionFields t)) (omega (arith, encoded-length)) (owners 0 (t .functions)) 0
-        (16 + 24 * nf + 8 * nc) (t .records) n (w .records-in) (sym section-size)
+        records-walk (t .old) s nc (size (sectionFields t)) (omega (arith, encoded-length)) (recordOwners (t .old) (length (t .records)) (t .functions)) 0
+        (16 + functionSize (t .old) * nf + 8 * nc) (t .records) (owners-enough (t .old) (length (t .records)) (t .functions) e) (w .records-in) (sym section-size)
 
     -- and refused, or accepted, as the section is
     pub check-back : sectionCheck (encodeSection t) ≡ sectionFault t
     unfolding sectionCheck headerCheck tablesCheck walkCheck sectionFault chain must
     check-back =
         let w = whats in
-        let v : getD s 0 0 ≡ 3 = sym (byte-word s 0) ∙ w .version in
+        let v : getD s 0 0 ≡ versionNumber (t .old) = sym (byte-word s 0) ∙ w .version in
         let z = section-size in
         let l : 16 ≤ size (sectionFields t) = omega arith in
-        let l₁ : 16 + 24 * nf ≤ size (sectionFields t) = omega arith in
-        let l₂ : 16 + 24 * nf + 8 * nc ≤ size (sectionFields t) = omega arith in
+        let l₁ : 16 + functionSize (t .old) * nf ≤ size (sectionFields t) = omega arith in
+        let l₂ : 16 + functionSize (t .old) * nf + 8 * nc ≤ size (sectionFields t) = omega arith in
         rw (
           encoded-length,
           le-leb 16 _ l,
+          old-is,
           v,
           zeros-back 3 s 1 (w .reserved),
           w .functions-num,
           w .constants-num,
           w .records-num,
           functions-read,
+          counts-same (t .old),
+          owners-same (t .old),
           le-leb _ _ l₁,
           le-leb _ _ l₂,
         )
-        (finish (leb (size (sectionFields t)) 16777216) (eqb (counted (t .functions)) (length (t .records))) _ _ _ (λ e. rw (walk e) (at-end _ _ (entries-valid _ _ _))))
+        (finish (leb (size (sectionFields t)) 16777216) (versionRight (versionNumber (t .old))) (countsRight (t .old) (t .functions) (length (t .records))) _ _ _ (λ e. rw (walk e) (at-end _ _ (entries-valid _ _ _ _))))

@@ -1,7 +1,7 @@
 -- Numbers that stand in a list of bytes, both ways.
 use Prim.Native.Nat.{ℕ, zero, suc, _+_, _*_, _≤_}
 use mathlib.Core.Path.{_≡_, refl, ap, _∙_}
-use mathlib.Core.List.{List, [], _∷_, _++_, append-assoc, List·Memᴰ, List·Memᴰ·head, List·Memᴰ·tail}
+use mathlib.Core.List.{List, [], _∷_, _++_, append-assoc, map, map-id, List·Memᴰ, List·Memᴰ·head, List·Memᴰ·tail}
 use native.Mathlib.Omega.{arith}
 use native.Mathlib.Nat.{add-zero, zero-add, add-assoc, mul-suc}
 use lib.ListN.{length, drop, length-append}
@@ -130,13 +130,18 @@ pub size-many : {A : Type 0} (fields : A → List Field) (read : List ℕ → �
 size-many fields read step k even n s at = size-all fields k even (many read step n s at) ∙ rw length-many
 
 module _ {A : Type 0} (fields : A → List Field) (read : List ℕ → ℕ → A) (step : ℕ) (even : (x : A) → size (fields x) ≡ step) where
+  -- what is read of an item is g of it
+  pub many-read : (s : List ℕ) (g : A → A) → ((x : A) (at : ℕ) → Has s at (fields x) → read s at ≡ g x)
+      → (xs : List A) (at : ℕ) → Has s at (all fields xs) → many read step (length xs) s at ≡ map g xs
+  unfolding many all
+  many-read s g back [] at h = refl
+  many-read s g back (x ∷ xs) at h =
+      let k = split s at (at + step) (fields x) (all fields xs) (rw (even x)) h in
+      rw (back x at (k .0), many-read s g back xs (at + step) (k .1))
+
   pub many-back : (s : List ℕ) → ((x : A) (at : ℕ) → Has s at (fields x) → read s at ≡ x)
       → (xs : List A) (at : ℕ) → Has s at (all fields xs) → many read step (length xs) s at ≡ xs
-  unfolding many all
-  many-back s back [] at h = refl
-  many-back s back (x ∷ xs) at h =
-      let k = split s at (at + step) (fields x) (all fields xs) (rw (even x)) h in
-      rw (back x at (k .0), many-back s back xs (at + step) (k .1))
+  many-back s back xs at h = many-read s (λ x. x) back xs at h ∙ map-id xs
 
   pub many-has : (s : List ℕ) → ((at : ℕ) → Has s at (fields (read s at))) → (n at : ℕ) → Has s at (all fields (many read step n s at))
   unfolding many all

@@ -1,6 +1,7 @@
 -- The bytes of an accepted section are those of the section that is read from them.
 use Prim.Native.Nat.{ℕ, zero, suc, _+_, _*_, _%_, _≤_}
 use mathlib.Core.Path.{_≡_, refl, sym, _∙_, ap}
+use mathlib.Core.Bool.{Bool, true, false}
 use mathlib.Core.List.{List, [], _∷_, _++_, append-nil}
 use native.Mathlib.Omega.{arith}
 use native.Mathlib.Nat.{add-zero, zero-add, add-assoc}
@@ -10,15 +11,16 @@ use lib.Seq.{drop-length}
 use Rattle.wire.specs.Word.{Bytes, word}
 use Rattle.wire.proofs.Laws.{word-drop}
 use Rattle.stackmap.specs.declared.Verdict.the-variants.{Valid}
+use Rattle.stackmap.specs.Layout.{versionNumber, functionSize, locationSize, locationsPadding}
 use Rattle.stackmap.specs.Fields.{Field, _of_, size, all, many}
-use Rattle.stackmap.specs.Section.{functionFields, constantFields, locationFields, liveOutFields, recordFields, sectionFields, encodeSection, Encodable, numFunctions, numConstants, numRecords, constantsAt, recordsAt, readFunction, readConstant, readLocation, readLiveOut, numLocations, locationsEnd, numLiveOuts, recordLength, readRecord, readRecords, readFunctions, readSection, Owner, owners}
-use Rattle.stackmap.specs.Record.{zeros, locationCheck, locations, liveOuts, recordBytes, recordCheck}
-use Rattle.stackmap.specs.Check.{headerCheck, tablesCheck, recordsCheck, walkCheck, sectionCheck}
+use Rattle.stackmap.specs.Section.{functionFields, constantFields, locationFields, liveOutFields, recordFields, sectionFields, encodeSection, Encodable, numFunctions, numConstants, numRecords, constantsAt, recordsAt, readFunction, readConstant, readLocation, readLiveOut, numLocations, locationsEnd, numLiveOuts, recordLength, readRecord, readRecords, readFunctions, isOld, readSection, Owner, recordOwners}
+use Rattle.stackmap.specs.Record.{zeros, locationZeros, locationCheck, locations, liveOuts, recordBytes, recordCheck}
+use Rattle.stackmap.specs.Check.{versionRight, headerCheck, tablesCheck, recordsCheck, walkCheck, sectionCheck}
 use Rattle.stackmap.specs.Fault.{sectionFault}
 use Rattle.stackmap.proofs.Verdicts.{must-held, must-rest, chain-first, chain-rest, bind-first, shift-valid}
 use Rattle.stackmap.proofs.Fields.{Has, HasFrom, join, many-has, length-many, has-bytes, has-fit, size-append, size-many}
-use Rattle.stackmap.proofs.Items.{function-size, constant-size, location-size, live-out-size}
-use Rattle.stackmap.proofs.Back.{check-back, length-owners}
+use Rattle.stackmap.proofs.Items.{byte-word, function-size, constant-size, location-size, live-out-size}
+use Rattle.stackmap.proofs.Back.{check-back, owners-enough}
 
 zeros-word : (n : ℕ) (s : List ℕ) (a e : ℕ) → zeros n s a ≡ Valid e → word n s a ≡ 0
 unfolding zeros word
@@ -36,23 +38,27 @@ zero-words : (s : List ℕ) (a b : ℕ) → b ≡ a + 1 → getD s a 0 ≡ 0 →
 unfolding word
 zero-words s a b e h k = let z : getD s (a + 1) 0 ≡ 0 = rw (← e) k in omega arith
 
-version : (s : List ℕ) → getD s 0 0 ≡ 3 → word 1 s 0 ≡ 3
-unfolding word
-version s h = omega arith
+-- the version, as the header states it
+version : (s : List ℕ) → versionRight (getD s 0 0) ≡ true → word 1 s 0 ≡ versionNumber (isOld s)
+version s h =
+    let e : getD s 0 0 ≡ 3 = eqb-true _ _ h in
+    byte-word s 0 ∙ rw e
 
 -- Items.
 
-function-has : (s : List ℕ) (a : ℕ) → Has s a (functionFields (readFunction s a))
+function-has : (old : Bool) (s : List ℕ) (a : ℕ) → Has s a (functionFields old (readFunction old s a))
 unfolding functionFields readFunction
-function-has s a = (rw add-zero, (refl, (refl, tt)))
+function-has true s a = (rw add-zero, (refl, tt))
+function-has false s a = (rw add-zero, (refl, (refl, tt)))
 
 constant-has : (s : List ℕ) (a : ℕ) → Has s a (constantFields (readConstant s a))
 unfolding constantFields readConstant
 constant-has s a = (rw add-zero, tt)
 
-location-has : (s : List ℕ) (c a e : ℕ) → locationCheck s c a ≡ Valid e → Has s a (locationFields (readLocation s a))
-unfolding locationCheck locationFields readLocation
-location-has s c a e k =
+location-has : (old : Bool) (s : List ℕ) (c a e : ℕ) → locationCheck old s c a ≡ Valid e → Has s a (locationFields old (readLocation old s a))
+unfolding locationCheck locationZeros locationFields readLocation
+location-has true s c a e k = (rw add-zero, (refl, (refl, (refl, tt))))
+location-has false s c a e k =
     let k₂ = must-rest _ _ _ _ _ (must-rest _ _ _ _ _ k) in
     let k₃ = must-rest _ _ _ _ _ k₂ in
     let k₄ = must-rest _ _ _ _ _ k₃ in
@@ -61,12 +67,12 @@ location-has s c a e k =
     let z₇ : getD s (a + 7) 0 ≡ 0 = eqb-true _ _ (must-held _ _ _ _ _ k₄) in
     (rw add-zero, (zero-word s (a + 1) z₁, (refl, (refl, (zero-words s (a + 6) (a + 7) (omega arith) z₆ z₇, (refl, tt))))))
 
-locations-has : (n : ℕ) (s : List ℕ) (c a e : ℕ) → locations n s c a ≡ Valid e → Has s a (all locationFields (many readLocation 12 n s a))
+locations-has : (old : Bool) (n : ℕ) (s : List ℕ) (c a e : ℕ) → locations old n s c a ≡ Valid e → Has s a (all (locationFields old) (many (readLocation old) (locationSize old) n s a))
 unfolding locations many all
-locations-has zero s c a e h = tt
-locations-has (suc n) s c a e h =
-    join s a (a + 12) (locationFields (readLocation s a)) (all locationFields (many readLocation 12 n s (a + 12))) (rw location-size)
-    (location-has s c a _ (chain-first _ _ _ h .1)) (locations-has n s c (a + 12) e (chain-rest _ _ _ h))
+locations-has old zero s c a e h = tt
+locations-has old (suc n) s c a e h =
+    join s a (a + locationSize old) (locationFields old (readLocation old s a)) (all (locationFields old) (many (readLocation old) (locationSize old) n s (a + locationSize old))) (rw location-size)
+    (location-has old s c a _ (chain-first _ _ _ h .1)) (locations-has old n s c (a + locationSize old) e (chain-rest _ _ _ h))
 
 live-outs-has : (n : ℕ) (s : List ℕ) (a e : ℕ) → liveOuts n s a ≡ Valid e → Has s a (all liveOutFields (many readLiveOut 4 n s a))
 unfolding liveOuts many all
@@ -78,40 +84,40 @@ live-outs-has (suc n) s a e h =
 
 -- A record.
 
-module _ (s : List ℕ) where
+module _ (old : Bool) (s : List ℕ) where
   abbrev n : ℕ
   n = numLocations s
 
   abbrev m : ℕ
-  m = numLiveOuts s
+  m = numLiveOuts old s
 
   abbrev A : List Field
   A = (8 of word 8 s 0) ∷ (4 of word 4 s 8) ∷ (2 of 0) ∷ (2 of n) ∷ []
 
   abbrev B : List Field
-  B = all locationFields (many readLocation 12 n s 16)
+  B = all (locationFields old) (many (readLocation old) (locationSize old) n s 16)
 
   abbrev C : List Field
-  C = ((n % 2 * 4 + 2) of 0) ∷ (2 of m) ∷ []
+  C = ((locationsPadding old n + 2) of 0) ∷ (2 of m) ∷ []
 
   abbrev D : List Field
-  D = all liveOutFields (many readLiveOut 4 m s (locationsEnd s + 4))
+  D = all liveOutFields (many readLiveOut 4 m s (locationsEnd old s + 4))
 
   abbrev E : List Field
   E = (((m + 1) % 2 * 4) of 0) ∷ []
 
-  fields-read : recordFields (readRecord s) ≡ A ++ B ++ C ++ D ++ E
+  fields-read : recordFields old (readRecord old s) ≡ A ++ B ++ C ++ D ++ E
   unfolding recordFields readRecord
-  fields-read = rw (length-many readLocation, length-many readLiveOut)
+  fields-read = rw (length-many (readLocation old), length-many readLiveOut)
 
-  sizes : (size B ≡ 12 * n) × (size D ≡ 4 * m)
-  sizes = (size-many locationFields readLocation 12 12 location-size n s 16, size-many liveOutFields readLiveOut 4 4 live-out-size m s (locationsEnd s + 4))
+  sizes : (size B ≡ locationSize old * n) × (size D ≡ 4 * m)
+  sizes = (size-many (locationFields old) (readLocation old) (locationSize old) (locationSize old) (location-size old) n s 16, size-many liveOutFields readLiveOut 4 4 live-out-size m s (locationsEnd old s + 4))
 
-  pub read-size : size (recordFields (readRecord s)) ≡ recordLength s
+  pub read-size : size (recordFields old (readRecord old s)) ≡ recordLength old s
   unfolding recordLength size
   read-size = rw fields-read (simp size-append (omega (arith, sizes)))
 
-  record-has : (c a e : ℕ) → recordCheck s c a ≡ Valid e → Has s 0 (recordFields (readRecord s))
+  record-has : (c a e : ℕ) → recordCheck old s c a ≡ Valid e → Has s 0 (recordFields old (readRecord old s))
   unfolding recordCheck recordBytes size
   record-has c a e k =
       let k₁ = must-rest _ _ _ _ _ (chain-rest _ _ _ k) in
@@ -120,19 +126,19 @@ module _ (s : List ℕ) where
       let k₄ = chain-rest _ _ _ k₃ in
       let k₅ = chain-rest _ _ _ k₄ in
       let a₁ : Has s 0 A = (refl, (refl, (zeros-word _ _ _ _ (chain-first _ _ _ k₁ .1), (refl, tt)))) in
-      let p : 16 + 12 * n + (0 + (n % 2 * 4 + 2)) ≡ locationsEnd s + 2 = omega arith in
-      let c₁ : Has s (16 + 12 * n) C = (rw add-zero (zeros-word _ _ _ _ (chain-first _ _ _ k₃ .1)), (rw p, tt)) in
-      let e₁ : Has s (locationsEnd s + 4 + 4 * m) E = (rw add-zero (zeros-word _ _ _ _ (chain-first _ _ _ k₅ .1)), tt) in
+      let p : 16 + locationSize old * n + (0 + (locationsPadding old n + 2)) ≡ locationsEnd old s + 2 = omega arith in
+      let c₁ : Has s (16 + locationSize old * n) C = (rw add-zero (zeros-word _ _ _ _ (chain-first _ _ _ k₃ .1)), (rw p, tt)) in
+      let e₁ : Has s (locationsEnd old s + 4 + 4 * m) E = (rw add-zero (zeros-word _ _ _ _ (chain-first _ _ _ k₅ .1)), tt) in
       rw fields-read
-      (join s 0 (locationsEnd s + 4 + 4 * m) (A ++ B ++ C ++ D) E (simp size-append (omega (arith, sizes)))
-      (join s 0 (locationsEnd s + 4) (A ++ B ++ C) D (simp size-append (omega (arith, sizes)))
-      (join s 0 (16 + 12 * n) (A ++ B) C (simp size-append (omega (arith, sizes)))
-      (join s 0 16 A B refl a₁ (locations-has n s c 16 _ (chain-first _ _ _ k₂ .1)))
+      (join s 0 (locationsEnd old s + 4 + 4 * m) (A ++ B ++ C ++ D) E (simp size-append (omega (arith, sizes)))
+      (join s 0 (locationsEnd old s + 4) (A ++ B ++ C) D (simp size-append (omega (arith, sizes)))
+      (join s 0 (16 + locationSize old * n) (A ++ B) C (simp size-append (omega (arith, sizes)))
+      (join s 0 16 A B refl a₁ (locations-has old n s c 16 _ (chain-first _ _ _ k₂ .1)))
       c₁)
-      (live-outs-has m s (locationsEnd s + 4) _ (chain-first _ _ _ k₄ .1)))
+      (live-outs-has m s (locationsEnd old s + 4) _ (chain-first _ _ _ k₄ .1)))
       e₁)
 
-  pub ends : (c a e : ℕ) → recordCheck s c a ≡ Valid e → e ≡ recordLength s
+  pub ends : (c a e : ℕ) → recordCheck old s c a ≡ Valid e → e ≡ recordLength old s
   unfolding recordCheck recordBytes
   ends c a e h =
       let h₁ = must-rest _ _ _ _ _ (chain-rest _ _ _ h) in
@@ -145,34 +151,34 @@ has-whole s p a o (f ∷ fs) h = (rw (add-assoc p a o, ← word-drop) (h .0), ha
 
 -- The walk.
 
-module _ (s : List ℕ) (c stop : ℕ) where
+module _ (old : Bool) (s : List ℕ) (c stop : ℕ) where
   -- n records stand at `at`, and end at the end of the walk
   record Stand (n at : ℕ) : Type 0 where
-    stand : Has s at (all recordFields (readRecords n s at))
-    end : at + size (all recordFields (readRecords n s at)) ≡ stop
+    stand : Has s at (all (recordFields old) (readRecords old n s at))
+    end : at + size (all (recordFields old) (readRecords old n s at)) ≡ stop
 
-  one-more : (n at a : ℕ) (e : ℕ) → recordCheck (drop at s) c a ≡ Valid e → Stand n (at + recordLength (drop at s)) → Stand (suc n) at
+  one-more : (n at a : ℕ) (e : ℕ) → recordCheck old (drop at s) c a ≡ Valid e → Stand n (at + recordLength old (drop at s)) → Stand (suc n) at
   unfolding readRecords all
   one-more n at a e h k =
-      let z = size-append (recordFields (readRecord (drop at s))) (all recordFields (readRecords n s (at + recordLength (drop at s)))) in
-      let l = read-size (drop at s) in
-      let j : Has s at (recordFields (readRecord (drop at s))) = rw add-zero at (has-whole s at 0 0 (recordFields (readRecord (drop at s))) (record-has (drop at s) c a e h)) in
-      record { stand = join s at (at + recordLength (drop at s)) (recordFields (readRecord (drop at s))) (all recordFields (readRecords n s (at + recordLength (drop at s)))) (rw l) j (k .stand); end = rw (z, l) (rw add-assoc at (k .end)) }
+      let z = size-append (recordFields old (readRecord old (drop at s))) (all (recordFields old) (readRecords old n s (at + recordLength old (drop at s)))) in
+      let l = read-size old (drop at s) in
+      let j : Has s at (recordFields old (readRecord old (drop at s))) = rw add-zero at (has-whole s at 0 0 (recordFields old (readRecord old (drop at s))) (record-has old (drop at s) c a e h)) in
+      record { stand = join s at (at + recordLength old (drop at s)) (recordFields old (readRecord old (drop at s))) (all (recordFields old) (readRecords old n s (at + recordLength old (drop at s)))) (rw l) j (k .stand); end = rw (z, l) (rw add-assoc at (k .end)) }
 
   -- a valid walk over n owners passes n records
-  records-stand : (os : List Owner) (at : ℕ) → recordsCheck os s c at ≡ Valid stop → Stand (length os) at
+  records-stand : (os : List Owner) (at : ℕ) → recordsCheck old os s c at ≡ Valid stop → Stand (length os) at
   unfolding recordsCheck readRecords all size
   records-stand [] at h = record { stand = tt; end = let e : at ≡ stop = cc in omega arith }
   records-stand (o ∷ os) at h =
       let b = bind-first _ _ _ h in
       let f = shift-valid _ _ _ (b .1) in
-      let d : b .0 ≡ at + recordLength (drop at s) = f .2 ∙ ap (λ (x : ℕ). at + x) (ends (drop at s) c (o .function .address) _ (f .1)) in
-      one-more (length os) at (o .function .address) _ (f .1) (records-stand os (at + recordLength (drop at s)) (rw d at (b .2)))
+      let d : b .0 ≡ at + recordLength old (drop at s) = f .2 ∙ ap (λ (x : ℕ). at + x) (ends old (drop at s) c (o .function .address) _ (f .1)) in
+      one-more (length os) at (o .function .address) _ (f .1) (records-stand os (at + recordLength old (drop at s)) (rw d at (b .2)))
 
-length-records : (s : List ℕ) (n at : ℕ) → length (readRecords n s at) ≡ n
+pub length-records : (old : Bool) (s : List ℕ) (n at : ℕ) → length (readRecords old n s at) ≡ n
 unfolding readRecords
-length-records s zero at = refl
-length-records s (suc n) at = ap suc (length-records s n _)
+length-records old s zero at = refl
+length-records old s (suc n) at = ap suc (length-records old s n _)
 
 module _ (s : List ℕ) (e : ℕ) (k : sectionCheck s ≡ Valid e) where
   abbrev nf : ℕ
@@ -182,29 +188,29 @@ module _ (s : List ℕ) (e : ℕ) (k : sectionCheck s ≡ Valid e) where
   nc = numConstants s
 
   abbrev F : List Field
-  F = all functionFields (many readFunction 24 nf s 16)
+  F = all (functionFields (isOld s)) (many (readFunction (isOld s)) (functionSize (isOld s)) nf s 16)
 
   abbrev K : List Field
   K = all constantFields (many readConstant 8 nc s (constantsAt s))
 
   abbrev R : List Field
-  R = all recordFields (readRecords (numRecords s) s (recordsAt s))
+  R = all (recordFields (isOld s)) (readRecords (isOld s) (numRecords s) s (recordsAt s))
 
   abbrev H : List Field
-  H = (1 of 3) ∷ (3 of 0) ∷ (4 of nf) ∷ (4 of nc) ∷ (4 of numRecords s) ∷ []
+  H = (1 of versionNumber (isOld s)) ∷ (3 of 0) ∷ (4 of nf) ∷ (4 of nc) ∷ (4 of numRecords s) ∷ []
 
   section-fields : sectionFields (readSection s) ≡ H ++ F ++ K ++ R
   unfolding sectionFields readSection readFunctions
-  section-fields = rw (length-many readFunction, length-many readConstant, length-records)
+  section-fields = rw (length-many (readFunction (isOld s)), length-many readConstant, length-records)
 
-  tables : (size F ≡ 24 * nf) × (size K ≡ 8 * nc)
-  tables = (size-many functionFields readFunction 24 24 function-size nf s 16, size-many constantFields readConstant 8 8 constant-size nc s (constantsAt s))
+  tables : (size F ≡ functionSize (isOld s) * nf) × (size K ≡ 8 * nc)
+  tables = (size-many (functionFields (isOld s)) (readFunction (isOld s)) (functionSize (isOld s)) (functionSize (isOld s)) (function-size (isOld s)) nf s 16, size-many constantFields readConstant 8 8 constant-size nc s (constantsAt s))
 
   -- what the check tells
   record Held : Type 0 where
-    version-is : word 1 s 0 ≡ 3
+    version-is : word 1 s 0 ≡ versionNumber (isOld s)
     reserved : word 3 s 1 ≡ 0
-    walked : Stand s nc (length s) (numRecords s) (recordsAt s)
+    walked : Stand (isOld s) s nc (length s) (numRecords s) (recordsAt s)
     length-is : e ≡ length s
     small : length s ≤ 16777216
 
@@ -219,11 +225,11 @@ module _ (s : List ℕ) (e : ℕ) (k : sectionCheck s ≡ Valid e) where
       let b = bind-first _ _ _ (chain-rest _ _ _ k₁) in
       let f : b .0 ≡ length s = eqb-true _ _ (must-held _ _ _ _ _ (b .2)) in
       let g = must-rest _ _ _ _ _ (b .2) in
-      let c : length (owners 0 (readFunctions s)) ≡ numRecords s = length-owners 0 (readFunctions s) ∙ eqb-true _ _ (must-held _ _ _ _ _ t₂) in
+      let c : length (recordOwners (isOld s) (numRecords s) (readFunctions s)) ≡ numRecords s = owners-enough (isOld s) (numRecords s) (readFunctions s) (must-held _ _ _ _ _ t₂) in
       record {
-        version-is = version s (eqb-true _ _ (must-held _ _ _ _ _ h₂));
+        version-is = version s (must-held _ _ _ _ _ h₂);
         reserved = zeros-word _ _ _ _ (must-rest _ _ _ _ _ h₂);
-        walked = rw c at (records-stand s nc (length s) (owners 0 (readFunctions s)) (recordsAt s) (rw f at (b .1)));
+        walked = rw c at (records-stand (isOld s) s nc (length s) (recordOwners (isOld s) (numRecords s) (readFunctions s)) (recordsAt s) (rw f at (b .1)));
         length-is = cc;
         small = leb-true _ _ (must-held _ _ _ _ _ h₀);
       }
@@ -236,7 +242,7 @@ module _ (s : List ℕ) (e : ℕ) (k : sectionCheck s ≡ Valid e) where
       rw section-fields
       (join s 0 (recordsAt s) (H ++ F ++ K) R (simp size-append (omega (arith, tables)))
       (join s 0 (constantsAt s) (H ++ F) K (simp size-append (omega (arith, tables)))
-      (join s 0 16 H F refl a (many-has functionFields readFunction 24 function-size s (function-has s) nf 16))
+      (join s 0 16 H F refl a (many-has (functionFields (isOld s)) (readFunction (isOld s)) (functionSize (isOld s)) (function-size (isOld s)) s (function-has (isOld s) s) nf 16))
       (many-has constantFields readConstant 8 constant-size s (constant-has s) nc (constantsAt s)))
       (h .walked .stand))
 

@@ -6,9 +6,10 @@ use native.Mathlib.Omega.{arith}
 use lib.ListN.{drop}
 use Rattle.stackmap.specs.declared.Verdict.{Verdict}
 use Rattle.stackmap.specs.declared.Verdict.the-variants.{Valid, Refused}
+use Rattle.stackmap.specs.Layout.{locationSize}
 use Rattle.stackmap.specs.Verdict.{numberOf, must, chain, pick, shift, bind}
 use Rattle.stackmap.specs.Section.{Owner}
-use Rattle.stackmap.specs.Record.{zeros, locationCheck, locations, liveOuts, recordInside, recordBytes, recordCheck}
+use Rattle.stackmap.specs.Record.{zeros, locationZeros, poolCheck, locationCheck, locations, liveOuts, recordInside, recordBytes, recordCheck}
 use Rattle.stackmap.specs.Check.{headerCheck, tablesCheck, recordsCheck, walkCheck, sectionCheck}
 
 abbrev pub aboveOf : Verdict → ℕ
@@ -57,38 +58,45 @@ unfolding zeros
 n-zeros zero s at = n-valid at
 n-zeros (suc n) s at = n-must _ 2 at _ (omega arith) (n-zeros n s (at + 1))
 
-n-location : (s : List ℕ) (c at : ℕ) → Numbered 9 (locationCheck s c at)
-unfolding locationCheck
-n-location s c at =
-    n-must _ 5 _ _ (omega arith) (n-must _ 5 _ _ (omega arith)
-    (n-must _ 2 _ _ (omega arith) (n-must _ 2 _ _ (omega arith) (n-must _ 2 _ _ (omega arith)
-    (n-pick _ _ _ (n-must _ 6 _ _ (omega arith) (n-must _ 6 _ _ (omega arith) (n-valid _))) (n-valid _))))))
+n-location-zeros : (old : Bool) (s : List ℕ) (at : ℕ) (k : Verdict) → Numbered 9 k → Numbered 9 (locationZeros old s at k)
+unfolding locationZeros
+n-location-zeros true s at k h = h
+n-location-zeros false s at k h = n-must _ 2 _ _ (omega arith) (n-must _ 2 _ _ (omega arith) (n-must _ 2 _ _ (omega arith) h))
 
-n-locations : (n : ℕ) (s : List ℕ) (c at : ℕ) → Numbered 9 (locations n s c at)
+pub n-pool : (kind offset c at end : ℕ) → Numbered 9 (poolCheck kind offset c at end)
+unfolding poolCheck
+n-pool kind offset c at end = n-pick _ _ _ (n-must _ 6 _ _ (omega arith) (n-must _ 6 _ _ (omega arith) (n-valid _))) (n-valid _)
+
+n-location : (old : Bool) (s : List ℕ) (c at : ℕ) → Numbered 9 (locationCheck old s c at)
+unfolding locationCheck
+n-location old s c at =
+    n-must _ 5 _ _ (omega arith) (n-must _ 5 _ _ (omega arith) (n-location-zeros old s at _ (n-pool _ _ c at _)))
+
+n-locations : (old : Bool) (n : ℕ) (s : List ℕ) (c at : ℕ) → Numbered 9 (locations old n s c at)
 unfolding locations
-n-locations zero s c at = n-valid at
-n-locations (suc n) s c at = n-chain _ _ (n-location s c at) (n-locations n s c (at + 12))
+n-locations old zero s c at = n-valid at
+n-locations old (suc n) s c at = n-chain _ _ (n-location old s c at) (n-locations old n s c (at + locationSize old))
 
 n-outs : (n : ℕ) (s : List ℕ) (at : ℕ) → Numbered 9 (liveOuts n s at)
 unfolding liveOuts
 n-outs zero s at = n-valid at
 n-outs (suc n) s at = n-must _ 2 _ _ (omega arith) (n-outs n s (at + 4))
 
-n-record : (s : List ℕ) (c a : ℕ) → Numbered 9 (recordCheck s c a)
+n-record : (old : Bool) (s : List ℕ) (c a : ℕ) → Numbered 9 (recordCheck old s c a)
 unfolding recordCheck recordInside recordBytes
-n-record s c a =
+n-record old s c a =
     n-chain _ _ (n-must _ 3 _ _ (omega arith) (n-valid _)) (n-must _ 7 _ _ (omega arith)
-    (n-chain _ _ (n-zeros 2 s 12) (n-chain _ _ (n-locations _ s c 16) (n-chain _ _ (n-zeros _ s _)
+    (n-chain _ _ (n-zeros 2 s 12) (n-chain _ _ (n-locations old _ s c 16) (n-chain _ _ (n-zeros _ s _)
     (n-chain _ _ (n-outs _ s _) (n-chain _ _ (n-zeros _ s _) (n-valid _)))))))
 
-n-walk : (os : List Owner) (s : List ℕ) (c at : ℕ) → Numbered 9 (recordsCheck os s c at)
+n-walk : (old : Bool) (os : List Owner) (s : List ℕ) (c at : ℕ) → Numbered 9 (recordsCheck old os s c at)
 unfolding recordsCheck
-n-walk [] s c at = n-valid at
-n-walk (o ∷ os) s c at = n-bind _ _ (n-shift at _ (n-record (drop at s) c (o .function .address))) (λ e. n-walk os s c e)
+n-walk old [] s c at = n-valid at
+n-walk old (o ∷ os) s c at = n-bind _ _ (n-shift at _ (n-record old (drop at s) c (o .function .address))) (λ e. n-walk old os s c e)
 
 pub section-numbered : (s : List ℕ) → Numbered 9 (sectionCheck s)
 unfolding sectionCheck headerCheck tablesCheck walkCheck
 section-numbered s =
     n-chain _ _ (n-must _ 0 _ _ (omega arith) (n-must _ 0 _ _ (omega arith) (n-must _ 1 _ _ (omega arith) (n-zeros 3 s 1))))
     (n-chain _ _ (n-must _ 3 _ _ (omega arith) (n-must _ 3 _ _ (omega arith) (n-must _ 4 _ _ (omega arith) (n-valid _))))
-    (n-bind _ _ (n-walk _ s _ _) (λ p. n-must _ 8 _ _ (omega arith) (n-valid p))))
+    (n-bind _ _ (n-walk _ _ s _ _) (λ p. n-must _ 8 _ _ (omega arith) (n-valid p))))

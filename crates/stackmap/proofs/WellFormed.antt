@@ -2,7 +2,7 @@
 use Prim.Native.Nat.{ℕ, zero, suc, _+_, _*_, _/_, _^_, _<_}
 use mathlib.Core.Path.{_≡_, refl, sym, _∙_, ap}
 use mathlib.Core.List.{List, [], _∷_, _++_, List·Memᴰ, List·Memᴰ·head, List·Memᴰ·tail, List·Memᴰ·not-nil, List·Memᴰ·cases-cons}
-use mathlib.Core.Logic.{_⊎_, inl, inr}
+use mathlib.Core.Logic.{_⊎_, inl, inr, ⊎-elim}
 use mathlib.Core.Bool.{Bool, true, false}
 use native.Mathlib.Omega.{arith}
 use borrow.Author.Tests.{lt-ltb, le-leb, eq-eqb, eqb-true, leb-true, ltb-true}
@@ -10,9 +10,11 @@ use lib.ListN.{length, getD}
 use lib.Dec.{ltb, eqb}
 use Rattle.wire.specs.Word.{Bytes, bytes}
 use Rattle.stackmap.specs.declared.Verdict.the-variants.{Valid}
+use Rattle.stackmap.specs.Layout.{functionSize, locationSize}
 use Rattle.stackmap.specs.Verdict.{must, chain, pick, shift}
-use Rattle.stackmap.specs.Fields.{Field, bytesOf, size}
-use Rattle.stackmap.specs.Section.{Location, Section, recordFields, sectionFields, encodeSection, Encodable, readSection, Entry, entriesOf}
+use Rattle.stackmap.specs.Fields.{Field, bytesOf, size, many}
+use Rattle.stackmap.specs.Section.{Function, Location, Section, numFunctions, readFunction, readFunctions, recordFields, sectionFields, encodeSection, Encodable, readSection, Entry, entriesOf}
+use Rattle.stackmap.specs.Record.{poolCheck}
 use Rattle.stackmap.specs.Check.{sectionCheck}
 use Rattle.stackmap.specs.Fault.{locationFault, locationsFault, entryFault, entriesFault, sectionFault, GoodLocation, GoodEntry, WellFormed}
 use Rattle.stackmap.specs.Laws.{OneToOne, BuiltRefusal}
@@ -20,18 +22,18 @@ use Rattle.stackmap.proofs.Verdicts.{must-held, must-rest, chain-first,
 use Rattle.stackmap.proofs.Back.{read-back, check-back, encoded-length}
 use Rattle.stackmap.proofs.Forth.{accepted-encodable, accepted-bytes, accepted-fault}
 
-module _ (c : ℕ) where
-  good-location : (l : Location) (at : ℕ) → GoodLocation c l → locationFault c l at ≡ Valid (at + 12)
-  unfolding locationFault must pick
+module _ (old : Bool) (c : ℕ) where
+  good-location : (l : Location) (at : ℕ) → GoodLocation c l → locationFault old c l at ≡ Valid (at + locationSize old)
+  unfolding locationFault poolCheck must pick
   good-location l at g = rw (le-leb _ _ (g .kind-low), le-leb _ _ (g .kind-high)) (go (eqb (l .kind) 5) refl)
     where
       go : (t : Bool) → eqb (l .kind) 5 ≡ t
-          → pick (eqb (l .kind) 5) (must (ltb (l .offset) (2 ^ 31)) 7 at (must (ltb (l .offset) c) 7 at (Valid (at + 12)))) (Valid (at + 12)) ≡ Valid (at + 12)
+          → pick (eqb (l .kind) 5) (must (ltb (l .offset) (2 ^ 31)) 7 at (must (ltb (l .offset) c) 7 at (Valid (at + locationSize old)))) (Valid (at + locationSize old)) ≡ Valid (at + locationSize old)
       go true e = let i = g .pool (eqb-true _ _ e) in rw (e, lt-ltb _ _ (i .0), lt-ltb _ _ (i .1))
       go false e = rw e
 
-  valid-location : (l : Location) (at e : ℕ) → locationFault c l at ≡ Valid e → GoodLocation c l
-  unfolding locationFault pick
+  valid-location : (l : Location) (at e : ℕ) → locationFault old c l at ≡ Valid e → GoodLocation c l
+  unfolding locationFault poolCheck pick
   valid-location l at e h =
       let h₁ = must-rest _ _ _ _ _ h in
       let h₂ = must-rest _ _ _ _ _ h₁ in
@@ -39,30 +41,30 @@ module _ (c : ℕ) where
         kind-low = leb-true _ _ (must-held _ _ _ _ _ h);
         kind-high = leb-true _ _ (must-held _ _ _ _ _ h₁);
         pool = λ k.
-            let h₃ : must (ltb (l .offset) (2 ^ 31)) 7 at (must (ltb (l .offset) c) 7 at (Valid (at + 12))) ≡ Valid e = rw (eq-eqb _ _ k) at h₂ in
+            let h₃ : must (ltb (l .offset) (2 ^ 31)) 7 at (must (ltb (l .offset) c) 7 at (Valid (at + locationSize old))) ≡ Valid e = rw (eq-eqb _ _ k) at h₂ in
             (ltb-true _ _ (must-held _ _ _ _ _ h₃), ltb-true _ _ (must-held _ _ _ _ _ (must-rest _ _ _ _ _ h₃)));
       }
 
-  good-locations : (ls : List Location) (at : ℕ) → ((l : Location) → List·Memᴰ l ls → GoodLocation c l) → locationsFault c ls at ≡ Valid (at + 12 * length ls)
+  good-locations : (ls : List Location) (at : ℕ) → ((l : Location) → List·Memᴰ l ls → GoodLocation c l) → locationsFault old c ls at ≡ Valid (at + locationSize old * length ls)
   unfolding locationsFault chain
   good-locations [] at g = ap Valid (omega arith)
   good-locations (l ∷ ls) at g =
-      rw (good-location l at (g l (List·Memᴰ·head refl)), good-locations ls (at + 12) (λ x m. g x (List·Memᴰ·tail m))) (ap Valid (omega arith))
+      rw (good-location l at (g l (List·Memᴰ·head refl)), good-locations ls (at + locationSize old) (λ x m. g x (List·Memᴰ·tail m))) (ap Valid (omega arith))
 
-  valid-locations : (ls : List Location) (at e : ℕ) → locationsFault c ls at ≡ Valid e → (l : Location) → List·Memᴰ l ls → GoodLocation c l
+  valid-locations : (ls : List Location) (at e : ℕ) → locationsFault old c ls at ≡ Valid e → (l : Location) → List·Memᴰ l ls → GoodLocation c l
   unfolding locationsFault
   valid-locations [] at e h l m = absurd (List·Memᴰ·not-nil m)
-  valid-locations (x ∷ xs) at e h l m = go (valid-locations xs (at + 12) e (chain-rest _ _ _ h) l) (List·Memᴰ·cases-cons m)
+  valid-locations (x ∷ xs) at e h l m = go (valid-locations xs (at + locationSize old) e (chain-rest _ _ _ h) l) (List·Memᴰ·cases-cons m)
     where
       go : (List·Memᴰ l xs → GoodLocation c l) → (l ≡ x) ⊎ List·Memᴰ l xs → GoodLocation c l
       go ih (inl q) = rw q (valid-location x at _ (chain-first _ _ _ h .1))
       go ih (inr q) = ih q
 
-  good-entry : (e : Entry) → GoodEntry c e → entryFault c e ≡ Valid (size (recordFields (e .body)))
+  good-entry : (e : Entry) → GoodEntry c e → entryFault old c e ≡ Valid (size (recordFields old (e .body)))
   unfolding entryFault must chain
   good-entry e g = rw (le-leb _ _ (g .address-fits), good-locations (e .body .locations) 16 (g .locations-good))
 
-  valid-entry : (e : Entry) (n : ℕ) → entryFault c e ≡ Valid n → GoodEntry c e
+  valid-entry : (e : Entry) (n : ℕ) → entryFault old c e ≡ Valid n → GoodEntry c e
   unfolding entryFault
   valid-entry e n h =
       record {
@@ -70,13 +72,13 @@ module _ (c : ℕ) where
         locations-good = valid-locations (e .body .locations) 16 _ (chain-first _ _ _ (must-rest _ _ _ _ _ h) .1);
       }
 
-  good-entries : (es : List Entry) (stop : ℕ) → ((e : Entry) → List·Memᴰ e es → GoodEntry c e) → entriesFault c es stop ≡ Valid stop
+  good-entries : (es : List Entry) (stop : ℕ) → ((e : Entry) → List·Memᴰ e es → GoodEntry c e) → entriesFault old c es stop ≡ Valid stop
   unfolding entriesFault chain shift
   good-entries [] stop g = refl
   good-entries (e ∷ es) stop g =
       rw (good-entry e (g e (List·Memᴰ·head refl)), good-entries es stop (λ x m. g x (List·Memᴰ·tail m)))
 
-  valid-entries : (es : List Entry) (stop n : ℕ) → entriesFault c es stop ≡ Valid n → (e : Entry) → List·Memᴰ e es → GoodEntry c e
+  valid-entries : (es : List Entry) (stop n : ℕ) → entriesFault old c es stop ≡ Valid n → (e : Entry) → List·Memᴰ e es → GoodEntry c e
   unfolding entriesFault
   valid-entries [] stop n h e m = absurd (List·Memᴰ·not-nil m)
   valid-entries (x ∷ xs) stop n h e m = go (valid-entries xs stop n (chain-rest _ _ _ h) e) (List·Memᴰ·cases-cons m)
@@ -89,26 +91,40 @@ module _ (c : ℕ) where
 pub well-valid : (t : Section) → WellFormed t → sectionFault t ≡ Valid (size (sectionFields t))
 unfolding sectionFault must
 well-valid t w =
-    rw (le-leb _ _ (w .small), eq-eqb _ _ (w .adds-up), good-entries (length (t .constants)) (entriesOf t) (size (sectionFields t)) (w .entries-good))
+    rw (le-leb _ _ (w .small), w .version-right, w .adds-up, good-entries (t .old) (length (t .constants)) (entriesOf t) (size (sectionFields t)) (w .entries-good))
 
-pub valid-well : (t : Section) (n : ℕ) → Encodable t → sectionFault t ≡ Valid n → WellFormed t
+pub valid-well : (t : Section) (n : ℕ) → Encodable t → (t .old ≡ true → (f : Function) → List·Memᴰ f (t .functions) → f .count ≡ 0)
+    → sectionFault t ≡ Valid n → WellFormed t
 unfolding sectionFault
-valid-well t n f h =
+valid-well t n f none h =
     let h₁ = must-rest _ _ _ _ _ h in
+    let h₂ = must-rest _ _ _ _ _ h₁ in
     record {
       fits = f;
       small = leb-true _ _ (must-held _ _ _ _ _ h);
-      adds-up = eqb-true _ _ (must-held _ _ _ _ _ h₁);
-      entries-good = valid-entries _ _ _ n (must-rest _ _ _ _ _ h₁);
+      version-right = must-held _ _ _ _ _ h₁;
+      adds-up = must-held _ _ _ _ _ h₂;
+      no-counts = none;
+      entries-good = valid-entries _ _ _ _ n (must-rest _ _ _ _ _ h₂);
     }
+
+-- the functions that are read of version 1 have no record counts
+no-count : (n : ℕ) (s : List ℕ) (at : ℕ) (f : Function) → List·Memᴰ f (many (readFunction true) (functionSize true) n s at) → f .count ≡ 0
+unfolding many readFunction
+no-count zero s at f m = absurd (List·Memᴰ·not-nil m)
+no-count (suc n) s at f m = ⊎-elim (λ e. rw e) (no-count n s (at + 16) f) (List·Memᴰ·cases-cons m)
+
+read-no-counts : (s : List ℕ) → readSection s .old ≡ true → (f : Function) → List·Memᴰ f (readSection s .functions) → f .count ≡ 0
+unfolding readSection readFunctions
+read-no-counts s e f m = no-count (numFunctions s) s 16 f (rw e at m)
 
 -- a well-formed section's bytes are accepted, and read back as the section
 pub well-formed-accepted : (t : Section) → WellFormed t → (sectionCheck (encodeSection t) ≡ Valid (length (encodeSection t))) × (readSection (encodeSection t) ≡ t)
-well-formed-accepted t w = (check-back t (w .fits) ∙ well-valid t w ∙ ap Valid (sym (encoded-length t)), read-back t (w .fits))
+well-formed-accepted t w = (check-back t (w .fits) ∙ well-valid t w ∙ ap Valid (sym (encoded-length t)), read-back t (w .fits) (w .no-counts))
 
 -- accepted bytes are read as a well-formed section, and are its bytes
 pub accepted-well-formed : (s : List ℕ) (e : ℕ) → Bytes s → sectionCheck s ≡ Valid e → WellFormed (readSection s) × (encodeSection (readSection s) ≡ s)
-accepted-well-formed s e w k = (valid-well (readSection s) e (accepted-encodable s e k w) (accepted-fault s e k w), accepted-bytes s e k w)
+accepted-well-formed s e w k = (valid-well (readSection s) e (accepted-encodable s e k w) (read-no-counts s) (accepted-fault s e k w), accepted-bytes s e k w)
 
 abbrev Below : List ℕ → Type 0
 Below [] = Unit {0}

@@ -13,12 +13,16 @@ use Rattle.stackmap.specs.Verdict.{must, chain, bind, shift}
 use Rattle.stackmap.specs.Section.{Function, numConstants, numRecords, isOld, constantsAt, recordsAt, readFunctions, Owner, recordOwners, counted}
 use Rattle.stackmap.specs.Record.{zeros, recordCheck}
 
+-- 2: the version is 3
+abbrev pub versionRight : ℕ → Bool
+versionRight b = eqb b (versionNumber false)
+
 -- 1, 2, 3: the bytes of the header
 unfoldable pub headerCheck : List ℕ → Verdict
 headerCheck s =
     must (leb headerSize (length s)) 1 0
     (must (leb (length s) sectionMost) 1 0
-    (must (eqb (getD s 0 0) (versionNumber false)) 2 0
+    (must (versionRight (getD s 0 0)) 2 0
     (zeros headerZeros s headerZerosAt)))
 
 -- 4: the first item of n bytes from `at` that is not wholly inside
