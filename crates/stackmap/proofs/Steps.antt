@@ -1,7 +1,7 @@
 -- One turn of each definition that counts down, at a count that is above 0.
 use Prim.Native.Nat.{ℕ, zero, suc, _+_, _*_, _-_, _≤_, _<_}
 use mathlib.Core.Path.{_≡_, sym}
-use mathlib.Core.Bool.{false}
+use mathlib.Core.Bool.{Bool, false}
 use mathlib.Core.List.{List, _∷_, _++_}
 use native.Mathlib.Omega.{arith}
 use native.Mathlib.Nat.{mul-suc}
@@ -9,6 +9,7 @@ use native.Mathlib.Numerals.{add-one}
 use borrow.Author.Tests.{ne-eqb}
 use lib.ListN.{length, getD, replicate}
 use lib.Dec.{eqb}
+use Rattle.stackmap.specs.Layout.{locationSize}
 use Rattle.stackmap.specs.Verdict.{must, chain}
 use Rattle.stackmap.specs.Fields.{many}
 use Rattle.stackmap.specs.Section.{Function, owners, counted}
@@ -22,16 +23,21 @@ pub mul-step : (k n : ℕ) → 0 < n → k * n ≡ k + k * (n - 1)
 mul-step k zero h = absurd (omega arith)
 mul-step k (suc n) h = rw (back, mul-suc) (omega arith)
 
+-- a product of a factor that is at most b
+pub times-most : (a b n : ℕ) → a ≤ b → a * n ≤ b * n
+times-most a b zero h = omega arith
+times-most a b (suc n) h = let i = times-most a b n h in omega arith
+
 pub zeros-step : (n : ℕ) (s : List ℕ) (at : ℕ) → 0 < n → zeros n s at ≡ must (eqb (getD s at 0) 0) 3 at (zeros (n - 1) s (at + 1))
 unfolding zeros
 zeros-step zero s at h = absurd (omega arith)
 zeros-step (suc n) s at h = rw back
 
-pub locations-step : (n : ℕ) (s : List ℕ) (c at : ℕ) → 0 < n
-    → locations n s c at ≡ chain (locationCheck s c at) (locations (n - 1) s c (at + 12))
+pub locations-step : (old : Bool) (n : ℕ) (s : List ℕ) (c at : ℕ) → 0 < n
+    → locations old n s c at ≡ chain (locationCheck old s c at) (locations old (n - 1) s c (at + locationSize old))
 unfolding locations
-locations-step zero s c at h = absurd (omega arith)
-locations-step (suc n) s c at h = rw back
+locations-step old zero s c at h = absurd (omega arith)
+locations-step old (suc n) s c at h = rw back
 
 pub liveOuts-step : (n : ℕ) (s : List ℕ) (at : ℕ) → 0 < n
     → liveOuts n s at ≡ must (eqb (getD s (at + 2) 0) 0) 3 (at + 2) (liveOuts (n - 1) s (at + 4))
