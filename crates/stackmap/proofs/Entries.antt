@@ -10,11 +10,11 @@ use Rattle.wire.specs.Word.{Bytes}
 use Rattle.stackmap.specs.declared.Verdict.the-variants.{Valid}
 use Rattle.stackmap.specs.Layout.{functionSize}
 use Rattle.stackmap.specs.Fields.{size, all, many}
-use Rattle.stackmap.specs.Section.{Record, recordFields, numFunctions, numRecords, recordsAt, readFunction, readConstant, recordLength, readRecord, readRecords, readFunctions, isOld, readSection, Owner, nobody, owners, recordOwners, Entry, entriesFrom, entriesOf, entries}
+use Rattle.stackmap.specs.Section.{Record, recordFields, sectionFields, numFunctions, numRecords, recordsAt, readFunction, readConstant, recordLength, readRecord, readRecords, readFunctions, isOld, readSection, Owner, nobody, owners, recordOwners, Entry, entriesFrom, entriesOf, entries}
 use Rattle.stackmap.specs.Check.{sectionCheck}
 use Rattle.stackmap.proofs.Fields.{size-append, length-many}
 use Rattle.stackmap.proofs.Back.{section-size}
-use Rattle.stackmap.proofs.Forth.{read-size, section-long}
+use Rattle.stackmap.proofs.Forth.{read-size, length-records, section-long}
 
 -- one step of the walk, by the bytes at `at`
 pub entries-step : (old : Bool) (k at n : ℕ) (o : Owner) (os : List Owner) (s : List ℕ)
@@ -95,6 +95,18 @@ module _ (s : List ℕ) where
   unfolding readSection readFunctions
   begins = rw (length-many (readFunction (isOld s)), length-many readConstant)
 
+  -- the entries, by the places and counts that the section's bytes give
+  pub entries-are : entries s
+      ≡ entriesFrom (isOld s) 0 (recordsAt s) (recordOwners (isOld s) (numRecords s) (readFunctions s)) (readRecords (isOld s) (numRecords s) s (recordsAt s))
+  unfolding entries entriesOf readSection readFunctions
+  entries-are = rw (length-many (readFunction (isOld s)), length-many readConstant, length-records)
+
+  read-section-size : size (sectionFields (readSection s))
+      ≡ 16 + functionSize (isOld s) * length (readSection s .functions) + 8 * length (readSection s .constants)
+      + size (all (recordFields (isOld s)) (readSection s .records))
+  unfolding readSection
+  read-section-size = section-size (readSection s)
+
   pub entry-body : (e : Entry) → List·Memᴰ e (entries s) → e .body ≡ readRecord (isOld s) (drop (e .first) s)
   unfolding entries entriesOf readSection
   entry-body e m = from-stretch (isOld s) (numRecords s) 0 (recordsAt s) _ s e (rw begins at m)
@@ -125,7 +137,7 @@ module _ (s : List ℕ) where
     unfolding entries entriesOf
     entry-inside e m =
         let i = stretch-inside (isOld s) _ 0 _ _ e (rw (old-of s) at m) in
-        let z = rw (old-of s) at (section-size (readSection s)) in
+        let z = read-section-size in
         let l = section-long s n k in
         let b : size (recordFields (isOld s) (e .body)) ≡ recordLength (isOld s) (drop (e .first) s) =
         ap (λ (r : Record). size (recordFields (isOld s) r)) (entry-body e m) ∙ read-size (isOld s) (drop (e .first) s) in

@@ -8,12 +8,12 @@ use native.Mathlib.Numerals.{add-one}
 use lib.ListN.{length, drop}
 use Rattle.stackmap.specs.declared.Verdict.the-variants.{Valid}
 use Rattle.stackmap.specs.Verdict.{shift}
-use Rattle.stackmap.specs.Section.{numFunctions, numRecords, recordsAt, recordLength, readRecords, readFunctions, isOld, readSection, Owner, recordOwners, Entry, entriesFrom, entriesOf, entries}
+use Rattle.stackmap.specs.Section.{numFunctions, numRecords, recordsAt, recordLength, readRecords, readFunctions, isOld, Owner, recordOwners, Entry, entriesFrom, entries}
 use Rattle.stackmap.specs.Record.{recordCheck}
 use Rattle.stackmap.specs.Walk.{ownerAt, entryAt, ahead, Turning, Walkable}
 use Rattle.stackmap.proofs.Verdicts.{shift-valid}
-use Rattle.stackmap.proofs.Forth.{ends, length-records}
-use Rattle.stackmap.proofs.Entries.{entries-step, begins}
+use Rattle.stackmap.proofs.Forth.{ends}
+use Rattle.stackmap.proofs.Entries.{entries-step, entries-are}
 use Rattle.stackmap.proofs.Turns.{Walking, walk-start, walk-on, ahead-one}
 
 -- a valid record that stands at p ends where its length says
@@ -38,10 +38,7 @@ module _ {H : Type 0} (add : Entry → H → H) where
       → ahead s next left ≡ recordOwners (isOld s) (numRecords s) (readFunctions s) → Turning s next left
       → at ≡ recordsAt s → at ≤ length s → count ≡ numRecords s → Folding s c h next left count 0 at h
   fold-start {s} {c} {at} {count} {next} {left} h w a u e i n =
-      rw (n, e) (record { walking = walk-start w (rw e at i) a u; kept = rw a (ap (λ (es : List Entry). fold es h) same) })
-    where
-      same : entries s ≡ entriesFrom (isOld s) 0 (recordsAt s) (recordOwners (isOld s) (numRecords s) (readFunctions s)) (readRecords (isOld s) (numRecords s) s (recordsAt s))
-      same = unfold entries entriesOf in rw (begins s, length-records (isOld s)) (unfold readSection in refl)
+      rw (n, e) (record { walking = walk-start w (rw e at i) a u; kept = rw a (ap (λ (es : List Entry). fold es h) (entries-are s)) })
 
   pub fold-on : {s : List ℕ} {c next left remaining number p q : ℕ} {h₀ h : H} (next′ left′ : ℕ) → Folding s c h₀ next left remaining number p h
       → ahead s next′ left′ ≡ ahead s next left → 0 < left′ → 0 < next′ → (isOld s ≡ false → next′ ≤ numFunctions s) → 0 < remaining
