@@ -1,7 +1,7 @@
 -- One turn of each definition that counts down, at a count that is above 0.
-use Prim.Native.Nat.{ℕ, zero, suc, _+_, _*_, _-_, _≤_, _<_}
+use Prim.Native.Nat.{ℕ, zero, suc, _+_, _*_, _-_, _/_, _≤_, _<_}
 use mathlib.Core.Path.{_≡_, sym}
-use mathlib.Core.Bool.{Bool, false}
+use mathlib.Core.Bool.{Bool, true, false}
 use mathlib.Core.List.{List, _∷_, _++_}
 use native.Mathlib.Omega.{arith}
 use native.Mathlib.Nat.{mul-suc}
@@ -9,7 +9,7 @@ use native.Mathlib.Numerals.{add-one}
 use borrow.Author.Tests.{ne-eqb}
 use lib.ListN.{length, getD, replicate}
 use lib.Dec.{eqb}
-use Rattle.stackmap.specs.Layout.{locationSize}
+use Rattle.stackmap.specs.Layout.{functionSize, locationSize}
 use Rattle.stackmap.specs.Verdict.{must, chain}
 use Rattle.stackmap.specs.Fields.{many}
 use Rattle.stackmap.specs.Section.{Function, owners, counted}
@@ -27,6 +27,21 @@ mul-step k (suc n) h = rw (back, mul-suc) (omega arith)
 pub times-most : (a b n : ℕ) → a ≤ b → a * n ≤ b * n
 times-most a b zero h = omega arith
 times-most a b (suc n) h = let i = times-most a b n h in omega arith
+
+-- the sizes that differ between the versions
+
+pub location-least : (old : Bool) → 8 ≤ locationSize old
+location-least true = omega arith
+location-least false = omega arith
+
+pub function-least : (old : Bool) → 16 ≤ functionSize old
+function-least true = omega arith
+function-least false = omega arith
+
+-- whole functions in k bytes
+pub functions-most : (old : Bool) (k : ℕ) → functionSize old * (k / functionSize old) ≤ k
+functions-most true k = omega arith
+functions-most false k = omega arith
 
 pub zeros-step : (n : ℕ) (s : List ℕ) (at : ℕ) → 0 < n → zeros n s at ≡ must (eqb (getD s at 0) 0) 3 at (zeros (n - 1) s (at + 1))
 unfolding zeros

@@ -3,24 +3,27 @@ use native.Mathlib.Omega.{arith}
 use Prim.Native.Nat.{_+_, _*_, _≤_}
 use mathlib.Core.Path.{_≡_}
 use lib.ListN.{length}
+use Rattle.stackmap.specs.Layout.{locationSize}
 use Rattle.stackmap.specs.Record.{locations}
 use Rattle.stackmap.specs.Verdict.{chain}
-use Rattle.stackmap.proofs.Steps.{locations-step}
+use Rattle.stackmap.proofs.Steps.{mul-step, locations-step}
 use Rattle.stackmap.proofs.record.all_locations.Statement.{statement}
 use Rattle.stackmap.proofs.record.all_locations.Tie as tie
 
 abbrev Inv-loop : tie.InvT-loop
-Inv-loop s at count constants p₀ left₀ p left =
-    (p + 12 * left ≤ length s) × (locations count s constants at ≡ locations left s constants p)
+Inv-loop s old at count constants step p₀ left₀ p left = (p + locationSize old * left ≤ length s) × (locations old count s constants at ≡ locations old left s constants p)
 
 abbrev μ-loop : tie.MeasureT-loop
-μ-loop s at count constants p₀ left₀ p left = left
+μ-loop s old at count constants step p₀ left₀ p left = left
+
+location-size-requires : tie.Need-location-size-requires Inv-loop μ-loop
+location-size-requires c κs = search needs
 
 loop-holds : tie.Need-loop-holds Inv-loop μ-loop
 loop-holds c = search needs
 
 location-requires : tie.Need-location-requires Inv-loop μ-loop
-location-requires c κs = search needs
+location-requires c κs = let h = mul-step (locationSize (c .before .before .before .before .args .old)) (c .before .loop .left) (omega arith) in omega arith
 
 enum-known-n : tie.Need-enum-known-n Inv-loop μ-loop
 enum-known-n c = search needs
@@ -31,7 +34,7 @@ returns c =
     let l = c .before .before .before .before .before .loop in
     rw (
       l .inv .1,
-      locations-step (l .left) _ _ _ (c .before .before .before .before .loop-test .taken),
+      locations-step _ (l .left) _ _ _ (omega arith),
       ← c .before .before .before .location .ensures,
       c .before .n .given .1,
     )
@@ -40,7 +43,7 @@ enum-told : tie.Need-enum-told Inv-loop μ-loop
 enum-told c = search needs
 
 add-p : tie.Need-add-p Inv-loop μ-loop
-add-p c = search needs
+add-p c = let h = mul-step (locationSize (c .before .before .before .before .before .before .before .args .old)) (c .before .before .before .before .loop .left) (omega arith) in omega (arith, c .before .before .before .before .before .location-size .ensures .0)
 
 sub-left : tie.Need-sub-left Inv-loop μ-loop
 sub-left c = search needs
@@ -51,13 +54,15 @@ loop-less c = search needs
 loop-again : tie.Need-loop-again Inv-loop μ-loop
 unfolding chain
 loop-again c =
-    let l = c .before .before .before .before .loop in (
-      omega arith,
+    let l = c .before .before .before .before .loop in
+    let h = mul-step (locationSize (c .before .before .before .before .before .before .before .args .old)) (l .left) (omega arith) in (
+      omega (arith, c .before .before .before .before .before .location-size .ensures .0),
       rw (
         l .inv .1,
-        locations-step (l .left) _ _ _ (c .before .before .before .loop-test .taken),
+        locations-step _ (l .left) _ _ _ (omega arith),
         ← c .before .before .location .ensures,
         c .enum-told .given .1,
+        c .before .before .before .before .before .location-size .ensures .0,
       ),
     )
 
@@ -73,6 +78,7 @@ all-locations-spec =
     (tie.spec
     Inv-loop
     μ-loop
+    location-size-requires
     loop-holds
     location-requires
     enum-known-n

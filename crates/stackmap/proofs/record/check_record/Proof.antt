@@ -23,7 +23,7 @@ enum-told : tie.Need-enum-told
 enum-told c = search needs
 
 u32-at-requires : tie.Need-u32-at-requires
-u32-at-requires c κs = let h = header-inside _ (is-inside _ _ (sym (c .before .before .record-inside .ensures) ∙ c .enum-told .given .1)) in omega arith
+u32-at-requires c κs = let h = header-inside _ _ (is-inside _ _ _ (sym (c .before .before .record-inside .ensures) ∙ c .enum-told .given .1)) in omega arith
 
 cast-offset : tie.Need-cast-offset
 cast-offset c = search needs
@@ -38,7 +38,7 @@ returns-2 c =
     rw (← c .before .before .before .before .record-inside .ensures, c .before .before .enum-told .given .1, ← c .before .u32-at .ensures, lt-leb _ _ h)
 
 record-bytes-requires : tie.Need-record-bytes-requires
-record-bytes-requires c κs = is-inside _ _ (sym (c .before .before .before .before .record-inside .ensures) ∙ c .before .before .enum-told .given .1)
+record-bytes-requires c κs = is-inside _ _ _ (sym (c .before .before .before .before .record-inside .ensures) ∙ c .before .before .enum-told .given .1)
 
 returns-3 : tie.Need-returns-3
 unfolding recordCheck chain must

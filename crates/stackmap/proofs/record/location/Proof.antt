@@ -1,87 +1,87 @@
+use native.Mathlib.Omega.{arith}
+use Rattle.stackmap.specs.Record.{locationZeros, locationCheck}
+use Rattle.stackmap.specs.Verdict.{must}
+use Rattle.stackmap.proofs.Tests.{tests}
+use Rattle.stackmap.proofs.Steps.{location-least}
 use borrow.Author.Needs.{needs}
-use borrow.Author.Tests.{lt-ltb, le-ltb, le-leb, lt-leb, eq-eqb, ne-eqb}
-use Rattle.stackmap.specs.Record.{locationCheck}
-use Rattle.stackmap.specs.Verdict.{must, pick}
 use Rattle.stackmap.proofs.record.location.Statement.{statement}
 use Rattle.stackmap.proofs.record.location.Tie as tie
 
 shared-slice-read-kind : tie.Need-shared-slice-read-kind
-shared-slice-read-kind c = search needs
+shared-slice-read-kind c = let h = location-least (c .before .before .args .old) in search needs
 
 returns : tie.Need-returns
-unfolding locationCheck must pick
-returns c = search (lt-ltb, le-ltb, le-leb, lt-leb, eq-eqb, ne-eqb)
+unfolding locationCheck must
+returns c = search tests
 
 returns-2 : tie.Need-returns-2
-unfolding locationCheck must pick
-returns-2 c = search (lt-ltb, le-ltb, le-leb, lt-leb, eq-eqb, ne-eqb)
+unfolding locationCheck must
+returns-2 c = search tests
 
-add-if3 : tie.Need-add-if3
-add-if3 c = search needs
+add-pool : tie.Need-add-pool
+add-pool c = search needs
 
-shared-slice-read-if3 : tie.Need-shared-slice-read-if3
-shared-slice-read-if3 c = search needs
+add-pool-2 : tie.Need-add-pool-2
+add-pool-2 c = search needs
 
-add-t11 : tie.Need-add-t11
-add-t11 c = search needs
+pool-requires : tie.Need-pool-requires
+pool-requires c κs = let h = rw (c .if3 .taken) at (c .before .before .before .before .before .pre) in omega arith
 
 returns-3 : tie.Need-returns-3
-unfolding locationCheck must pick
-returns-3 c = search (lt-ltb, le-ltb, le-leb, lt-leb, eq-eqb, ne-eqb)
+unfolding locationCheck locationZeros must
+returns-3 c = rw (c .pool .ensures, c .before .if3 .taken) (search tests)
 
 add-if4 : tie.Need-add-if4
 add-if4 c = search needs
 
 shared-slice-read-if4 : tie.Need-shared-slice-read-if4
-shared-slice-read-if4 c = search needs
+shared-slice-read-if4 c = let h = rw (c .before .if3 .left) at (c .before .before .before .before .before .before .pre) in omega arith
 
 add-t13 : tie.Need-add-t13
 add-t13 c = search needs
 
 returns-4 : tie.Need-returns-4
-unfolding locationCheck must pick
-returns-4 c = search (lt-ltb, le-ltb, le-leb, lt-leb, eq-eqb, ne-eqb)
+unfolding locationCheck locationZeros must
+returns-4 c = rw (c .before .before .if3 .left) (search tests)
 
 add-if5 : tie.Need-add-if5
 add-if5 c = search needs
 
 shared-slice-read-if5 : tie.Need-shared-slice-read-if5
-shared-slice-read-if5 c = search needs
+shared-slice-read-if5 c = let h = rw (c .before .before .before .if3 .left) at (c .before .before .before .before .before .before .before .before .pre) in omega arith
 
 add-t15 : tie.Need-add-t15
 add-t15 c = search needs
 
 returns-5 : tie.Need-returns-5
-unfolding locationCheck must pick
-returns-5 c = search (lt-ltb, le-ltb, le-leb, lt-leb, eq-eqb, ne-eqb)
+unfolding locationCheck locationZeros must
+returns-5 c = rw (c .before .before .before .before .if3 .left) (search tests)
 
-add-t16 : tie.Need-add-t16
-add-t16 c = search needs
+add-if6 : tie.Need-add-if6
+add-if6 c = search needs
+
+shared-slice-read-if6 : tie.Need-shared-slice-read-if6
+shared-slice-read-if6 c = let h = rw (c .before .before .before .before .before .if3 .left) at (c .before .before .before .before .before .before .before .before .before .before .pre) in omega arith
+
+add-t17 : tie.Need-add-t17
+add-t17 c = search needs
 
 returns-6 : tie.Need-returns-6
-unfolding locationCheck must pick
-returns-6 c = search (lt-ltb, le-ltb, le-leb, lt-leb, eq-eqb, ne-eqb)
+unfolding locationCheck locationZeros must
+returns-6 c = rw (c .before .before .before .before .before .before .if3 .left) (search tests)
 
-add-u32-at : tie.Need-add-u32-at
-add-u32-at c = search needs
+add-pool-3 : tie.Need-add-pool-3
+add-pool-3 c = search needs
 
-u32-at-requires : tie.Need-u32-at-requires
-u32-at-requires c κs = search needs
+add-pool-4 : tie.Need-add-pool-4
+add-pool-4 c = search needs
+
+pool-requires-2 : tie.Need-pool-requires-2
+pool-requires-2 c κs = let h = rw (c .before .before .before .before .before .before .if3 .left) at (c .before .before .before .before .before .before .before .before .before .before .before .pre) in omega arith
 
 returns-7 : tie.Need-returns-7
-unfolding locationCheck must pick
-returns-7 c = rw (← c .before .u32-at .ensures) (search (lt-ltb, le-ltb, le-leb, lt-leb, eq-eqb, ne-eqb))
-
-returns-8 : tie.Need-returns-8
-unfolding locationCheck must pick
-returns-8 c = rw (← c .before .before .u32-at .ensures) (search (lt-ltb, le-ltb, le-leb, lt-leb, eq-eqb, ne-eqb))
-
-add-t9 : tie.Need-add-t9
-add-t9 c = search needs
-
-returns-9 : tie.Need-returns-9
-unfolding locationCheck must pick
-returns-9 c = rw (← c .before .before .u32-at .ensures) (search (lt-ltb, le-ltb, le-leb, lt-leb, eq-eqb, ne-eqb))
+unfolding locationCheck locationZeros must
+returns-7 c = rw (c .pool2 .ensures, c .before .before .before .before .before .before .before .if3 .left) (search tests)
 
 pub location-spec : {M : Type 1} → statement M
 location-spec =
@@ -90,9 +90,9 @@ location-spec =
     shared-slice-read-kind
     returns
     returns-2
-    add-if3
-    shared-slice-read-if3
-    add-t11
+    add-pool
+    add-pool-2
+    pool-requires
     returns-3
     add-if4
     shared-slice-read-if4
@@ -102,11 +102,11 @@ location-spec =
     shared-slice-read-if5
     add-t15
     returns-5
-    add-t16
+    add-if6
+    shared-slice-read-if6
+    add-t17
     returns-6
-    add-u32-at
-    u32-at-requires
-    returns-7
-    returns-8
-    add-t9
-    returns-9)
+    add-pool-3
+    add-pool-4
+    pool-requires-2
+    returns-7)

@@ -1,6 +1,7 @@
 use borrow.Author.Needs.{needs}
 use native.Mathlib.Omega.{arith}
 use Prim.Native.Nat.{_+_, _*_, _≤_}
+use mathlib.Core.Bool.{false}
 use lib.ListN.{length}
 use Rattle.stackmap.specs.Fields.{many}
 use Rattle.stackmap.specs.Section.{readFunction, counted}
@@ -9,7 +10,7 @@ use Rattle.stackmap.proofs.tables.counts_add_up.Statement.{statement}
 use Rattle.stackmap.proofs.tables.counts_add_up.Tie as tie
 
 abbrev Inv-loop : tie.InvT-loop
-Inv-loop s functions total f₀ left₀ rest₀ f left rest = (f + 24 * left ≤ length s) × Adding readFunction 24 s (counted (many readFunction 24 functions s 16)) total f left rest
+Inv-loop s functions total f₀ left₀ rest₀ f left rest = (f + 24 * left ≤ length s) × Adding (readFunction false) 24 s (counted (many (readFunction false) 24 functions s 16)) total f left rest
 
 abbrev μ-loop : tie.MeasureT-loop
 μ-loop s functions total f₀ left₀ rest₀ f left rest = left

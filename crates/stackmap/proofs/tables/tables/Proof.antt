@@ -1,7 +1,14 @@
-use Rattle.stackmap.specs.Check.{tablesCheck}
-use Rattle.stackmap.specs.Section.{readFunctions}
+use native.Mathlib.Omega.{arith}
+use Prim.Native.Nat.{_*_, _-_, _/_, _≤_}
+use lib.ListN.{length}
+use mathlib.Core.Path.{_≡_, sym, ap, _∙_}
+use mathlib.Core.Bool.{false}
+use Rattle.stackmap.specs.Layout.{functionSize}
+use Rattle.stackmap.specs.Check.{countsRight, tablesCheck}
+use Rattle.stackmap.specs.Section.{numRecords, isOld, readFunctions}
 use Rattle.stackmap.specs.Verdict.{must}
 use Rattle.stackmap.proofs.Tests.{tests}
+use Rattle.stackmap.proofs.Steps.{times-most, function-least, functions-most}
 use borrow.Author.Needs.{needs}
 use Rattle.stackmap.proofs.tables.tables.Statement.{statement}
 use Rattle.stackmap.proofs.tables.tables.Tie as tie
@@ -24,24 +31,37 @@ u32-at-requires-3 c κs = search needs
 cast-records : tie.Need-cast-records
 cast-records c = search needs
 
+is-old-requires : tie.Need-is-old-requires
+is-old-requires c κs = search needs
+
+function-size-requires : tie.Need-function-size-requires
+function-size-requires c κs = search needs
+
 mul-after : tie.Need-mul-after
-mul-after c = search needs
+mul-after c = let h = times-most _ 24 (c .before .before .before .before .u32-at .result) (c .function-size .ensures .1) in search needs
 
 add-after : tie.Need-add-after
-add-after c = search needs
+add-after c = let h = times-most _ 24 (c .before .before .before .before .u32-at .result) (c .function-size .ensures .1) in search needs
 
-sub-t11 : tie.Need-sub-t11
-sub-t11 c = search needs
+sub-t12 : tie.Need-sub-t12
+sub-t12 c = search needs
 
-mul-t13 : tie.Need-mul-t13
-mul-t13 c = search needs
+div-t13 : tie.Need-div-t13
+div-t13 c = let h = function-least (c .before .before .is-old .result) in omega (arith, c .before .function-size .ensures .0)
 
-add-t14 : tie.Need-add-t14
-add-t14 c = search needs
+-- the functions that are wholly inside take no more than there is
+whole : (c : tie.Then1) → c .before .function-size .result * ((length (c .before .before .before .before .before .before .before .args .s .now) - 16) / c .before .function-size .result) ≤ length (c .before .before .before .before .before .before .before .args .s .now) - 16
+whole c = rw (c .before .function-size .ensures .0) (functions-most (c .before .before .is-old .result) (length (c .before .before .before .before .before .before .before .args .s .now) - 16))
+
+mul-t14 : tie.Need-mul-t14
+mul-t14 c = let h = whole c in omega arith
+
+add-t15 : tie.Need-add-t15
+add-t15 c = let h = whole c in omega arith
 
 returns : tie.Need-returns
 unfolding tablesCheck must
-returns c = rw (← c .before .before .before .u32-at .ensures, ← c .before .before .u32-at2 .ensures, ← c .before .u32-at3 .ensures) (search tests)
+returns c = rw (← c .before .before .before .before .before .u32-at .ensures, ← c .before .before .is-old .ensures, ← c .before .function-size .ensures .0) (search tests)
 
 mul-end : tie.Need-mul-end
 mul-end c = search needs
@@ -49,29 +69,53 @@ mul-end c = search needs
 add-end : tie.Need-add-end
 add-end c = search needs
 
-sub-t16 : tie.Need-sub-t16
-sub-t16 c = search needs
+sub-t17 : tie.Need-sub-t17
+sub-t17 c = search needs
 
-mul-t18 : tie.Need-mul-t18
-mul-t18 c = search needs
+mul-t19 : tie.Need-mul-t19
+mul-t19 c = search needs
 
-add-t19 : tie.Need-add-t19
-add-t19 c = search needs
+add-t20 : tie.Need-add-t20
+add-t20 c = search needs
 
 returns-2 : tie.Need-returns-2
 unfolding tablesCheck must
-returns-2 c = rw (← c .before .before .before .before .u32-at .ensures, ← c .before .before .before .u32-at2 .ensures, ← c .before .before .u32-at3 .ensures) (search tests)
+returns-2 c = rw (← c .before .before .before .before .before .before .u32-at .ensures, ← c .before .before .before .before .before .u32-at2 .ensures, ← c .before .before .before .is-old .ensures, ← c .before .before .function-size .ensures .0) (search tests)
 
-counts-add-up-requires : tie.Need-counts-add-up-requires
-counts-add-up-requires c κs = search needs
+is-old-requires-2 : tie.Need-is-old-requires-2
+is-old-requires-2 c κs = search needs
 
 returns-3 : tie.Need-returns-3
-unfolding tablesCheck must readFunctions
-returns-3 c = rw (← c .before .before .before .before .before .before .u32-at .ensures, ← c .before .before .before .before .before .u32-at2 .ensures, ← c .before .before .before .before .u32-at3 .ensures, ← c .before .counts-add-up .ensures, c .if3 .taken) (search tests)
+unfolding tablesCheck countsRight must
+returns-3 c =
+    let v = c .before .before .before .before .before .is-old .ensures ∙ sym (c .before .is-old2 .ensures) ∙ c .if3 .taken in
+    rw (← c .before .before .before .before .before .before .before .before .u32-at .ensures, ← c .before .before .before .before .before .before .before .u32-at2 .ensures, ← c .before .before .before .before .before .is-old .ensures, ← c .before .before .before .before .function-size .ensures .0, v) (search tests)
+
+counts-add-up-requires : tie.Need-counts-add-up-requires
+counts-add-up-requires c κs =
+    let w : c .before .before .before .before .function-size .result ≡ 24 = c .before .before .before .before .function-size .ensures .0 ∙ ap functionSize (c .before .before .before .before .before .is-old .ensures ∙ sym (c .before .is-old2 .ensures) ∙ c .if3 .left) in
+    let h = rw w at (c .before .before .before .if1 .left) in omega arith
+
+-- version 3's test of the record counts
+counts :
+    (c : tie.After-counts-add-up) →
+    countsRight (isOld (c .before .before .before .before .before .before .before .before .before .before .before .args .s .now)) (readFunctions (c .before .before .before .before .before .before .before .before .before .before .before .args .s .now)) (numRecords (c .before .before .before .before .before .before .before .before .before .before .before .args .s .now)) ≡ c .counts-add-up .result
+unfolding countsRight readFunctions
+counts c =
+    let v : isOld (c .before .before .before .before .before .before .before .before .before .before .before .args .s .now) ≡ false = sym (c .before .before .is-old2 .ensures) ∙ c .before .if3 .left in
+    rw (v, ← c .before .before .before .before .before .before .before .before .before .u32-at .ensures, ← c .before .before .before .before .before .before .before .u32-at3 .ensures, ← c .counts-add-up .ensures)
 
 returns-4 : tie.Need-returns-4
-unfolding tablesCheck must readFunctions
-returns-4 c = rw (← c .before .before .before .before .before .before .u32-at .ensures, ← c .before .before .before .before .before .u32-at2 .ensures, ← c .before .before .before .before .u32-at3 .ensures, ← c .before .counts-add-up .ensures, c .if3 .left) (search tests)
+unfolding tablesCheck must
+returns-4 c =
+    let k = counts (c .before) in
+    rw (k, c .if4 .taken, ← c .before .before .before .before .before .before .before .before .before .before .u32-at .ensures, ← c .before .before .before .before .before .before .before .before .before .u32-at2 .ensures, ← c .before .before .before .before .before .before .before .is-old .ensures, ← c .before .before .before .before .before .before .function-size .ensures .0) (search tests)
+
+returns-5 : tie.Need-returns-5
+unfolding tablesCheck must
+returns-5 c =
+    let k = counts (c .before) in
+    rw (k, c .if4 .left, ← c .before .before .before .before .before .before .before .before .before .before .u32-at .ensures, ← c .before .before .before .before .before .before .before .before .before .u32-at2 .ensures, ← c .before .before .before .before .before .before .before .is-old .ensures, ← c .before .before .before .before .before .before .function-size .ensures .0) (search tests)
 
 pub tables-spec : {M : Type 1} → statement M
 tables-spec =
@@ -83,18 +127,23 @@ tables-spec =
     cast-constants
     u32-at-requires-3
     cast-records
+    is-old-requires
+    function-size-requires
     mul-after
     add-after
-    sub-t11
-    mul-t13
-    add-t14
+    sub-t12
+    div-t13
+    mul-t14
+    add-t15
     returns
     mul-end
     add-end
-    sub-t16
-    mul-t18
-    add-t19
+    sub-t17
+    mul-t19
+    add-t20
     returns-2
-    counts-add-up-requires
+    is-old-requires-2
     returns-3
-    returns-4)
+    counts-add-up-requires
+    returns-4
+    returns-5)

@@ -8,10 +8,10 @@ use Rattle.stackmap.proofs.walk.all_records.Statement.{statement}
 use Rattle.stackmap.proofs.walk.all_records.Tie as tie
 
 abbrev Inv-loop : tie.InvT-loop
-Inv-loop s at constants remaining₀ turn₀ p₀ remaining turn p = Walking s constants at (turn .next) (turn .left) remaining p
+Inv-loop s at constants remaining₀ old turn₀ p₀ remaining turn p = Walking s constants at (turn .next) (turn .left) remaining p
 
 abbrev μ-loop : tie.MeasureT-loop
-μ-loop s at constants remaining₀ turn₀ p₀ remaining turn p = remaining
+μ-loop s at constants remaining₀ old turn₀ p₀ remaining turn p = remaining
 
 u32-at-requires : tie.Need-u32-at-requires Inv-loop μ-loop
 u32-at-requires c κs = let w = c .before .pre .0 .inside in omega arith
@@ -19,35 +19,47 @@ u32-at-requires c κs = let w = c .before .pre .0 .inside in omega arith
 u32-at-requires-2 : tie.Need-u32-at-requires-2 Inv-loop μ-loop
 u32-at-requires-2 c κs = let w = c .before .before .pre .0 .inside in omega arith
 
+is-old-requires : tie.Need-is-old-requires Inv-loop μ-loop
+is-old-requires c κs = let w = c .before .before .before .pre .0 .inside in omega arith
+
+start-requires : tie.Need-start-requires Inv-loop μ-loop
+start-requires c κs = (c .is-old .ensures, c .before .before .before .before .pre .0)
+
 loop-holds : tie.Need-loop-holds Inv-loop μ-loop
-loop-holds c = rw (c .u32-at2 .ensures) (walk-start (c .before .before .before .pre .0) (c .before .before .before .pre .1))
+loop-holds c = rw (c .before .before .u32-at2 .ensures) (walk-start (c .before .before .before .before .before .pre .0) (c .before .before .before .before .before .pre .1) (c .start .ensures .0) (c .start .ensures .1))
 
 owner-requires : tie.Need-owner-requires Inv-loop μ-loop
 owner-requires c κs =
     let w = c .before .loop .inv in
     let n = w .counted in
-    (c .before .before .before .before .before .pre .0 .inside, w .turning, omega arith)
+    (c .before .before .before .before .before .before .before .pre .0 .inside, w .turning, omega arith)
 
 sub-record-at : tie.Need-sub-record-at Inv-loop μ-loop
 sub-record-at c = search needs
 
 record-at-requires : tie.Need-record-at-requires Inv-loop μ-loop
 record-at-requires c κs =
-    let w = c .before .before .loop .inv in
-    (c .before .before .before .before .before .before .pre .0 .inside, omega arith, w .inside)
+    let m = c .owner .ensures .3 in
+    (c .before .before .before .before .is-old .ensures, c .before .before .before .before .before .before .before .before .pre .0 .inside, λ v. let h = m v in omega arith, c .before .before .loop .inv .inside)
 
 enum-known-n : tie.Need-enum-known-n Inv-loop μ-loop
 enum-known-n c = search needs
 
 returns : tie.Need-returns Inv-loop μ-loop
 unfolding bind
-returns c = rw (← c .before .before .before .before .before .before .before .before .u32-at .ensures, walk-here (c .before .before .before .before .owner .result .next) (c .before .before .before .before .owner .result .left) (c .before .before .before .before .before .before .loop .inv) (c .before .before .before .before .owner .ensures .0) (c .before .before .before .before .owner .ensures .1), ← c .before .before .before .record-at .ensures, c .before .n .given .1)
+returns c =
+    rw (
+      ← c .before .before .before .before .before .before .before .before .before .before .u32-at .ensures,
+      walk-here (c .before .before .before .before .owner .result .next) (c .before .before .before .before .owner .result .left) (c .before .before .before .before .before .before .loop .inv) (c .before .before .before .before .owner .ensures .0) (c .before .before .before .before .owner .ensures .1),
+      ← c .before .before .before .record-at .ensures,
+      c .before .n .given .1,
+    )
 
 enum-known-end : tie.Need-enum-known-end Inv-loop μ-loop
 enum-known-end c = search needs
 
-sub-t15 : tie.Need-sub-t15 Inv-loop μ-loop
-sub-t15 c = search needs
+sub-t16 : tie.Need-sub-t16 Inv-loop μ-loop
+sub-t16 c = search needs
 
 sub-remaining : tie.Need-sub-remaining Inv-loop μ-loop
 sub-remaining c = search needs
@@ -61,7 +73,7 @@ loop-again c =
     (c .before .before .before .before .before .owner .ensures .2) (c .before .before .before .before .before .owner .ensures .3) (sym (c .before .before .before .before .record-at .ensures) ∙ c .before .before .end .given .1)
 
 returns-2 : tie.Need-returns-2 Inv-loop μ-loop
-returns-2 c = sym (rw (← c .before .before .before .u32-at .ensures) (walk-end (c .before .loop .inv) (omega arith)))
+returns-2 c = sym (rw (← c .before .before .before .before .before .u32-at .ensures) (walk-end (c .before .loop .inv) (omega arith)))
 
 pub all-records-spec : {M : Type 1} → statement M
 all-records-spec =
@@ -71,6 +83,8 @@ all-records-spec =
     μ-loop
     u32-at-requires
     u32-at-requires-2
+    is-old-requires
+    start-requires
     loop-holds
     owner-requires
     sub-record-at
@@ -78,7 +92,7 @@ all-records-spec =
     enum-known-n
     returns
     enum-known-end
-    sub-t15
+    sub-t16
     sub-remaining
     loop-less
     loop-again
