@@ -1,16 +1,19 @@
 -- One turn of each definition that counts down, at a count that is above 0.
-use Prim.Native.Nat.{ℕ, zero, suc, _+_, _*_, _-_, _<_}
-use mathlib.Core.Path.{_≡_}
+use Prim.Native.Nat.{ℕ, zero, suc, _+_, _*_, _-_, _≤_, _<_}
+use mathlib.Core.Path.{_≡_, sym}
+use mathlib.Core.Bool.{false}
 use mathlib.Core.List.{List, _∷_, _++_}
 use native.Mathlib.Omega.{arith}
 use native.Mathlib.Nat.{mul-suc}
 use native.Mathlib.Numerals.{add-one}
+use borrow.Author.Tests.{ne-eqb}
 use lib.ListN.{length, getD, replicate}
 use lib.Dec.{eqb}
 use Rattle.stackmap.specs.Verdict.{must, chain}
 use Rattle.stackmap.specs.Fields.{many}
 use Rattle.stackmap.specs.Section.{Function, owners, counted}
 use Rattle.stackmap.specs.Record.{zeros, locationCheck, locations, liveOuts}
+use Rattle.stackmap.proofs.Tests.{eqb-iff}
 
 back : (n : ℕ) → suc n - 1 ≡ n
 back n = omega arith
@@ -61,6 +64,25 @@ module _ (read : List ℕ → ℕ → Function) (step n : ℕ) (s : List ℕ) (a
   owners-step i h =
       let b : n - i - 1 ≡ n - (i + 1) = omega arith in
       rw (many-step read step (n - i) s at (omega arith), b, add-one)
+
+-- Record counts taken off a total, one function after the other: `left` functions from f are ahead, and `rest` is left.
+
+module _ (read : List ℕ → ℕ → Function) (step : ℕ) (s : List ℕ) (whole total : ℕ) where
+  pub record Adding (f left rest : ℕ) : Type 0 where
+    pub same : whole + rest ≡ total + counted (many read step left s f)
+
+module _ {read : List ℕ → ℕ → Function} {step : ℕ} {s : List ℕ} {whole total f left rest : ℕ} (a : Adding read step s whole total f left rest) where
+  -- the next count is k
+  module _ {k : ℕ} (e : k ≡ read s f .count) (h : 0 < left) where
+    pub add-over : rest < k → false ≡ eqb whole total
+    add-over o = let x = a .same in sym (ne-eqb whole total (λ z. omega (arith, counted-step read step left s f h)))
+
+    pub add-on : k ≤ rest → Adding read step s whole total (f + step) (left - 1) (rest - k)
+    add-on o = record { same = let x = a .same in omega (arith, counted-step read step left s f h) }
+
+  pub add-end : left ≡ 0 → eqb rest 0 ≡ eqb whole total
+  unfolding counted many
+  add-end z = let x = rw z at (a .same) in eqb-iff rest 0 whole total (λ h. omega arith) (λ h. omega arith)
 
 -- records are ahead only while functions are
 pub owners-some : (read : List ℕ → ℕ → Function) (step n : ℕ) (s : List ℕ) (at i : ℕ) → 0 < length (owners i (many read step n s at)) → 0 < n

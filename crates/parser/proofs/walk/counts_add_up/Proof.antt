@@ -1,26 +1,22 @@
 use borrow.Author.Needs.{needs}
-use borrow.Author.Tests.{ne-eqb}
 use native.Mathlib.Omega.{arith}
 use Prim.Native.Nat.{_+_, _*_, _≤_}
-use mathlib.Core.Path.{_≡_}
 use lib.ListN.{length}
-use Rattle.stackmap.specs.Fields.{many}
 use Rattle.stackmap.specs.Section.{counted}
-use Rattle.stackmap.proofs.Tests.{eqb-iff}
-use Rattle.stackmap.proofs.Steps.{counted-step}
+use Rattle.stackmap.proofs.Steps.{Adding, add-over, add-on, add-end}
 use Rattle.listing.specs.Listing.{listedFunction}
 use Rattle.parser.specs.Walk.{functionsOf}
 use Rattle.parser.proofs.walk.counts_add_up.Statement.{statement}
 use Rattle.parser.proofs.walk.counts_add_up.Tie as tie
 
 abbrev Inv-loop : tie.InvT-loop
-Inv-loop l functions total f₀ left₀ rest₀ f left rest = (f + 25 * left ≤ length l) × (counted (functionsOf l functions) + rest ≡ total + counted (many listedFunction 25 left l f))
+Inv-loop l functions total f₀ left₀ rest₀ f left rest = (f + 25 * left ≤ length l) × Adding listedFunction 25 l (counted (functionsOf l functions)) total f left rest
 
 abbrev μ-loop : tie.MeasureT-loop
 μ-loop l functions total f₀ left₀ rest₀ f left rest = left
 
 loop-holds : tie.Need-loop-holds Inv-loop μ-loop
-loop-holds c = search needs
+loop-holds c = (omega arith, record { same = omega arith })
 
 add-u64-at : tie.Need-add-u64-at Inv-loop μ-loop
 add-u64-at c = search needs
@@ -30,11 +26,7 @@ u64-at-requires c κs = search needs
 
 returns : tie.Need-returns Inv-loop μ-loop
 unfolding listedFunction
-returns c =
-    let a = c .before .before .before .before .before .args in
-    let p = c .before .before .before .loop in
-    let e = counted-step listedFunction 25 (p .left) (a .l .now) (p .f) (c .before .before .loop-test .taken) in
-    rw (ne-eqb (counted (functionsOf (a .l .now) (a .functions))) (a .total) (omega arith))
+returns c = add-over (c .before .before .before .loop .inv .1) (c .before .u64-at .ensures) (omega arith) (omega arith)
 
 add-f : tie.Need-add-f Inv-loop μ-loop
 add-f c = search needs
@@ -47,19 +39,10 @@ loop-less c = search needs
 
 loop-again : tie.Need-loop-again Inv-loop μ-loop
 unfolding listedFunction
-loop-again c =
-    let p = c .before .before .before .loop in
-    let e = counted-step listedFunction 25 (p .left) (c .before .before .before .before .before .args .l .now) (p .f) (c .before .before .loop-test .taken) in
-    (omega arith, omega arith)
+loop-again c = (omega arith, add-on (c .before .before .before .loop .inv .1) (c .before .u64-at .ensures) (omega arith) (omega arith))
 
 returns-2 : tie.Need-returns-2 Inv-loop μ-loop
-unfolding counted many
-returns-2 c =
-    let a = c .before .before .before .args in
-    let p = c .before .loop in
-    let none : p .left ≡ 0 = omega arith in
-    let e = rw none at (p .inv .1) in
-    eqb-iff (p .rest) 0 (counted (functionsOf (a .l .now) (a .functions))) (a .total) (λ h. omega arith) (λ h. omega arith)
+returns-2 c = add-end (c .before .loop .inv .1) (omega arith)
 
 pub counts-add-up-spec : {M : Type 1} → statement M
 counts-add-up-spec =

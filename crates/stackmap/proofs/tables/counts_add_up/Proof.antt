@@ -1,24 +1,21 @@
-use Rattle.stackmap.proofs.Tests.{eqb-iff}
 use borrow.Author.Needs.{needs}
-use borrow.Author.Tests.{ne-eqb}
 use native.Mathlib.Omega.{arith}
 use Prim.Native.Nat.{_+_, _*_, _≤_}
-use mathlib.Core.Path.{_≡_}
 use lib.ListN.{length}
 use Rattle.stackmap.specs.Fields.{many}
 use Rattle.stackmap.specs.Section.{readFunction, counted}
-use Rattle.stackmap.proofs.Steps.{counted-step}
+use Rattle.stackmap.proofs.Steps.{Adding, add-over, add-on, add-end}
 use Rattle.stackmap.proofs.tables.counts_add_up.Statement.{statement}
 use Rattle.stackmap.proofs.tables.counts_add_up.Tie as tie
 
 abbrev Inv-loop : tie.InvT-loop
-Inv-loop s functions total f₀ left₀ rest₀ f left rest = (f + 24 * left ≤ length s) × (counted (many readFunction 24 functions s 16) + rest ≡ total + counted (many readFunction 24 left s f))
+Inv-loop s functions total f₀ left₀ rest₀ f left rest = (f + 24 * left ≤ length s) × Adding readFunction 24 s (counted (many readFunction 24 functions s 16)) total f left rest
 
 abbrev μ-loop : tie.MeasureT-loop
 μ-loop s functions total f₀ left₀ rest₀ f left rest = left
 
 loop-holds : tie.Need-loop-holds Inv-loop μ-loop
-loop-holds c = search needs
+loop-holds c = (omega arith, record { same = omega arith })
 
 add-u64-at : tie.Need-add-u64-at Inv-loop μ-loop
 add-u64-at c = search needs
@@ -28,11 +25,7 @@ u64-at-requires c κs = search needs
 
 returns : tie.Need-returns Inv-loop μ-loop
 unfolding readFunction
-returns c =
-    let a = c .before .before .before .before .before .args in
-    let l = c .before .before .before .loop in
-    let e = counted-step readFunction 24 (l .left) (a .s .now) (l .f) (c .before .before .loop-test .taken) in
-    rw (ne-eqb (counted (many readFunction 24 (a .functions) (a .s .now) 16)) (a .total) (omega arith))
+returns c = add-over (c .before .before .before .loop .inv .1) (c .before .u64-at .ensures) (omega arith) (omega arith)
 
 add-f : tie.Need-add-f Inv-loop μ-loop
 add-f c = search needs
@@ -45,19 +38,10 @@ loop-less c = search needs
 
 loop-again : tie.Need-loop-again Inv-loop μ-loop
 unfolding readFunction
-loop-again c =
-    let l = c .before .before .before .loop in
-    let e = counted-step readFunction 24 (l .left) (c .before .before .before .before .before .args .s .now) (l .f) (c .before .before .loop-test .taken) in
-    (omega arith, omega arith)
+loop-again c = (omega arith, add-on (c .before .before .before .loop .inv .1) (c .before .u64-at .ensures) (omega arith) (omega arith))
 
 returns-2 : tie.Need-returns-2 Inv-loop μ-loop
-unfolding counted many
-returns-2 c =
-    let a = c .before .before .before .args in
-    let l = c .before .loop in
-    let none : l .left ≡ 0 = omega arith in
-    let e = rw none at (l .inv .1) in
-    eqb-iff (l .rest) 0 (counted (many readFunction 24 (a .functions) (a .s .now) 16)) (a .total) (λ h. omega arith) (λ h. omega arith)
+returns-2 c = add-end (c .before .loop .inv .1) (omega arith)
 
 pub counts-add-up-spec : {M : Type 1} → statement M
 counts-add-up-spec =
