@@ -26,11 +26,7 @@ u64-at-requires c κs = search needs
 
 returns : tie.Need-returns Inv-loop μ-loop
 unfolding listedFunction
-<<<<<<< HEAD
-returns c = add-over (c .before .before .before .loop .inv .1) (c .before .u64-at .ensures) (omega arith) (c .if1 .taken)
-=======
 returns c = add-over (c .before .before .before .loop .inv .1) (c .before .u64-at .ensures) (omega arith) (omega arith)
->>>>>>> once
 
 add-f : tie.Need-add-f Inv-loop μ-loop
 add-f c = search needs
