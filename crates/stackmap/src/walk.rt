@@ -36,15 +36,15 @@ pub fn owner(s: &[u8], turn: Turn) -> Turn
     Turn { next, left }
 }
 
-// The record at `at`, of a function at `address`.
-fn with_address(s: &[u8], old: bool, constants: u32, address: u64, at: usize) -> Verdict
-    requires { ⌜ at ≤ length (now s) ⌝ }
-    ensures { λ r. ⌜ r ≡ shift at (recordCheck old (drop at (now (s .entry))) constants address) ⌝ }
+// What a record's offset counts from: the address of its function, or 0 where it is nobody's.
+pub fn owner_address(s: &[u8], old: bool, function: usize) -> u64
+    requires { ⌜ (old ≡ isOld (now s)) × (constantsAt (now s) ≤ length (now s)) × (isOld (now s) ≡ false → function < numFunctions (now s)) ⌝ }
+    ensures { λ r. ⌜ r ≡ ownerAt (now (s .entry)) function .function .address ⌝ }
 {
-    match record::check_record(&s[at..], old, constants, address) {
-        Verdict::Refused(n, p) => Verdict::Refused(n, at + p),
-        Verdict::Valid(size) => Verdict::Valid(at + size),
+    if old {
+        return 0;
     }
+    wire::u64_at(s, layout::HEADER_SIZE + layout::FUNCTION_SIZE * function)
 }
 
 // The record at `at`, of function number `function`, or of nobody.
@@ -52,11 +52,11 @@ pub fn record_at(s: &[u8], old: bool, constants: u32, function: usize, at: usize
     requires { ⌜ (old ≡ isOld (now s)) × (constantsAt (now s) ≤ length (now s)) × (isOld (now s) ≡ false → function < numFunctions (now s)) × (at ≤ length (now s)) ⌝ }
     ensures { λ r. ⌜ r ≡ shift at (recordCheck (isOld (now (s .entry))) (drop at (now (s .entry))) constants (ownerAt (now (s .entry)) function .function .address)) ⌝ }
 {
-    if old {
-        return with_address(s, old, constants, 0, at);
+    let address = owner_address(s, old, function);
+    match record::check_record(&s[at..], old, constants, address) {
+        Verdict::Refused(n, p) => Verdict::Refused(n, at + p),
+        Verdict::Valid(size) => Verdict::Valid(at + size),
     }
-    let address = wire::u64_at(s, layout::HEADER_SIZE + layout::FUNCTION_SIZE * function);
-    with_address(s, old, constants, address, at)
 }
 
 // The turn before the first record: the first function is next, or all records are nobody's.

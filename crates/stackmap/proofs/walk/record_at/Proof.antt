@@ -1,52 +1,74 @@
--- Of the function whose number is given, or of nobody.
-use Prim.Native.Nat.{_+_, _*_, _≤_}
+-- The answer about the part from `at` on is said of the whole section.
+use Prim.Native.Nat.{_-_}
+use mathlib.Core.Path.{_≡_}
 use native.Mathlib.Omega.{arith}
-use lib.ListN.{length}
-use mathlib.Core.Path.{sym, _∙_}
-use Rattle.stackmap.specs.Section.{readFunction}
-use Rattle.stackmap.specs.Walk.{ownerBy}
+use lib.ListN.{length, drop, length-drop}
+use Rattle.stackmap.specs.Verdict.{shift}
+use Rattle.stackmap.specs.Section.{isOld}
+use Rattle.stackmap.specs.Record.{recordCheck}
+use Rattle.stackmap.specs.Walk.{ownerAt}
+use Rattle.stackmap.proofs.Within.{part-from, record-within, Within}
+use borrow.Author.Needs.{needs}
 use Rattle.stackmap.proofs.walk.record_at.Statement.{statement}
 use Rattle.stackmap.proofs.walk.record_at.Tie as tie
 
-with-address-requires : tie.Need-with-address-requires
-with-address-requires c κs = c .before .before .pre .3
+owner-address-requires : tie.Need-owner-address-requires
+owner-address-requires c κs = (c .before .pre .0, c .before .pre .1, c .before .pre .2)
+
+sub-check-record : tie.Need-sub-check-record
+sub-check-record c = search needs
+
+part-check-record-start : tie.Need-part-check-record-start
+part-check-record-start c = search needs
+
+part-check-record-end : tie.Need-part-check-record-end
+part-check-record-end c = search needs
+
+check-record-requires : tie.Need-check-record-requires
+check-record-requires c κs = let h = c .check-record-arg .given in search needs
+
+-- what the call says of the list from `at` on
+answer :
+    (c : tie.After-check-record) →
+    c .check-record .result
+    ≡ recordCheck (isOld (c .before .before .before .before .args .s .now)) (drop (c .before .before .before .before .args .at) (c .before .before .before .before .args .s .now)) (c .before .before .before .before .args .constants) (ownerAt (c .before .before .before .before .args .s .now) (c .before .before .before .before .args .function) .function .address)
+answer c = rw (← c .before .before .owner-address .ensures, ← c .before .before .before .before .pre .0) (rw part-from at (c .check-record .ensures))
+
+inside : (c : tie.After-check-record) → Within (length (c .before .before .before .before .args .s .now) - c .before .before .before .before .args .at) (c .check-record .result)
+inside c = rw (answer c, ← length-drop) (record-within _ _ _ _)
+
+enum-known-n : tie.Need-enum-known-n
+enum-known-n c = search needs
+
+add-t16 : tie.Need-add-t16
+add-t16 c = let w = (rw (c .before .n .given .1) at (inside (c .before .before .before))) .most in omega arith
+
+enum-known-size : tie.Need-enum-known-size
+enum-known-size c = search needs
+
+add-t17 : tie.Need-add-t17
+add-t17 c = let w = (rw (c .before .size .given .1) at (inside (c .before .before .before))) .most in omega arith
 
 returns : tie.Need-returns
-unfolding ownerBy
-returns c = rw (c .with-address .ensures, ← c .before .before .before .pre .0, c .before .if1 .taken)
-
--- the function is inside
-room : (c : tie.Else1) → 16 + 24 * (c .before .before .args .function + 1) ≤ length (c .before .before .args .s .now)
-room c =
-    let e = sym (c .before .before .pre .0) ∙ c .if1 .left in
-    let h = c .before .before .pre .2 e in
-    let i = rw e at (c .before .before .pre .1) in
-    omega arith
-
-mul-u64-at : tie.Need-mul-u64-at
-mul-u64-at c = let h = room c in omega arith
-
-add-u64-at : tie.Need-add-u64-at
-add-u64-at c = let h = room c in omega arith
-
-u64-at-requires : tie.Need-u64-at-requires
-u64-at-requires c κs = let h = room c in omega arith
-
-with-address-requires-2 : tie.Need-with-address-requires-2
-with-address-requires-2 c κs = c .before .before .before .pre .3
+unfolding shift
+returns c = rw (← answer (c .before .before .before), c .before .n .given .1)
 
 returns-2 : tie.Need-returns-2
-unfolding ownerBy readFunction
-returns-2 c = rw (c .with-address2 .ensures, ← c .before .before .before .before .pre .0, c .before .before .if1 .left, c .before .u64-at .ensures)
+unfolding shift
+returns-2 c = rw (← answer (c .before .before .before), c .before .size .given .1)
 
 pub record-at-spec : {M : Type 1} → statement M
 record-at-spec =
     tie.close
     (tie.spec
-    with-address-requires
+    owner-address-requires
+    sub-check-record
+    part-check-record-start
+    part-check-record-end
+    check-record-requires
+    enum-known-n
+    add-t16
+    enum-known-size
+    add-t17
     returns
-    mul-u64-at
-    add-u64-at
-    u64-at-requires
-    with-address-requires-2
     returns-2)
