@@ -198,3 +198,23 @@ fn pushed_arguments_hide_the_frames_above() {
     assert!(ended.last.starts_with("lost after 3 frames: "), "{ended}");
     run(&PUSHED, Mover::Library, "1").assert_right(1);
 }
+
+/// What `./demo` shows.
+#[test]
+fn the_short_report_tells_both_ends() {
+    for program in &PROGRAMS {
+        let ran = Command::new(env!("CARGO_BIN_EXE_live"))
+            .args(["brief", program.name])
+            .output()
+            .expect("the program can be started");
+        let said = String::from_utf8(ran.stdout).unwrap();
+        assert!(ran.status.success(), "{said}");
+        for words in [
+            "9 frames wait on its stack, with ",
+            "comes to 0xc12dea0c01d34f7b, as it does without a stop.",
+            "without the move: it touched the old heap and died, signal: 11",
+        ] {
+            assert!(said.contains(words), "{said}");
+        }
+    }
+}
