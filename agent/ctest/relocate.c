@@ -2,6 +2,7 @@
  * Moves frames from C: the worked rows I to L, and those beside them that are refused or at a limit.
  */
 #include "rows.h"
+#include "tally.h"
 #include "treskibben.h"
 
 #include <inttypes.h>
@@ -169,6 +170,5 @@ int main(void)
     passed += (size_t)passes_with(255, 0);
     passed += (size_t)passes_with(256, 0);
     passed += (size_t)passes_with(257, 17);
-    printf("%zu passed, %zu failed\n", passed, count - passed);
-    return passed == count ? EXIT_SUCCESS : EXIT_FAILURE;
+    return tally(passed, count);
 }

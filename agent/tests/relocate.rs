@@ -21,7 +21,7 @@ mod shapes;
 mod worked;
 
 use calls::{Call, Outcome};
-use common::{count_parts, say, seed};
+use common::{count_random, say};
 use generator::frames::faults::{aim, NUMBERS};
 use generator::frames::{plain, Scene};
 use generator::{aimed, damage, valid, Rng};
@@ -168,12 +168,7 @@ fn accepted(scene: &Scene, call: &Call, outcome: &Outcome) {
 
 #[test]
 fn random_frames() {
-    let seed = seed("random frames");
-    let counts = count_parts(seed, PARTS, |rng, counts: &mut Counts| {
-        for _ in 0..FRAMES_A_PART {
-            run(rng, counts);
-        }
-    });
+    let counts = count_random("random frames", PARTS, FRAMES_A_PART, run);
     let (numbers, shapes) = counts.split_at(22);
     let frames: u64 = numbers.iter().sum();
     say(&format!("{frames} frames, {} accepted", numbers[0]));

@@ -2,7 +2,7 @@
 //! it is on the starting image, and the image comes out as worked out from it.
 
 use crate::calls::{Call, Outcome};
-use crate::common::{count_parts, say, seed};
+use crate::common::{count_random, say};
 use generator::frames::faults::aim;
 use generator::frames::{plain, shuffle, Scene};
 use generator::Rng;
@@ -145,12 +145,7 @@ fn list(rng: &mut Rng, counts: &mut Counts) {
 
 #[test]
 fn random_lists() {
-    let seed = seed("lists of moves");
-    let counts = count_parts(seed, PARTS, |rng, counts: &mut Counts| {
-        for _ in 0..LISTS_A_PART {
-            list(rng, counts);
-        }
-    });
+    let counts = count_random("lists of moves", PARTS, LISTS_A_PART, list);
     say(&format!(
         "lists, moves, accepted moves, lists with a refusal, frames of one record: {counts:?}"
     ));
