@@ -7,7 +7,7 @@
 
 mod common;
 
-#[path = "relocate/calls.rs"]
+#[path = "common/calls.rs"]
 mod calls;
 #[path = "relocate/limits.rs"]
 mod limits;
@@ -26,6 +26,7 @@ use generator::frames::faults::{aim, NUMBERS};
 use generator::frames::{plain, Scene};
 use generator::{aimed, damage, valid, Rng};
 use shapes::SHAPES;
+use treskibben::Frame;
 
 /// Frames in a run, made in parts that each have a source of random numbers.
 const PARTS: u64 = 1_000;
@@ -142,7 +143,7 @@ fn run(rng: &mut Rng, counts: &mut Counts) {
 
 /// What holds of an accepted frame: the count, the image, and how far each pointer is from its base
 /// where the base is moved too.
-fn accepted(scene: &Scene, call: &Call, outcome: &Outcome) {
+fn accepted(scene: &Scene, call: &Call<Frame>, outcome: &Outcome) {
     let slots = plain::slots(scene, 0);
     if outcome.count != slots.len() as u64 || outcome.image != plain::moved(scene, [0]) {
         call.fail(&format!(

@@ -1,16 +1,18 @@
 //! Stopped frames: sections with statepoints, the image of a stack with frames on it, and a move
 //! table. A scene is made whole, so that every frame of it is accepted; [`faults`] aims at the
-//! refusals of a frame, and [`plain`] says what becomes of the image.
+//! refusals of a frame, [`guests`] adds frames that share bytes with others, and [`plain`] says how a
+//! frame is answered and what becomes of the image. [`thread`] makes lists of frames.
 
 mod building;
 mod cells;
 pub mod faults;
 mod functions;
+pub mod guests;
 pub mod plain;
 mod table;
+pub mod thread;
 
 use crate::layout::Section;
-use crate::questions::addresses;
 use crate::rng::Rng;
 pub use table::Table;
 
@@ -20,6 +22,8 @@ pub const MOST_IMAGE: usize = 1_048_576;
 pub const MOST_MOVES: usize = 65_536;
 /// The most pairs of a statepoint.
 pub const MOST_PAIRS: usize = 256;
+/// The most frames of a thread.
+pub const MOST_FRAMES: usize = 4_096;
 
 /// The DWARF numbers of the two registers.
 pub(crate) const RBP: u16 = 6;
@@ -85,20 +89,10 @@ impl Scene {
     pub fn of(rng: &mut Rng, table: Table, sizes: &[Size]) -> Scene {
         let noise = functions::noise(rng);
         loop {
-            let scene = building::build(rng, &table, sizes, &noise);
-            if let Some(scene) = scene.filter(Scene::addresses_differ) {
+            if let Some(scene) = building::build(rng, &table, sizes, &noise) {
                 return scene;
             }
         }
-    }
-
-    /// Whether no record but a frame's own has its address.
-    fn addresses_differ(&self) -> bool {
-        let alone = |stop: &Stop| {
-            let sharing = addresses(&self.section).filter(|(_, own)| *own == stop.address);
-            sharing.count() == 1
-        };
-        self.stops.iter().all(alone)
     }
 
     /// The place of a frame's first byte in the image, as a whole number.

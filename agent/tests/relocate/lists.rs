@@ -3,7 +3,7 @@
 
 use crate::calls::{Call, Outcome};
 use crate::common::{count_random, say};
-use generator::frames::faults::aim;
+use generator::frames::faults::scatter;
 use generator::frames::{plain, shuffle, Scene};
 use generator::Rng;
 
@@ -11,29 +11,8 @@ use generator::Rng;
 const PARTS: u64 = 200;
 const LISTS_A_PART: u64 = 40;
 
-/// The faults that one frame of several may have.
-const FAULTS: [u64; 9] = [10, 12, 15, 16, 17, 18, 19, 20, 21];
-
 /// Lists, moves, accepted moves, lists with a refused frame, and frames that share a record.
 type Counts = [u64; 5];
-
-/// Frames on a stack, some of them with faults.
-fn scene(rng: &mut Rng, count: usize) -> Scene {
-    let mut scene = Scene::many(rng, count);
-    let mut faulty: Vec<usize> = Vec::new();
-    for stop in 0..count {
-        let record = scene.stops[stop].record;
-        let fresh = faulty
-            .iter()
-            .all(|other| scene.stops[*other].record != record);
-        if fresh && rng.one_in(4) {
-            let number = rng.pick(&FAULTS);
-            aim(rng, number, &mut scene, stop);
-            faulty.push(stop);
-        }
-    }
-    scene
-}
 
 /// Whether no two frames have extents that share a byte.
 fn apart(scene: &Scene, section: &[u8]) -> bool {
@@ -105,7 +84,8 @@ fn list(rng: &mut Rng, counts: &mut Counts) {
         0 => 6 + rng.below(10),
         _ => rng.below(6),
     };
-    let scene = scene(rng, count);
+    let mut scene = Scene::many(rng, count);
+    scatter(rng, &mut scene, 4);
     let section = scene.section.encode();
     if !apart(&scene, &section) {
         return;

@@ -2,9 +2,10 @@
 //! its statepoint, and last the functions are put into a section.
 
 use super::cells::Cells;
-use super::functions::{self, Group};
+use super::functions::{self, Group, Taken};
 use super::{shuffle, Scene, Size, Stop, Table};
 use crate::layout::Section;
+use crate::questions::addresses;
 use crate::rng::Rng;
 use std::ops::Range;
 
@@ -74,6 +75,7 @@ struct Building<'a> {
     image: Vec<u8>,
     first: u64,
     groups: Vec<Group>,
+    taken: Taken,
     /// RBP minus RSP of each frame, modulo 2^64.
     distances: Vec<u64>,
 }
@@ -99,6 +101,10 @@ pub(super) fn build(
         first: first_address(rng, image.len()),
         image,
         groups: functions::groups_of(noise),
+        taken: Taken::new(
+            addresses(noise).map(|(_, address)| address),
+            std::iter::empty(),
+        ),
         distances: Vec::new(),
     };
     for (nth, frame) in frames.iter().enumerate() {
@@ -118,7 +124,6 @@ impl Building<'_> {
     fn stand(&mut self, rng: &mut Rng, frame: &Laid) -> u64 {
         let rsp = self.first + frame.at as u64;
         let mut record = functions::statepoint(rng, &self.constants);
-        let function = functions::function(rng, frame.cells.length as u64);
         let rbp = frame.cells.rbp(rng, rsp);
         frame.cells.pairs(
             rng,
@@ -129,7 +134,8 @@ impl Building<'_> {
             self.table,
             &mut record,
         );
-        let group = functions::group(rng, function, record, frame.of);
+        let length = frame.cells.length as u64;
+        let group = functions::standing(rng, length, &record, frame.of, &mut self.taken);
         self.groups.push(group);
         rbp.wrapping_sub(rsp)
     }
@@ -180,12 +186,11 @@ impl Building<'_> {
 fn place(rng: &mut Rng, scene: &mut Scene, mut groups: Vec<Group>) {
     shuffle(rng, &mut groups);
     for group in groups {
-        for stop in group.stops {
-            let record = &group.records[group.at];
-            let stop = &mut scene.stops[stop];
+        for stop in &group.stops {
+            let stop = &mut scene.stops[*stop];
             stop.record = scene.section.records.len() + group.at;
             stop.function = scene.section.functions.len();
-            stop.address = group.function.address + u64::from(record.offset);
+            stop.address = group.address();
         }
         scene.section.functions.push(group.function);
         scene.section.records.extend(group.records);

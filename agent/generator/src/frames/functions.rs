@@ -4,6 +4,7 @@ use super::RSP;
 use crate::layout::{Function, LiveOut, Location, Record, Section};
 use crate::rng::Rng;
 use crate::valid::{self, Shape};
+use std::collections::BTreeSet;
 
 /// A function of the section with its records, and the frames that stand at one of them.
 pub(super) struct Group {
@@ -12,6 +13,54 @@ pub(super) struct Group {
     /// The number of that record among these, and those of the frames.
     pub(super) at: usize,
     pub(super) stops: Vec<usize>,
+}
+
+impl Group {
+    /// The addresses of the records.
+    fn addresses(&self) -> impl Iterator<Item = u64> + '_ {
+        let start = self.function.address;
+        let offsets = self.records.iter().map(|record| record.offset);
+        offsets.map(move |offset| start + u64::from(offset))
+    }
+
+    /// The address of the record that frames stand at.
+    pub(super) fn address(&self) -> u64 {
+        self.function.address + u64::from(self.records[self.at].offset)
+    }
+}
+
+/// The addresses that records have, and those of them at which frames stand: these have to be the
+/// address of one record only.
+#[derive(Default)]
+pub(super) struct Taken {
+    all: BTreeSet<u64>,
+    stops: BTreeSet<u64>,
+}
+
+impl Taken {
+    /// The addresses of records and of frames.
+    pub(super) fn new(
+        records: impl Iterator<Item = u64>,
+        stops: impl Iterator<Item = u64>,
+    ) -> Taken {
+        Taken {
+            all: records.collect(),
+            stops: stops.collect(),
+        }
+    }
+
+    /// Adds a function with a statepoint for frames, unless an address would be there twice.
+    fn add(&mut self, group: &Group) -> bool {
+        let own = group.address();
+        let alone = group.addresses().filter(|other| *other == own).count() == 1;
+        let free = alone && !self.all.contains(&own);
+        if !free || group.addresses().any(|other| self.stops.contains(&other)) {
+            return false;
+        }
+        self.all.extend(group.addresses());
+        self.stops.insert(own);
+        true
+    }
 }
 
 /// Functions, constants and records that have nothing to do with the frames.
@@ -41,7 +90,7 @@ pub(super) fn groups_of(section: &Section) -> Vec<Group> {
     section.functions.iter().map(group).collect()
 }
 
-pub(super) fn function(rng: &mut Rng, stack_size: u64) -> Function {
+fn function(rng: &mut Rng, stack_size: u64) -> Function {
     let address = match rng.below(4) {
         0 => rng.number(22),
         1 => u64::MAX - rng.number(16),
@@ -54,13 +103,26 @@ pub(super) fn function(rng: &mut Rng, stack_size: u64) -> Function {
     }
 }
 
-/// A function with the statepoint and, sometimes, records before and after it.
-pub(super) fn group(
+/// A function of this stack size with the statepoint, whose address no other record has, and which is
+/// that of the frame of this number.
+pub(super) fn standing(
     rng: &mut Rng,
-    mut function: Function,
-    mut record: Record,
+    stack_size: u64,
+    record: &Record,
     stop: usize,
+    taken: &mut Taken,
 ) -> Group {
+    loop {
+        let function = function(rng, stack_size);
+        let group = group(rng, function, record.clone(), stop);
+        if taken.add(&group) {
+            return group;
+        }
+    }
+}
+
+/// A function with the statepoint and, sometimes, records before and after it.
+fn group(rng: &mut Rng, mut function: Function, mut record: Record, stop: usize) -> Group {
     let room = (u64::MAX - function.address).min(u64::from(u32::MAX)) as usize;
     record.offset = if rng.one_in(4) {
         room as u32
