@@ -92,7 +92,7 @@ pub fn brief(name: &str) -> Option<ExitCode> {
 /// What was moved at a stop.
 fn tell_stop(stop: &Stop) {
     let (frames, objects) = (stop.frames.len(), stop.objects.len());
-    let pairs: u64 = stop.counts.iter().sum();
+    let pairs = stop.pairs;
     println!("  {frames} frames wait on its stack, with {pairs} pairs of a base and a pointer derived from it.");
     println!("  The {objects} objects of its heap are copied elsewhere, and the old ones made unreadable.");
 }
@@ -122,12 +122,13 @@ fn show_stop(stop: &Stop) {
     println!("\nstop {}: {} frames", stop.number, stop.frames.len());
     show_starts("old", &stop.table.old);
     show_starts("new", &stop.table.new);
-    for (number, (stopped, count)) in stop.frames.iter().zip(&stop.counts).enumerate() {
+    for (number, stopped) in stop.frames.iter().enumerate() {
         println!(
-            "  frame {number}: {}, RSP {:#x}, size {}, {count} pairs",
+            "  frame {number}: {}, RSP {:#x}, size {}, {} pairs",
             function(stopped.site.id),
             stopped.frame.rsp,
             stopped.site.stack_size,
+            stopped.site.pairs.len(),
         );
         if stop.number == 0 {
             for &pair in &stopped.site.pairs {

@@ -113,10 +113,15 @@ fn moved_programs_come_to_the_right_checksum() {
 #[test]
 fn a_refused_restore_leaves_all_as_it_was() {
     for program in &PROGRAMS {
-        let ended = run(program, REFUSED, "0");
-        ended.assert_unmoved();
-        assert!(ended.last.starts_with("refused 21 at "), "{ended}");
-        assert!(ended.last.ends_with(", frame 6"), "{ended}");
+        let [short_table, twice] = REFUSED.map(|mover| run(program, mover, "0"));
+        short_table.assert_unmoved();
+        let last = &short_table.last;
+        assert!(last.starts_with("refused 21 at "), "{short_table}");
+        assert!(last.ends_with(", frame 6"), "{short_table}");
+        // The deepest frame once more, behind all others of its map.
+        twice.assert_unmoved();
+        assert!(twice.last.starts_with("refused 26 at "), "{twice}");
+        assert!(twice.last.ends_with(", frame 0"), "{twice}");
     }
 }
 
