@@ -9,6 +9,7 @@ mod measure;
 mod parser;
 mod section;
 mod svg;
+mod thread;
 mod words;
 
 use measure::{measure, ratio, table};
@@ -40,6 +41,7 @@ fn main() {
     rows(rounds, &bytes, &last);
     conversions::rows(rounds, &bytes);
     frame::rows(rounds, &bytes);
+    thread::rows(rounds, &bytes, LIMIT);
 }
 
 /// The last record: its number and its address, which is the highest.
