@@ -65,9 +65,17 @@ impl Size {
         let (cells, pairs) = match rng.below(40) {
             0 => (rng.below(80), MOST_PAIRS - rng.below(2)),
             1..=3 => (rng.below(40), rng.below(60)),
-            _ => (rng.pick(&[0, 1, 1, 2, 3, 4, 6, 9]), rng.below(8)),
+            _ => return Size::few(rng),
         };
         Size { cells, pairs }
+    }
+
+    /// A few pairs in a few slots.
+    pub fn few(rng: &mut Rng) -> Size {
+        Size {
+            cells: rng.pick(&[0, 1, 1, 2, 3, 4, 6, 9]),
+            pairs: rng.below(8),
+        }
     }
 }
 

@@ -274,3 +274,17 @@ fn short_long_and_empty_frames() {
         assert_eq!((outcome.number, outcome.place), (16, 4_000));
     }
 }
+
+/// The call needs less than 250 KiB of stack, whatever the list.
+#[test]
+fn a_thread_with_little_stack() {
+    const STACK: usize = 280 * 1024;
+    let thread = deep(MOST_FRAMES);
+    let (section, list) = (thread.scene.section.encode(), thread.list());
+    let expected = thread.moved();
+    let moved = move || Call::with(&thread.scene, &section, &list[..]).by_library();
+    let little = std::thread::Builder::new().stack_size(STACK).spawn(moved);
+    let outcome = little.expect("a thread").join().expect("no panic");
+    assert_eq!(outcome.count, 2 * MOST_FRAMES as u64);
+    assert!(outcome.image == expected);
+}

@@ -1,7 +1,7 @@
 //! Lists of frames that are moved in one call, and what the call answers.
 
 use super::guests::{self, Lie};
-use super::{faults, plain, shuffle, Scene, MOST_FRAMES};
+use super::{faults, plain, shuffle, Scene, Size, Table, MOST_FRAMES};
 use crate::rng::Rng;
 
 /// A list of frames of a scene.
@@ -34,7 +34,7 @@ impl Thread {
             2..=4 => 10 + rng.below(20),
             _ => 1 + rng.below(9),
         };
-        let mut scene = Scene::many(rng, count);
+        let mut scene = scene(rng, count);
         let (faulty, crowded) = rng.pick(&[
             (false, false),
             (true, false),
@@ -43,13 +43,7 @@ impl Thread {
             (true, true),
         ]);
         if crowded && count > 0 {
-            let apart = rng.one_in(3);
-            for _ in 0..1 + rng.below(4) {
-                let (lie, host) = (rng.pick(&Lie::ALL), rng.below(scene.stops.len()));
-                if !apart || !lie.shares() {
-                    guests::add(rng, &mut scene, lie, host);
-                }
-            }
+            crowd(rng, &mut scene);
         }
         if faulty {
             // In a long list mostly one frame, so that it may stand late.
@@ -127,5 +121,27 @@ impl Thread {
     /// The image after a list that is accepted.
     pub fn moved(&self) -> Vec<u8> {
         plain::moved(&self.scene, self.order.iter().copied())
+    }
+}
+
+/// So many frames. Many pairs take long to compare, so that few of the frames have many.
+fn scene(rng: &mut Rng, count: usize) -> Scene {
+    let table = Table::any(rng);
+    let size = |_| match rng.below(6) {
+        0 => Size::any(rng),
+        _ => Size::few(rng),
+    };
+    let sizes: Vec<Size> = (0..count).map(size).collect();
+    Scene::of(rng, table, &sizes)
+}
+
+/// Adds some guests to frames of the scene; now and then only such as share no byte with their host.
+fn crowd(rng: &mut Rng, scene: &mut Scene) {
+    let apart = rng.one_in(3);
+    for _ in 0..1 + rng.below(4) {
+        let (lie, host) = (rng.pick(&Lie::ALL), rng.below(scene.stops.len()));
+        if !apart || !lie.shares() {
+            guests::add(rng, scene, lie, host);
+        }
     }
 }
