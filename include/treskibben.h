@@ -314,7 +314,7 @@ treskibben_answer treskibben_relocate(const uint8_t *section, size_t length, uin
  *   0       all frames are moved                                     0
  *
  * A list of no frames is accepted, with 0 pairs. The section is not walked again for each frame. The
- * call needs about 250 KiB of stack; no other function needs more than about 17 KiB.
+ * call needs a little under 250 KiB of stack; no other function needs more than about 17 KiB.
  */
 treskibben_answer treskibben_thread(const uint8_t *section, size_t length, uint8_t *image,
                                     size_t image_length, uint64_t first,

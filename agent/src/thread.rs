@@ -126,7 +126,8 @@ impl Error for ThreadRefusal {}
 /// the image is the one that `relocate` leaves when it moves the frames one by one, in the order of the
 /// list or in any other. A list of no frames is accepted, with 0 pairs.
 ///
-/// The call needs about 250 KiB of stack, which a thread of [`std::thread`] has many times over.
+/// The call needs a little under 250 KiB of stack, which a thread of [`std::thread`] has many times
+/// over.
 ///
 /// # Errors
 ///

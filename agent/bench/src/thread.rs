@@ -7,6 +7,8 @@ use std::hint::black_box;
 use treskibben::{Frame, MoveTable};
 
 const CHECK: &str = "treskibben check";
+const FIND: &str = "question by address";
+const ALONE: &str = "the same frame moved by itself";
 const ONE: &str = "thread of one frame";
 const RISING: &str = "thread of 4,096 frames, addresses rising";
 const FALLING: &str = "thread of 4,096 frames, addresses falling";
@@ -57,10 +59,16 @@ fn on(rounds: usize, name: &str, bytes: &[u8]) {
             black_box(stack.moved(bytes, list, &mut image));
         }
     };
+    let mut image = stack.image.clone();
+    let mut alone = || {
+        let _ = black_box(treskibben::relocate(black_box(bytes), &mut image, STACK, stack.table(), one[0]));
+    };
     let rows = measure(
         rounds,
         &mut [
             (CHECK, &mut crate::on(bytes, treskibben::check)),
+            (FIND, &mut crate::on(bytes, |bytes| treskibben::find(bytes, black_box(one[0].address)))),
+            (ALONE, &mut alone),
             (ONE, &mut action(&one)),
             (RISING, &mut action(&rising)),
             (FALLING, &mut action(&falling)),
@@ -102,9 +110,12 @@ impl Stack {
         [falling[..1].to_vec(), rising, falling, mixed]
     }
 
+    fn table(&self) -> MoveTable<'_> {
+        MoveTable::new(&self.objects, &self.objects)
+    }
+
     fn moved(&self, section: &[u8], frames: &[Frame], image: &mut [u8]) -> usize {
-        let table = MoveTable::new(&self.objects, &self.objects);
-        let moved = treskibben::relocate_thread(black_box(section), image, STACK, table, frames);
+        let moved = treskibben::relocate_thread(black_box(section), image, STACK, self.table(), frames);
         moved.unwrap_or_else(|refusal| panic!("the library refuses the thread: {refusal}"))
     }
 }
