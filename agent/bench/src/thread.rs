@@ -1,7 +1,7 @@
 //! The move of a whole thread, of one frame and of as many as there may be, in several orders of the list: on the large
 //! section, and on one whose records are as short as they can be, so that most of them have to be looked up.
 
-use crate::measure::{measure, ratio, table};
+use crate::measure::{measure, say, table};
 use crate::section;
 use std::hint::black_box;
 use treskibben::{Frame, MoveTable};
@@ -77,9 +77,7 @@ fn on(rounds: usize, name: &str, bytes: &[u8]) {
     );
     println!("\n{}", table(&rows, &[CHECK]));
     for (row, most) in [(ONE, MOST_FOR_ONE), (RISING, MOST_FOR_ALL), (FALLING, MOST_FOR_ALL), (MIXED, MOST_FOR_ALL)] {
-        let ratio = ratio(&rows, row, CHECK);
-        let verdict = if ratio <= most { "reached" } else { "NOT reached" };
-        println!("{row}: {ratio:.3} of the check, at most {most} wanted: {verdict}");
+        say(&rows, row, CHECK, "the check", most);
     }
 }
 

@@ -25,9 +25,8 @@ fn expect(thread: &Thread) -> Outcome {
     outcome
 }
 
-/// A function that has called itself so often: frames of 24 bytes one above the other, all at one
-/// statepoint of two pairs, each with an object of its own.
-fn deep(frames: usize) -> Thread {
+/// A function with 24 bytes of stack and one statepoint of two pairs.
+fn one_statepoint() -> Section {
     let location = |kind, register, offset| Location {
         kind,
         size: 8,
@@ -36,7 +35,7 @@ fn deep(frames: usize) -> Thread {
     };
     let mut locations = vec![location(4, 0, 0); 3];
     locations.extend([8, 8, 8, 16].map(|offset| location(3, 7, offset)));
-    let section = Section {
+    Section {
         functions: vec![Function {
             address: 0x1000,
             stack_size: 24,
@@ -49,7 +48,12 @@ fn deep(frames: usize) -> Thread {
             locations,
             live_outs: Vec::new(),
         }],
-    };
+    }
+}
+
+/// The function has called itself so often: frames one above the other, all at the one statepoint, each
+/// with an object of its own.
+fn deep(frames: usize) -> Thread {
     let base = |nth: usize| 0x50000 + 0x40 * nth as u64;
     let slots = |nth: usize| [nth as u64, base(nth), base(nth) + 8];
     let words = (0..frames).flat_map(slots);
@@ -61,7 +65,7 @@ fn deep(frames: usize) -> Thread {
         function: 0,
     };
     Thread::of(Scene {
-        section,
+        section: one_statepoint(),
         image: words.flat_map(u64::to_le_bytes).collect(),
         first: 0x7000,
         table: Table {
