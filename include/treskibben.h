@@ -284,6 +284,44 @@ treskibben_answer treskibben_relocate(const uint8_t *section, size_t length, uin
                                       const uint64_t *new_starts, size_t new_count,
                                       treskibben_frame frame);
 
+/*
+ * Moves the pointers of a whole thread, all of its frames or none. `value` is the sum of the pairs
+ * that their statepoints list, null ones included.
+ *
+ * The frames are `frames_length` numbers at `frames`, three to a frame: address, RBP, RSP. An array of
+ * treskibben_frame is such a list, of three times as many numbers as it has frames. Positions in the
+ * list are counted from 0. Everything else is lent as to treskibben_relocate, and the list as its two
+ * lists are.
+ *
+ * A frame's extent is its part of the stack: the bytes from RSP on, as many as the stack size of its
+ * function. Where the call is accepted, the image is the one that treskibben_relocate leaves when it
+ * moves the frames one by one, in the order of the list or in any other. On a refusal all of the image
+ * is left untouched.
+ *
+ * The answer is the first of these that holds, in this order:
+ *
+ *   number  when                                                     place
+ *   1 to 9  the refusal that treskibben_check gives the section      as there
+ *   13, 14  as for treskibben_relocate                               0
+ *   25      frames_length not a multiple of three, or over 12,288    0
+ *           (4,096 frames)
+ *   10, 15, 12, 16 to 21                                             the position of the frame
+ *           a frame is refused by itself, on the image as lent:
+ *           the first such frame of the list, by the number that
+ *           treskibben_relocate gives it; its pair is not told
+ *   26      the extent of a frame shares a byte with that of an      the position of the first
+ *           earlier one in the list; empty extents share nothing     such frame
+ *   0       all frames are moved                                     0
+ *
+ * A list of no frames is accepted, with 0 pairs. The section is not walked again for each frame. The
+ * call needs a little under 250 KiB of stack; no other function needs more than about 17 KiB.
+ */
+treskibben_answer treskibben_thread(const uint8_t *section, size_t length, uint8_t *image,
+                                    size_t image_length, uint64_t first,
+                                    const uint64_t *old_starts, size_t old_count,
+                                    const uint64_t *new_starts, size_t new_count,
+                                    const uint64_t *frames, size_t frames_length);
+
 #ifdef __cplusplus
 }
 #endif

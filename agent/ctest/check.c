@@ -1,5 +1,6 @@
 /* Calls the library from C on the worked rows A to H, whose bytes are written out by hand. */
 #include "rows.h"
+#include "tally.h"
 #include "treskibben.h"
 
 #include <inttypes.h>
@@ -67,6 +68,5 @@ int main(void)
     for (i = 0; i < count; i++) {
         passed += (size_t)passes(&rows[i]);
     }
-    printf("%zu passed, %zu failed\n", passed, count - passed);
-    return passed == count ? EXIT_SUCCESS : EXIT_FAILURE;
+    return tally(passed, count);
 }

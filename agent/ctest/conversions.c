@@ -3,6 +3,7 @@
  * that are longer than the result, exactly as long, and too short.
  */
 #include "rows.h"
+#include "tally.h"
 #include "treskibben.h"
 
 #include <inttypes.h>
@@ -171,6 +172,5 @@ int main(void)
     for (i = 0; i < count; i++) {
         passed += (size_t)passes(i, &rows[i]);
     }
-    printf("%zu passed, %zu failed\n", passed, count - passed);
-    return passed == count ? EXIT_SUCCESS : EXIT_FAILURE;
+    return tally(passed, count);
 }

@@ -3,6 +3,7 @@
  * every field has bits of its own.
  */
 #include "rows.h"
+#include "tally.h"
 #include "treskibben.h"
 
 #include <inttypes.h>
@@ -198,6 +199,5 @@ int main(void)
     for (i = 0; i < count; i++) {
         passed += (size_t)passes(i, &rows[i]);
     }
-    printf("%zu passed, %zu failed\n", passed, count - passed);
-    return passed == count ? EXIT_SUCCESS : EXIT_FAILURE;
+    return tally(passed, count);
 }

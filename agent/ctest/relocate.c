@@ -1,10 +1,11 @@
 /*
  * Moves frames from C: the worked rows I to L, and those beside them that are refused or at a limit.
  */
+#include "moves.h"
 #include "rows.h"
+#include "tally.h"
 #include "treskibben.h"
 
-#include <inttypes.h>
 #include <stdio.h>
 #include <stdlib.h>
 #include <string.h>
@@ -69,32 +70,11 @@ static const struct row rows[] = {
      {0x1020, 0, (uint64_t)0 - 24}, {13, 0, 0}, {0x50000, 0x54e20}},
 };
 
-static void put(uint8_t *bytes, uint64_t word)
-{
-    size_t i;
-
-    for (i = 0; i < 8; i++) {
-        bytes[i] = (uint8_t)(word >> 8 * i);
-    }
-}
-
 static void put_slots(uint8_t *image, const uint64_t *slots)
 {
     put(image, OTHER);
     put(image + 8, slots[0]);
     put(image + 16, slots[1]);
-}
-
-/* Says what went wrong in a row, and gives whether nothing did. */
-static int passed(const char *name, const uint64_t *expected, treskibben_answer answer, int image)
-{
-    if (image && answer.number == expected[0] && answer.place == expected[1] &&
-        answer.value == expected[2]) {
-        return 1;
-    }
-    fprintf(stderr, "%s: %" PRIu64 " at %" PRIu64 ", value %" PRIu64 ", image %s\n", name,
-            answer.number, answer.place, answer.value, image ? "right" : "wrong");
-    return 0;
 }
 
 /* Moves the row's frame; the section must stay as it is. */
@@ -169,6 +149,5 @@ int main(void)
     passed += (size_t)passes_with(255, 0);
     passed += (size_t)passes_with(256, 0);
     passed += (size_t)passes_with(257, 17);
-    printf("%zu passed, %zu failed\n", passed, count - passed);
-    return passed == count ? EXIT_SUCCESS : EXIT_FAILURE;
+    return tally(passed, count);
 }

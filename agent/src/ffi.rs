@@ -26,7 +26,7 @@ impl Verdict {
     }
 }
 
-/// What the check, the conversions and the move answer: the struct `treskibben_answer` of `treskibben.h`.
+/// What the check, the conversions and the moves answer: the struct `treskibben_answer` of `treskibben.h`.
 #[repr(C)]
 pub(crate) struct Answer {
     verdict: Verdict,
@@ -91,6 +91,7 @@ const _: () = {
     assert!(offset_of!(LiveOut, size) == 18);
     assert!(size_of::<Frame>() == 24 && offset_of!(Frame, address) == 0);
     assert!(offset_of!(Frame, rbp) == 8 && offset_of!(Frame, rsp) == 16);
+    assert!(align_of::<Frame>() == align_of::<u64>());
 };
 
 extern "C" {
@@ -132,6 +133,19 @@ extern "C" {
         news: *const u64,
         new_count: usize,
         frame: Frame,
+    ) -> Answer;
+    fn treskibben_thread(
+        section: *const u8,
+        length: usize,
+        image: *mut u8,
+        image_length: usize,
+        first: u64,
+        olds: *const u64,
+        old_count: usize,
+        news: *const u64,
+        new_count: usize,
+        frames: *const u64,
+        frames_length: usize,
     ) -> Answer;
 }
 
@@ -217,4 +231,41 @@ pub(crate) fn relocate(
             frame,
         )
     }
+}
+
+/// The move of a whole thread.
+pub(crate) fn thread(
+    section: &[u8],
+    image: &mut [u8],
+    first: u64,
+    olds: &[u64],
+    news: &[u64],
+    frames: &[u64],
+) -> Answer {
+    let (stack, bytes) = (image.as_mut_ptr(), image.len());
+    // SAFETY: as in `relocate`. The frames are one more list, of any length: it is lent as the other
+    // two are.
+    unsafe {
+        treskibben_thread(
+            section.as_ptr(),
+            section.len(),
+            stack,
+            bytes,
+            first,
+            olds.as_ptr(),
+            olds.len(),
+            news.as_ptr(),
+            news.len(),
+            frames.as_ptr(),
+            frames.len(),
+        )
+    }
+}
+
+/// The numbers of frames, in the order of the struct.
+pub(crate) fn numbers(frames: &[Frame]) -> &[u64] {
+    // SAFETY: a `Frame` is three `u64` one after the other and nothing else, as asserted above, and is
+    // aligned as a `u64` is: so the bytes of the slice are those of three times as many `u64`, in the
+    // same allocation, borrowed for as long. Their length in bytes is the slice's own.
+    unsafe { std::slice::from_raw_parts(frames.as_ptr().cast(), 3 * frames.len()) }
 }

@@ -4,9 +4,9 @@
 //! and at which byte. The questions read a section without decoding it: [`find`] a record by its
 //! address, [`record()`] its bytes, [`location()`] and [`live_out`] what they say. [`to_listing`]
 //! writes a section as a plain row of items, and [`to_section`] writes the section again.
-//! [`relocate()`] moves the pointers of one stopped frame in a copy of its stack. Every slice of
-//! bytes gets an answer; none makes a function panic, read or write beyond its slices or
-//! run without end.
+//! [`relocate()`] moves the pointers of one stopped frame in a copy of its stack, and
+//! [`relocate_thread`] those of a whole thread, all of its frames or none. Every slice of bytes gets
+//! an answer; none makes a function panic, read or write beyond its slices or run without end.
 //!
 //! ```
 //! // A section of no functions, no constants and no records: version 3 and fifteen zeros.
@@ -30,12 +30,14 @@ mod ffi;
 mod questions;
 mod refusal;
 mod relocate;
+mod thread;
 
 pub use answers::{Found, LiveOut, Location, LocationKind};
 pub use conversions::{listing_of, section_of, to_listing, to_section};
 pub use questions::{find, live_out, location, record};
 pub use refusal::Refusal;
 pub use relocate::{relocate, Frame, MoveTable};
+pub use thread::{relocate_thread, Frames, ThreadRefusal};
 
 /// Checks that `section` is a whole version 3 stack map section and nothing else.
 ///

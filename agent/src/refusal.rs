@@ -6,8 +6,8 @@ use std::fmt;
 /// Why an input was refused, and where.
 ///
 /// The number names the cause. What the place counts depends on the cause: mostly it is a byte of
-/// the section or of the listing, or a pair of a statepoint, counted from 0, and it is 0 where
-/// neither is to blame.
+/// the section or of the listing, a pair of a statepoint, or a frame of a thread, counted from 0, and
+/// it is 0 where none of them is to blame.
 #[derive(Clone, Copy, Debug, PartialEq, Eq, Hash)]
 pub struct Refusal {
     number: u64,
@@ -15,7 +15,7 @@ pub struct Refusal {
 }
 
 /// The cause of each refusal; the first is number 1.
-const CAUSES: [&str; 24] = [
+const CAUSES: [&str; 26] = [
     "section under 16 or over 16,777,216 bytes, or listing over 33,554,432 bytes",
     "version not 3",
     "a byte required to be zero isn't",
@@ -40,6 +40,8 @@ const CAUSES: [&str; 24] = [
     "listing breaks its grammar",
     "over 65,535 locations or live-outs in a record",
     "output shorter than the whole result",
+    "list of frames not a multiple of three numbers, or over 4,096 frames",
+    "extent shares a byte with that of an earlier frame",
 ];
 
 impl Refusal {
@@ -54,8 +56,9 @@ impl Refusal {
     }
 
     /// Where the fault is: the byte that [`check`](crate::check) names for a section and
-    /// [`to_section`](crate::to_section()) for a listing, and the pair that
-    /// [`relocate`](crate::relocate()) names for a frame.
+    /// [`to_section`](crate::to_section()) for a listing, the pair that
+    /// [`relocate`](crate::relocate()) names for a frame, and the frame that
+    /// [`relocate_thread`](crate::relocate_thread) names for a thread.
     pub fn place(&self) -> u64 {
         self.place
     }
@@ -110,6 +113,8 @@ mod tests {
             (22, "grammar"),
             (23, "65,535"),
             (24, "output"),
+            (25, "4,096 frames"),
+            (26, "earlier frame"),
         ];
         for (number, start) in words {
             let refusal = Refusal::new(number, 3);
@@ -122,7 +127,7 @@ mod tests {
 
     #[test]
     fn numbers_beyond_the_table_still_print() {
-        for number in [0, 25, u64::MAX] {
+        for number in [0, 27, u64::MAX] {
             let text = Refusal::new(number, 4).to_string();
             assert!(
                 text.starts_with(&format!("refused {number} at 4: a cause")),

@@ -133,13 +133,14 @@ pub fn relocate(
     frame: Frame,
 ) -> Result<usize, Refusal> {
     let pairs = ffi::relocate(section, image, first, table.old, table.new, frame).outcome()?;
-    Ok(number(pairs))
+    Ok(number(pairs, 1))
 }
 
-/// The number of pairs, of which the library is proved to accept at most 256.
-fn number(pairs: u64) -> usize {
+/// The number of pairs of so many frames, each of which the library is proved to accept with at most
+/// 256.
+pub(crate) fn number(pairs: u64, frames: usize) -> usize {
     match usize::try_from(pairs) {
-        Ok(number) if number <= 256 => number,
+        Ok(number) if number <= 256 * frames => number,
         _ => {
             panic!("libtreskibben answers that it moved {pairs} pairs, and a frame has at most 256")
         }
@@ -153,14 +154,15 @@ mod tests {
     #[test]
     fn up_to_256_pairs_are_a_number() {
         for pairs in [0, 1, 255, 256] {
-            assert_eq!(number(pairs as u64), pairs);
+            assert_eq!(number(pairs as u64, 1), pairs);
+            assert_eq!(number(4_096 * pairs as u64, 4_096), 4_096 * pairs);
         }
     }
 
     #[test]
     fn more_pairs_are_a_panic_that_says_so() {
-        for pairs in [257, 1 << 32, u64::MAX] {
-            let payload = std::panic::catch_unwind(|| number(pairs)).expect_err("a panic");
+        for (pairs, frames) in [(257, 1), (1_048_577, 4_096), (u64::MAX, 4_096)] {
+            let payload = std::panic::catch_unwind(|| number(pairs, frames)).expect_err("a panic");
             let text = *payload.downcast::<String>().expect("a panic with a text");
             assert!(text.contains(&format!("moved {pairs} pairs, ")), "{text}");
         }

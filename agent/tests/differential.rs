@@ -5,8 +5,8 @@
 
 mod common;
 
-use common::{assert_often, count_parts, differ, say, seed};
-use generator::{edges, largest, Case};
+use common::{assert_often, count_random, differ, say, seed};
+use generator::{edges, largest, Case, Rng};
 
 /// Sections in a run, made in parts that each have a source of random numbers.
 const PARTS: u64 = 3_000;
@@ -39,12 +39,10 @@ fn compare(case: &Case) -> u64 {
 
 #[test]
 fn random_sections() {
-    let seed = seed("random sections");
-    let counts = count_parts(seed, PARTS, |rng, counts: &mut Counts| {
-        for _ in 0..CASES_A_PART {
-            counts[compare(&generator::case(rng)) as usize] += 1;
-        }
-    });
+    let compare = |rng: &mut Rng, counts: &mut Counts| {
+        counts[compare(&generator::case(rng)) as usize] += 1;
+    };
+    let counts = count_random("random sections", PARTS, CASES_A_PART, compare);
     say(&format!(
         "{} sections, {} accepted",
         counts.iter().sum::<u64>(),

@@ -9,7 +9,7 @@ mod common;
 #[path = "questions/shapes.rs"]
 mod shapes;
 
-use common::{assert_often, count_parts, differ, say, seed};
+use common::{assert_often, count_random, differ, say, seed};
 use generator::questions::{answer, question, Answer, Question};
 use generator::{asked, case_of, edges, largest, valid, Case, Rng, Section};
 use shapes::SHAPES;
@@ -149,12 +149,7 @@ fn ask(rng: &mut Rng, counts: &mut Counts) {
 
 #[test]
 fn random_questions() {
-    let seed = seed("random questions");
-    let counts = count_parts(seed, PARTS, |rng, counts: &mut Counts| {
-        for _ in 0..SECTIONS_A_PART {
-            ask(rng, counts);
-        }
-    });
+    let counts = count_random("random questions", PARTS, SECTIONS_A_PART, ask);
     let (numbers, shapes) = counts.split_at(12);
     let asked: u64 = numbers.iter().sum();
     say(&format!("{asked} questions, {} accepted", numbers[0]));

@@ -7,7 +7,7 @@
 
 mod common;
 
-#[path = "relocate/calls.rs"]
+#[path = "common/calls.rs"]
 mod calls;
 #[path = "relocate/limits.rs"]
 mod limits;
@@ -21,11 +21,12 @@ mod shapes;
 mod worked;
 
 use calls::{Call, Outcome};
-use common::{count_parts, say, seed};
+use common::{count_random, say};
 use generator::frames::faults::{aim, NUMBERS};
 use generator::frames::{plain, Scene};
 use generator::{aimed, damage, valid, Rng};
 use shapes::SHAPES;
+use treskibben::Frame;
 
 /// Frames in a run, made in parts that each have a source of random numbers.
 const PARTS: u64 = 1_000;
@@ -142,7 +143,7 @@ fn run(rng: &mut Rng, counts: &mut Counts) {
 
 /// What holds of an accepted frame: the count, the image, and how far each pointer is from its base
 /// where the base is moved too.
-fn accepted(scene: &Scene, call: &Call, outcome: &Outcome) {
+fn accepted(scene: &Scene, call: &Call<Frame>, outcome: &Outcome) {
     let slots = plain::slots(scene, 0);
     if outcome.count != slots.len() as u64 || outcome.image != plain::moved(scene, [0]) {
         call.fail(&format!(
@@ -168,12 +169,7 @@ fn accepted(scene: &Scene, call: &Call, outcome: &Outcome) {
 
 #[test]
 fn random_frames() {
-    let seed = seed("random frames");
-    let counts = count_parts(seed, PARTS, |rng, counts: &mut Counts| {
-        for _ in 0..FRAMES_A_PART {
-            run(rng, counts);
-        }
-    });
+    let counts = count_random("random frames", PARTS, FRAMES_A_PART, run);
     let (numbers, shapes) = counts.split_at(22);
     let frames: u64 = numbers.iter().sum();
     say(&format!("{frames} frames, {} accepted", numbers[0]));

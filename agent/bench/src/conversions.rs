@@ -1,6 +1,6 @@
 //! Section to listing and back, each beside the second implementation and a plain copy of the bytes that it reads.
 
-use crate::measure::{measure, ratio, table};
+use crate::measure::{measure, say, table};
 use crate::svg;
 use std::hint::black_box;
 
@@ -54,7 +54,5 @@ fn one_way(rounds: usize, name: &str, input: &[u8], library: Convert, second: Co
     println!("\n{}", table(&rows, &[REFERENCE, COPY]));
     let title = format!("{name}: times on {} bytes, {rounds} rounds in one run", input.len());
     svg::save(&format!("{}.svg", name.replace(' ', "-")), &svg::bars(&title, &rows, REFERENCE));
-    let ratio = ratio(&rows, name, REFERENCE);
-    let verdict = if ratio <= MOST_OF_REFERENCE { "reached" } else { "NOT reached" };
-    println!("{name}: {ratio:.3} of the reference, at most {MOST_OF_REFERENCE} wanted: {verdict}");
+    say(&rows, name, REFERENCE, "the reference", MOST_OF_REFERENCE);
 }

@@ -1,7 +1,7 @@
 //! The move of one frame: on the large section, where finding its record is nearly all of the work, and on a small
 //! one with as many pairs and as many moved objects as there can be.
 
-use crate::measure::{measure, ratio, table, Row};
+use crate::measure::{measure, say, table, Row};
 use crate::section::statepoint_with_pairs;
 use std::hint::black_box;
 use treskibben::{Frame, MoveTable};
@@ -40,19 +40,14 @@ struct Stack {
 pub fn rows(rounds: usize, bytes: &[u8]) {
     let large = on_large(rounds, bytes);
     println!("\n{}", table(&large, &[CHECK]));
-    say(LARGE, "the check", ratio(&large, LARGE, CHECK), MOST_OF_CHECK);
+    say(&large, LARGE, CHECK, "the check", MOST_OF_CHECK);
     let small = on_small(rounds);
     println!("\n{}", table(&small, &[REFERENCE]));
-    say(MANY, "the reference", ratio(&small, MANY, REFERENCE), MOST_OF_REFERENCE);
+    say(&small, MANY, REFERENCE, "the reference", MOST_OF_REFERENCE);
     let time = |name: &str| small.iter().find(|row| row.name == name).map_or(0.0, |row| row.median);
     let pair = |more: &str| (time(more) - time(FEW)) * 1e6 / (TIMES * PAIRS) as f64;
     println!("{TIMES} moves of one frame in each row, with a table of {OBJECTS} objects; the reference has 256 pairs too");
     println!("a pair of 256 on average: {:.0} ns, with its comparison to all before it, without the table check", pair(MANY));
-}
-
-fn say(name: &str, base: &str, ratio: f64, most: f64) {
-    let verdict = if ratio <= most { "reached" } else { "NOT reached" };
-    println!("{name}: {ratio:.3} of {base}, at most {most} wanted: {verdict}");
 }
 
 /// The frame of the last statepoint whose pairs can be moved, on an image of its own; every base is 0.

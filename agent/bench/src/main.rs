@@ -9,9 +9,10 @@ mod measure;
 mod parser;
 mod section;
 mod svg;
+mod thread;
 mod words;
 
-use measure::{measure, ratio, table};
+use measure::{measure, say, table};
 use std::hint::black_box;
 
 /// Rows that the others are compared with.
@@ -40,6 +41,7 @@ fn main() {
     rows(rounds, &bytes, &last);
     conversions::rows(rounds, &bytes);
     frame::rows(rounds, &bytes);
+    thread::rows(rounds, &bytes, LIMIT);
 }
 
 /// The last record: its number and its address, which is the highest.
@@ -88,9 +90,7 @@ fn rows(rounds: usize, bytes: &[u8], last: &Last) {
     let title = format!("Times on a section of {} bytes, {rounds} rounds in one run", bytes.len());
     svg::save("check.svg", &svg::bars(&title, &rows, PARSER));
     for question in [FOUND, NOT_FOUND, BY_NUMBER] {
-        let ratio = ratio(&rows, question, CHECK);
-        let verdict = if ratio <= MOST_OF_CHECK { "reached" } else { "NOT reached" };
-        println!("{question}: {ratio:.3} of the check, at most {MOST_OF_CHECK} wanted: {verdict}");
+        say(&rows, question, CHECK, "the check", MOST_OF_CHECK);
     }
 }
 

@@ -63,6 +63,13 @@ pub fn table(rows: &[Row], bases: &[&str]) -> String {
     text
 }
 
+/// Prints the ratio of one row's median to that of another, which has these words, and whether it is at most as wanted.
+pub fn say(rows: &[Row], name: &str, base: &str, words: &str, most: f64) {
+    let ratio = ratio(rows, name, base);
+    let verdict = if ratio <= most { "reached" } else { "NOT reached" };
+    println!("{name}: {ratio:.3} of {words}, at most {most} wanted: {verdict}");
+}
+
 /// The ratio of one row's median to that of another.
 pub fn ratio(rows: &[Row], name: &str, base: &str) -> f64 {
     find(rows, name).median / find(rows, base).median

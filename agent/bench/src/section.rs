@@ -151,6 +151,30 @@ pub fn statepoint_with_pairs(pairs: usize) -> Vec<u8> {
     parts.bytes()
 }
 
+/// A section as long as fits in `limit` bytes, mostly of records as short as can be, 24 bytes. Each of so many functions
+/// begins with a statepoint of two pairs, and the short records are shared out evenly among them.
+pub fn short_records(limit: usize, functions: usize) -> Vec<u8> {
+    const SHORT: usize = 24;
+    let slots = [8, 8, 8, 16].map(|offset| (3, 8, RSP, offset));
+    let statepoint = [&[constant(0); 3][..], &slots[..]].concat();
+    let mut parts = Parts { numbers: Numbers(1), ..Parts::default() };
+    parts.write_record(0, &statepoint, 0);
+    let long = parts.records.len();
+    parts.records.clear();
+    let short = (limit - 16 - functions * (24 + long)) / (functions * SHORT);
+    for function in 0..functions as u64 {
+        parts.write_record(0, &statepoint, 0);
+        for number in 1..=short as u32 {
+            parts.write_record(number, &[], 0);
+        }
+        for field in [0x40_0000 + 0x10_0000 * function, 24, 1 + short as u64] {
+            parts.functions.extend(field.to_le_bytes());
+        }
+        parts.record_count += 1 + short as u32;
+    }
+    parts.bytes()
+}
+
 /// Kind, size, register, offset.
 type Location = (u8, u16, u16, i32);
 

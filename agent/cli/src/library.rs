@@ -2,7 +2,7 @@
 //!
 //! Every answer on a section, a listing or a frame comes from the crate `treskibben`.
 
-use treskibben::MoveTable;
+use treskibben::{MoveTable, ThreadRefusal};
 
 /// Why a call was refused: number, place and cause.
 #[derive(Clone, Copy, Debug, PartialEq, Eq)]
@@ -14,19 +14,6 @@ pub struct Refusal {
 
 /// The record that has an address, and a stopped frame.
 pub use treskibben::{Found, Frame};
-
-impl Refusal {
-    /// Two frames of a list have extents that share a byte: the number that the customer's papers
-    /// have for it, at the position of the later frame. The library moves one frame a call, and so
-    /// cannot say it.
-    pub fn shared(position: usize) -> Refusal {
-        Refusal {
-            number: 26,
-            place: position as u64,
-            cause: "two extents share a byte",
-        }
-    }
-}
 
 impl From<treskibben::Refusal> for Refusal {
     fn from(refusal: treskibben::Refusal) -> Refusal {
@@ -58,17 +45,38 @@ pub fn section_of(listing: &[u8]) -> Result<Vec<u8>, Refusal> {
     Ok(treskibben::section_of(listing)?)
 }
 
-/// Moves one frame, and gives its number of pairs.
-pub fn relocate(
+/// Moves all frames of a thread or none, and gives the sum of their pairs. A refusal comes with the
+/// position of the frame to blame, if it is one frame.
+pub fn relocate_thread(
     section: &[u8],
     image: &mut [u8],
     first: u64,
     table: &Table,
-    frame: Frame,
-) -> Result<u64, Refusal> {
+    frames: &[Frame],
+) -> Result<u64, (Refusal, Option<usize>)> {
     let moves = MoveTable::new(&table.old, &table.new);
-    let pairs = treskibben::relocate(section, image, first, moves, frame)?;
-    Ok(pairs as u64)
+    let pairs = treskibben::relocate_thread(section, image, first, moves, frames);
+    let told = |refusal: ThreadRefusal| {
+        (
+            treskibben::Refusal::from(refusal).into(),
+            refusal.position(),
+        )
+    };
+    pairs.map(|pairs| pairs as u64).map_err(told)
+}
+
+/// The pair that a frame is refused by where it is moved by itself, which the refusal of a thread
+/// doesn't tell. The image stays as it is.
+pub fn pair_at_fault(
+    section: &[u8],
+    image: &[u8],
+    first: u64,
+    table: &Table,
+    frame: Frame,
+) -> Option<u64> {
+    let moves = MoveTable::new(&table.old, &table.new);
+    let refused = treskibben::relocate(section, &mut image.to_vec(), first, moves, frame).err()?;
+    matches!(refused.number(), 18..=21).then_some(refused.place())
 }
 
 /// Where each object was and where it is now, entry by entry.

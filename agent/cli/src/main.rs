@@ -8,7 +8,6 @@
 
 mod arguments;
 mod commands;
-mod extents;
 mod files;
 mod library;
 mod listing;
@@ -21,7 +20,6 @@ mod replace;
 #[allow(unsafe_code)]
 mod system;
 mod text;
-mod thread;
 mod trouble;
 
 use commands::{Command, COMMANDS};

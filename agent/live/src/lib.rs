@@ -1,6 +1,6 @@
 //! A live restore. Programs that LLVM compiled with statepoints are stopped in the middle, their
 //! heap is copied to other addresses and the old one made unreadable, the pointers in their frames
-//! are moved by the library, and they run on to the right checksum.
+//! are moved by the library, those of each map in one call, and they run on to the right checksum.
 //!
 //! What a restore box gets from elsewhere, this package does itself: it finds the frames
 //! ([`frames`]), copies the heap and makes the move table ([`heap`]). The library is asked in one

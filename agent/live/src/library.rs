@@ -1,9 +1,10 @@
 //! All that is asked of the library, and nothing else.
 //!
-//! The check, the questions and the move are the proved ones. The second implementation's move
-//! stands beside them for the mover `second`.
+//! The check, the questions and the moves are the proved ones. The second implementation's move of a
+//! thread stands beside them for the mover `second`.
 
 use crate::heap::Table;
+use crate::image::Image;
 use treskibben::MoveTable;
 
 /// A stopped frame: its address, RBP and RSP.
@@ -76,27 +77,41 @@ pub fn location(map: &[u8], record: u64, number: u64) -> Result<Location, Refusa
 /// The library's move of one frame: its number of pairs.
 pub fn relocate(
     map: &[u8],
-    image: &mut [u8],
-    first: u64,
+    image: &mut Image,
     table: &Table,
     frame: Frame,
 ) -> Result<u64, Refusal> {
+    let Image { first, bytes } = image;
     let table = MoveTable::new(&table.old, &table.new);
-    let pairs = treskibben::relocate(map, image, first, table, frame).map_err(plain)?;
+    let pairs = treskibben::relocate(map, bytes, *first, table, frame).map_err(plain)?;
     Ok(pairs as u64)
 }
 
-/// The second implementation's move of one frame.
-pub fn second_relocate(
+/// The library's move of all frames of a list, or none: the sum of their pairs.
+pub fn thread(
     map: &[u8],
-    image: &mut [u8],
-    first: u64,
+    image: &mut Image,
     table: &Table,
-    frame: Frame,
+    frames: &[Frame],
 ) -> Result<u64, Refusal> {
-    let Frame { address, rbp, rsp } = frame;
-    let frame = reference::Frame { address, rbp, rsp };
-    reference::relocate(map, image, first, &table.old, &table.new, frame).map_err(second_plain)
+    let Image { first, bytes } = image;
+    let table = MoveTable::new(&table.old, &table.new);
+    let moved = treskibben::relocate_thread(map, bytes, *first, table, frames);
+    let pairs = moved.map_err(|refusal| plain(refusal.into()))?;
+    Ok(pairs as u64)
+}
+
+/// The second implementation's move of all frames of a list.
+pub fn second_thread(
+    map: &[u8],
+    image: &mut Image,
+    table: &Table,
+    frames: &[Frame],
+) -> Result<u64, Refusal> {
+    let Image { first, bytes } = image;
+    let numbers = |frame: &Frame| [frame.address, frame.rbp, frame.rsp];
+    let list: Vec<u64> = frames.iter().flat_map(numbers).collect();
+    reference::thread(map, bytes, *first, &table.old, &table.new, &list).map_err(second_plain)
 }
 
 fn plain(refusal: treskibben::Refusal) -> Refusal {

@@ -1,7 +1,8 @@
 //! Shows a live restore to people, or does one run for the tests.
 //!
 //! `live [PROGRAM]` stops a program (O0, O0-fp, O2, O2-fp), moves its heap and its frames, and
-//! prints what it does.
+//! prints what it does. `live brief PROGRAM` stops it once, with the move and without, and says in a
+//! few lines how both end; exit status 0 where they end as they should, else 1.
 //!
 //! `live run PROGRAM MOVER STOPS` does one run and prints its counts. STOPS is `all`, or the
 //! number of one stop. Exit status: 0 where the checksum is that of a run without any stop, 1 where
@@ -23,11 +24,12 @@ fn main() -> ExitCode {
     let done = match arguments[..] {
         [] => report::show("O2"),
         [program] => report::show(program),
+        ["brief", program] => report::brief(program),
         ["run", program, mover, stops] => one_run(program, mover, stops),
         _ => None,
     };
     done.unwrap_or_else(|| {
-        eprintln!("usage: live [PROGRAM], or live run PROGRAM MOVER STOPS");
+        eprintln!("usage: live [PROGRAM], live brief PROGRAM, or live run PROGRAM MOVER STOPS");
         ExitCode::from(2)
     })
 }

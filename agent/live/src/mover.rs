@@ -6,12 +6,13 @@
 use crate::frames::Stopped;
 use crate::heap::{Object, Table};
 use crate::image::Image;
-use crate::library::{self, Refusal};
+use crate::library::{self, Frame, Refusal};
+use std::collections::BTreeSet;
 
 /// Who moves the frames.
 #[derive(Clone, Copy, Debug, PartialEq, Eq)]
 pub enum Mover {
-    /// The library, from the deepest frame up.
+    /// The library, all frames of a map in one call, from the deepest up.
     Library,
     /// The library, from the uppermost frame down: the order must not count.
     Backwards,
@@ -19,6 +20,8 @@ pub enum Mover {
     Second,
     /// The library, with a table in which the first object is missing.
     ShortTable,
+    /// The library, with the deepest frame once more at the end of the list.
+    Twice,
     /// Accepts all frames and writes nothing.
     Nothing,
     /// Writes only pair 0 of each frame.
@@ -34,8 +37,8 @@ pub enum Mover {
 /// The movers that do it right.
 pub const RIGHT: [Mover; 3] = [Mover::Library, Mover::Backwards, Mover::Second];
 
-/// The mover that is refused.
-pub const REFUSED: Mover = Mover::ShortTable;
+/// The movers that are refused.
+pub const REFUSED: [Mover; 2] = [Mover::ShortTable, Mover::Twice];
 
 /// The movers that leave old pointers: the program dies where it follows one.
 pub const FATAL: [Mover; 4] = [
@@ -53,15 +56,15 @@ pub const WRONG: Mover = Mover::ByDerived;
 pub struct RefusedFrame {
     /// The frame, counted from the deepest.
     pub frame: usize,
-    /// Number and place.
+    /// Number and place; of a list, the place is the frame's position among those of its map.
     pub refusal: Refusal,
 }
 
 impl Mover {
     /// The mover of a name.
     pub fn named(name: &str) -> Option<Mover> {
-        let all = RIGHT.into_iter().chain(FATAL).chain([REFUSED, WRONG]);
-        all.into_iter().find(|mover| mover.name() == name)
+        let all = RIGHT.into_iter().chain(FATAL).chain(REFUSED);
+        all.chain([WRONG]).find(|mover| mover.name() == name)
     }
 
     /// Its name on the command line.
@@ -71,6 +74,7 @@ impl Mover {
             Mover::Backwards => "backwards",
             Mover::Second => "second",
             Mover::ShortTable => "short-table",
+            Mover::Twice => "twice",
             Mover::Nothing => "nothing",
             Mover::PairZero => "pair-0",
             Mover::FirstFrame => "first-frame",
@@ -79,49 +83,33 @@ impl Mover {
         }
     }
 
-    /// Moves the frames one after the other on the image, and gives the number of pairs of each.
-    /// After a refusal the image is to be thrown away.
+    /// Moves the frames on the image, and gives the number of their pairs. After a refusal the image
+    /// is to be thrown away.
     pub fn apply(
         self,
         image: &mut Image,
         frames: &[Stopped],
         table: &Table,
         objects: &[Object],
-    ) -> Result<Vec<u64>, RefusedFrame> {
-        let mut counts = vec![0; frames.len()];
-        let mut order: Vec<usize> = (0..frames.len()).collect();
-        if self == Mover::Backwards {
-            order.reverse();
-        }
-        for frame in order {
-            let stopped = &frames[frame];
-            let moved = match self {
-                Mover::FirstFrame if frame > 0 => Ok(pairs(stopped)),
-                _ => self.apply_to(image, stopped, table, objects),
-            };
-            counts[frame] = moved.map_err(|refusal| RefusedFrame { frame, refusal })?;
-        }
-        Ok(counts)
-    }
-
-    /// Moves one frame, and gives its number of pairs.
-    fn apply_to(
-        self,
-        image: &mut Image,
-        stopped: &Stopped,
-        table: &Table,
-        objects: &[Object],
-    ) -> Result<u64, Refusal> {
+    ) -> Result<u64, RefusedFrame> {
+        let all: Vec<usize> = (0..frames.len()).collect();
+        let backwards = || all.iter().rev().copied().collect::<Vec<usize>>();
+        let twice = || [&all[..], &all[..1]].concat();
         match self {
-            Mover::Library | Mover::Backwards | Mover::FirstFrame => {
-                whole(library::relocate, image, stopped, table)
+            Mover::Library => by_map(library::thread, image, frames, &all, table),
+            Mover::Backwards => by_map(library::thread, image, frames, &backwards(), table),
+            Mover::Second => by_map(library::second_thread, image, frames, &all, table),
+            Mover::ShortTable => {
+                by_map(library::thread, image, frames, &all, &table.without_first())
             }
-            Mover::Second => whole(library::second_relocate, image, stopped, table),
-            Mover::ShortTable => whole(library::relocate, image, stopped, &table.without_first()),
-            Mover::Nothing => Ok(pairs(stopped)),
-            Mover::PairZero => pair_zero(image, stopped, table),
-            Mover::InTurn => Ok(in_turn(image, stopped, table)),
-            Mover::ByDerived => Ok(by_derived(image, stopped, table, objects)),
+            Mover::Twice => by_map(library::thread, image, frames, &twice(), table),
+            _ => one_by_one(frames, |frame, stopped| match self {
+                Mover::PairZero => pair_zero(image, stopped, table),
+                Mover::InTurn => Ok(in_turn(image, stopped, table)),
+                Mover::ByDerived => Ok(by_derived(image, stopped, table, objects)),
+                Mover::FirstFrame if frame == 0 => relocate(image, stopped, table),
+                _ => Ok(pairs(stopped)),
+            }),
         }
     }
 }
@@ -130,26 +118,51 @@ fn pairs(stopped: &Stopped) -> u64 {
     stopped.site.pairs.len() as u64
 }
 
-type Relocate = fn(&[u8], &mut [u8], u64, &Table, library::Frame) -> Result<u64, library::Refusal>;
+/// A move of all frames of a list by the map that they are in.
+type Thread = fn(&[u8], &mut Image, &Table, &[Frame]) -> Result<u64, Refusal>;
 
-fn whole(
-    relocate: Relocate,
+/// Moves the frames of each map in one call, in this order.
+fn by_map(
+    thread: Thread,
     image: &mut Image,
-    stopped: &Stopped,
+    frames: &[Stopped],
+    order: &[usize],
     table: &Table,
-) -> Result<u64, Refusal> {
-    relocate(
-        stopped.site.bytes,
-        &mut image.bytes,
-        image.first,
-        table,
-        stopped.frame,
-    )
+) -> Result<u64, RefusedFrame> {
+    let maps: BTreeSet<usize> = frames.iter().map(|stopped| stopped.site.map).collect();
+    let mut pairs = 0;
+    for map in maps {
+        let in_map = |frame: &usize| frames[*frame].site.map == map;
+        let own: Vec<usize> = order.iter().copied().filter(in_map).collect();
+        let list: Vec<Frame> = own.iter().map(|frame| frames[*frame].frame).collect();
+        let moved = thread(frames[own[0]].site.bytes, image, table, &list);
+        pairs += moved.map_err(|refusal| RefusedFrame {
+            frame: own[refusal.1 as usize],
+            refusal,
+        })?;
+    }
+    Ok(pairs)
+}
+
+/// Moves the frames one after the other.
+fn one_by_one(
+    frames: &[Stopped],
+    mut moved: impl FnMut(usize, &Stopped) -> Result<u64, Refusal>,
+) -> Result<u64, RefusedFrame> {
+    let numbered = frames.iter().enumerate();
+    let pairs = numbered.map(|(frame, stopped)| {
+        moved(frame, stopped).map_err(|refusal| RefusedFrame { frame, refusal })
+    });
+    pairs.sum()
+}
+
+fn relocate(image: &mut Image, stopped: &Stopped, table: &Table) -> Result<u64, Refusal> {
+    library::relocate(stopped.site.bytes, image, table, stopped.frame)
 }
 
 fn pair_zero(image: &mut Image, stopped: &Stopped, table: &Table) -> Result<u64, Refusal> {
     let mut moved = image.clone();
-    let count = whole(library::relocate, &mut moved, stopped, table)?;
+    let count = relocate(&mut moved, stopped, table)?;
     let pair = stopped.site.pairs.first();
     if let Some([_, derived]) = pair.and_then(|&pair| stopped.slots(pair)) {
         image.set(derived, moved.word(derived));

@@ -6,7 +6,7 @@ use live::maps::Place;
 use live::mover::{Mover, FATAL, WRONG};
 use live::program::{function, Program};
 use live::run::{maps, run, Stop, Stops, Trouble};
-use std::process::{Command, ExitCode};
+use std::process::{Command, ExitCode, Output};
 
 /// Why nothing was moved.
 pub fn trouble(trouble: Trouble) -> String {
@@ -48,7 +48,7 @@ pub fn show(name: &str) -> Option<ExitCode> {
     );
     println!("\nThe same run, stopped once, by movers that leave something out:");
     for mover in FATAL.into_iter().chain([WRONG]) {
-        println!("  {:12} {}", mover.name(), end_of(name, mover));
+        println!("  {:12} {}", mover.name(), end_of(&process(name, mover)));
     }
     Some(if right {
         ExitCode::SUCCESS
@@ -57,21 +57,64 @@ pub fn show(name: &str) -> Option<ExitCode> {
     })
 }
 
-/// How a run by a wrong mover ends, in a process of its own.
-fn end_of(program: &str, mover: Mover) -> String {
+/// Stops a program once, with the move and without, and tells in plain words how both end; nothing
+/// where its name is not known. It goes well where the one comes to the right checksum and the
+/// other dies.
+pub fn brief(name: &str) -> Option<ExitCode> {
+    let program = Program::named(name)?;
+    let maps = maps();
+    let plain = run(&maps, program, Mover::Library, Stops::None);
+    let moved = run(&maps, program, Mover::Library, Stops::Only(0));
+    let compiled = program.compiled;
+    println!("A live restore: a program compiled by LLVM ({compiled}) is stopped.");
+    match moved.stops.first() {
+        Some(Ok(stop)) => tell_stop(stop),
+        Some(Err(why)) => println!("  Nothing was moved: {}.", trouble(*why)),
+        None => println!("  It ended without a stop."),
+    }
+    let right = moved.checksum == plain.checksum;
+    let as_ever = if right {
+        "as it does without a stop"
+    } else {
+        "which is WRONG"
+    };
+    println!(
+        "  With the move it runs on and comes to {:#x}, {as_ever}.",
+        moved.checksum
+    );
+    let unmoved = process(name, Mover::Nothing);
+    println!("  The same without the move: it {}.", end_of(&unmoved));
+    let went_well =
+        right && moved.stops.iter().all(Result::is_ok) && unmoved.status.code().is_none();
+    Some(ExitCode::from(u8::from(!went_well)))
+}
+
+/// What was moved at a stop.
+fn tell_stop(stop: &Stop) {
+    let (frames, objects) = (stop.frames.len(), stop.objects.len());
+    let pairs = stop.pairs;
+    println!("  {frames} frames wait on its stack, with {pairs} pairs of a base and a pointer derived from it.");
+    println!("  The {objects} objects of its heap are copied elsewhere, and the old ones made unreadable.");
+}
+
+/// A run by a wrong mover, in a process of its own.
+fn process(program: &str, mover: Mover) -> Output {
     let this = std::env::current_exe().expect("the program knows its own file");
     let ran = Command::new(this)
         .args(["run", program, mover.name(), "0"])
         .output();
-    let ran = ran.expect("the program can be started");
+    ran.expect("the program can be started")
+}
+
+/// How such a run ended.
+fn end_of(ran: &Output) -> String {
     let said = String::from_utf8_lossy(&ran.stderr);
-    let end = match ran.status.code() {
-        None => said.trim(),
-        Some(0) => "RIGHT CHECKSUM",
-        Some(1) => "wrong checksum",
-        Some(_) => "nothing moved",
-    };
-    format!("{end} ({})", ran.status)
+    match ran.status.code() {
+        None => format!("{} and died, {}", said.trim(), ran.status),
+        Some(0) => "came to the RIGHT CHECKSUM".to_string(),
+        Some(1) => "came to a wrong checksum".to_string(),
+        Some(_) => "was not moved".to_string(),
+    }
 }
 
 /// Shows the frames of a stop, and of the first stop their slots too.
@@ -79,12 +122,13 @@ fn show_stop(stop: &Stop) {
     println!("\nstop {}: {} frames", stop.number, stop.frames.len());
     show_starts("old", &stop.table.old);
     show_starts("new", &stop.table.new);
-    for (number, (stopped, count)) in stop.frames.iter().zip(&stop.counts).enumerate() {
+    for (number, stopped) in stop.frames.iter().enumerate() {
         println!(
-            "  frame {number}: {}, RSP {:#x}, size {}, {count} pairs",
+            "  frame {number}: {}, RSP {:#x}, size {}, {} pairs",
             function(stopped.site.id),
             stopped.frame.rsp,
             stopped.site.stack_size,
+            stopped.site.pairs.len(),
         );
         if stop.number == 0 {
             for &pair in &stopped.site.pairs {

@@ -38,8 +38,8 @@ pub struct Stop {
     pub before: Image,
     /// The stack after.
     pub after: Image,
-    /// The number of pairs of each frame.
-    pub counts: Vec<u64>,
+    /// The number of pairs of all frames.
+    pub pairs: u64,
 }
 
 impl Stop {
@@ -166,7 +166,7 @@ impl Running {
         let (new, table) = self.heap.copy();
         let mut after = before.clone();
         let moved = self.mover.apply(&mut after, &frames, &table, &objects);
-        let counts = moved.map_err(Trouble::Refused)?;
+        let pairs = moved.map_err(Trouble::Refused)?;
         let stop = Stop {
             number,
             frames,
@@ -174,7 +174,7 @@ impl Running {
             table,
             before,
             after,
-            counts,
+            pairs,
         };
         stop.assert_only_derived_slots_changed();
         std::mem::replace(&mut self.heap, new).retire();

@@ -113,10 +113,15 @@ fn moved_programs_come_to_the_right_checksum() {
 #[test]
 fn a_refused_restore_leaves_all_as_it_was() {
     for program in &PROGRAMS {
-        let ended = run(program, REFUSED, "0");
-        ended.assert_unmoved();
-        assert!(ended.last.starts_with("refused 21 at "), "{ended}");
-        assert!(ended.last.ends_with(", frame 6"), "{ended}");
+        let [short_table, twice] = REFUSED.map(|mover| run(program, mover, "0"));
+        short_table.assert_unmoved();
+        let last = &short_table.last;
+        assert!(last.starts_with("refused 21 at "), "{short_table}");
+        assert!(last.ends_with(", frame 6"), "{short_table}");
+        // The deepest frame once more, behind all others of its map.
+        twice.assert_unmoved();
+        assert!(twice.last.starts_with("refused 26 at "), "{twice}");
+        assert!(twice.last.ends_with(", frame 0"), "{twice}");
     }
 }
 
@@ -197,4 +202,24 @@ fn pushed_arguments_hide_the_frames_above() {
     ended.assert_unmoved();
     assert!(ended.last.starts_with("lost after 3 frames: "), "{ended}");
     run(&PUSHED, Mover::Library, "1").assert_right(1);
+}
+
+/// What `./demo` shows.
+#[test]
+fn the_short_report_tells_both_ends() {
+    for program in &PROGRAMS {
+        let ran = Command::new(env!("CARGO_BIN_EXE_live"))
+            .args(["brief", program.name])
+            .output()
+            .expect("the program can be started");
+        let said = String::from_utf8(ran.stdout).unwrap();
+        assert!(ran.status.success(), "{said}");
+        for words in [
+            "9 frames wait on its stack, with ",
+            "comes to 0xc12dea0c01d34f7b, as it does without a stop.",
+            "without the move: it touched the old heap and died, signal: 11",
+        ] {
+            assert!(said.contains(words), "{said}");
+        }
+    }
 }

@@ -3,7 +3,7 @@
 //!
 //! It reads sections in the version 3 stack map layout, answers questions on
 //! them, turns them into listings and back, relocates the pointers of one
-//! stopped frame, and holds what the small program writes.
+//! stopped frame or of a whole thread, and holds what the small program writes.
 //!
 //! Every function answers every input: with a result, or with a [`Refusal`]
 //! that has a fixed number and place. A refused call changes no byte of what
@@ -18,6 +18,7 @@ pub mod program;
 pub mod questions;
 pub mod relocate;
 pub mod section;
+pub mod thread;
 
 #[cfg(test)]
 mod fixtures;
@@ -27,19 +28,21 @@ pub use program::run;
 pub use questions::{by_address, live_out, location, record, Found, LocationAnswer};
 pub use relocate::{extent, relocate, Frame};
 pub use section::{check, encode, read, Function, LiveOut, Location, Record, RecordData, Section};
+pub use thread::thread;
 
 /// Why a call was refused: the number of the line in the refusal table, and
 /// the place that line names.
 #[derive(Clone, Copy, Debug, PartialEq, Eq)]
 pub struct Refusal {
-    /// The refusal's number, 1 to 24.
+    /// The refusal's number, 1 to 26.
     pub number: u64,
-    /// The refusal's place: a byte, a pair, or 0 where its line has none.
+    /// The refusal's place: a byte, a pair, a frame's position in a list, or 0
+    /// where its line has none.
     pub place: u64,
 }
 
 impl Refusal {
-    /// The refusal `number` at a place counted in bytes or pairs.
+    /// The refusal `number` at a place counted in bytes, pairs or frames.
     pub(crate) fn at(number: u64, place: usize) -> Refusal {
         Refusal {
             number,

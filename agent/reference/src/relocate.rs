@@ -18,6 +18,7 @@ mod tests_readings;
 use crate::section::{read, Location, Record, Section};
 use crate::Refusal;
 use pairs::{collision, locate, new_contents, MAX_PAIRS};
+use std::ops::Range;
 
 /// The greatest length of a stack image, in bytes.
 pub const MAX_IMAGE: usize = 1_048_576;
@@ -54,25 +55,63 @@ pub fn relocate(
     let section = read(section)?;
     check_image(image, first)?;
     check_table(old_starts, new_starts)?;
-    let record = only_record(&section, frame.address)?;
+    let plan = judge(&section, image, first, old_starts, new_starts, frame)?;
+    plan.write(image);
+    Ok(plan.pairs)
+}
+
+/// What is to be written for an accepted frame.
+pub(crate) struct Plan {
+    /// The frame's own stretch of the image.
+    pub(crate) stretch: Range<usize>,
+    /// The number of pairs.
+    pub(crate) pairs: u64,
+    /// The new content of each derived slot, by its first byte in the stretch.
+    contents: Vec<(usize, u64)>,
+}
+
+impl Plan {
+    /// Writes the derived slots.
+    pub(crate) fn write(&self, image: &mut [u8]) {
+        let Some(stretch) = image.get_mut(self.stretch.clone()) else {
+            return;
+        };
+        for &(at, content) in &self.contents {
+            if let Some(slot) = stretch
+                .get_mut(at..)
+                .and_then(|rest| rest.first_chunk_mut())
+            {
+                *slot = content.to_le_bytes();
+            }
+        }
+    }
+}
+
+/// The plan for a frame, or its own refusal: 10, 15, 12 and 16 to 21. Nothing is written.
+pub(crate) fn judge(
+    section: &Section,
+    image: &[u8],
+    first: u64,
+    old_starts: &[u64],
+    new_starts: &[u64],
+    frame: Frame,
+) -> Result<Plan, Refusal> {
+    let record = only_record(section, frame.address)?;
     let entries = statepoint_pairs(record).ok_or(Refusal::at(12, 0))?;
-    let stretch = frame_stretch(&section, image, first, record, frame).ok_or(Refusal::at(16, 0))?;
+    let stretch = frame_stretch(section, image, first, record, frame).ok_or(Refusal::at(16, 0))?;
     if entries.len() > MAX_PAIRS {
         return Err(Refusal::at(17, 0));
     }
-    let pairs = locate(&section, entries, stretch, frame)?;
+    let bytes = image.get(stretch.clone()).ok_or(Refusal::at(16, 0))?;
+    let pairs = locate(section, entries, bytes, frame)?;
     if let Some(pair) = collision(&pairs) {
         return Err(Refusal::at(20, pair));
     }
-    for (at, content) in new_contents(&pairs, old_starts, new_starts)? {
-        if let Some(slot) = stretch
-            .get_mut(at..)
-            .and_then(|rest| rest.first_chunk_mut())
-        {
-            *slot = content.to_le_bytes();
-        }
-    }
-    Ok(entries.len() as u64)
+    Ok(Plan {
+        stretch,
+        pairs: entries.len() as u64,
+        contents: new_contents(&pairs, old_starts, new_starts)?,
+    })
 }
 
 /// A frame's extent: its first byte and the byte after its last, as whole
@@ -85,7 +124,7 @@ pub fn extent(section: &[u8], frame: Frame) -> Option<(u128, u128)> {
 }
 
 /// Refusal 13.
-fn check_image(image: &[u8], first: u64) -> Result<(), Refusal> {
+pub(crate) fn check_image(image: &[u8], first: u64) -> Result<(), Refusal> {
     let end = u128::from(first) + image.len() as u128;
     if image.len() > MAX_IMAGE || end > u128::from(u64::MAX) {
         return Err(Refusal::at(13, 0));
@@ -94,7 +133,7 @@ fn check_image(image: &[u8], first: u64) -> Result<(), Refusal> {
 }
 
 /// Refusal 14.
-fn check_table(old_starts: &[u64], new_starts: &[u64]) -> Result<(), Refusal> {
+pub(crate) fn check_table(old_starts: &[u64], new_starts: &[u64]) -> Result<(), Refusal> {
     let fits = old_starts.len() == new_starts.len() && old_starts.len() <= MAX_MOVES;
     let rises = old_starts.windows(2).all(|two| two[0] < two[1]);
     if !fits || !rises || old_starts.contains(&0) || new_starts.contains(&0) {
@@ -136,15 +175,15 @@ fn record_extent(section: &Section, record: &Record, frame: Frame) -> Option<(u1
 
 /// The frame's own stretch of the image; none if its extent is unknown or
 /// isn't inside the image.
-fn frame_stretch<'a>(
+fn frame_stretch(
     section: &Section,
-    image: &'a mut [u8],
+    image: &[u8],
     first: u64,
     record: &Record,
     frame: Frame,
-) -> Option<&'a mut [u8]> {
+) -> Option<Range<usize>> {
     let (start, end) = record_extent(section, record, frame)?;
     let from = usize::try_from(start.checked_sub(u128::from(first))?).ok()?;
     let to = usize::try_from(end.checked_sub(u128::from(first))?).ok()?;
-    image.get_mut(from..to)
+    (to <= image.len()).then_some(from..to)
 }

@@ -2,6 +2,7 @@
 
 use super::*;
 use generator::frames::faults::{aim, NUMBERS};
+use generator::frames::thread::Thread;
 use generator::frames::Scene;
 use generator::questions::{question, Question};
 use generator::{case_of, listings, valid, Rng};
@@ -108,6 +109,38 @@ fn a_refused_move_has_0_pairs_and_an_accepted_one_no_place() {
         }
     }
     for number in NUMBERS {
+        assert!(counts[number as usize] > 100, "{number}: {counts:?}");
+    }
+}
+
+#[test]
+fn a_refused_thread_has_0_pairs_and_an_accepted_one_no_place() {
+    let mut rng = Rng::new(1);
+    let mut counts = [0; 27];
+    for _ in 0..20_000 {
+        let mut list = Thread::any(&mut rng);
+        if rng.one_in(4) {
+            let number = rng.pick(&[13, 14]);
+            aim(&mut rng, number, &mut list.scene, 0);
+        }
+        let (section, frames) = (list.scene.section.encode(), list.list());
+        let mut image = list.scene.image.clone();
+        let (first, table) = (list.scene.first, &list.scene.table);
+        let answer = thread(
+            &section,
+            &mut image,
+            first,
+            &table.olds,
+            &table.news,
+            &frames,
+        );
+        counts[answer.verdict.number as usize] += 1;
+        match answer.verdict.number {
+            0 => assert_eq!(answer.verdict.place, 0, "{list:?}"),
+            _ => assert_eq!(answer.value, 0, "{list:?}"),
+        }
+    }
+    for number in NUMBERS.into_iter().chain([0, 25, 26]) {
         assert!(counts[number as usize] > 100, "{number}: {counts:?}");
     }
 }

@@ -85,6 +85,20 @@ pub fn count_parts<const N: usize>(
     sums
 }
 
+/// Runs so many parts with so many inputs each, as [`count_parts`] does, by a seed that is printed
+/// with what it is for.
+#[allow(dead_code)] // Not every test has inputs that stand alone.
+pub fn count_random<const N: usize>(
+    what: &str,
+    parts: u64,
+    inputs: u64,
+    run: impl Fn(&mut Rng, &mut [u64; N]) + Sync,
+) -> [u64; N] {
+    count_parts(seed(what), parts, |rng, counts| {
+        (0..inputs).for_each(|_| run(rng, counts));
+    })
+}
+
 /// Fails where something that was counted hardly occurred. `name` says what the nth count is of.
 pub fn assert_often(counts: &[u64], name: impl Fn(usize) -> String) {
     for (nth, count) in counts.iter().enumerate() {

@@ -2,8 +2,8 @@
 //! it is on the starting image, and the image comes out as worked out from it.
 
 use crate::calls::{Call, Outcome};
-use crate::common::{count_parts, say, seed};
-use generator::frames::faults::aim;
+use crate::common::{count_random, say};
+use generator::frames::faults::scatter;
 use generator::frames::{plain, shuffle, Scene};
 use generator::Rng;
 
@@ -11,29 +11,8 @@ use generator::Rng;
 const PARTS: u64 = 200;
 const LISTS_A_PART: u64 = 40;
 
-/// The faults that one frame of several may have.
-const FAULTS: [u64; 9] = [10, 12, 15, 16, 17, 18, 19, 20, 21];
-
 /// Lists, moves, accepted moves, lists with a refused frame, and frames that share a record.
 type Counts = [u64; 5];
-
-/// Frames on a stack, some of them with faults.
-fn scene(rng: &mut Rng, count: usize) -> Scene {
-    let mut scene = Scene::many(rng, count);
-    let mut faulty: Vec<usize> = Vec::new();
-    for stop in 0..count {
-        let record = scene.stops[stop].record;
-        let fresh = faulty
-            .iter()
-            .all(|other| scene.stops[*other].record != record);
-        if fresh && rng.one_in(4) {
-            let number = rng.pick(&FAULTS);
-            aim(rng, number, &mut scene, stop);
-            faulty.push(stop);
-        }
-    }
-    scene
-}
 
 /// Whether no two frames have extents that share a byte.
 fn apart(scene: &Scene, section: &[u8]) -> bool {
@@ -105,7 +84,8 @@ fn list(rng: &mut Rng, counts: &mut Counts) {
         0 => 6 + rng.below(10),
         _ => rng.below(6),
     };
-    let scene = scene(rng, count);
+    let mut scene = Scene::many(rng, count);
+    scatter(rng, &mut scene, 4);
     let section = scene.section.encode();
     if !apart(&scene, &section) {
         return;
@@ -145,12 +125,7 @@ fn list(rng: &mut Rng, counts: &mut Counts) {
 
 #[test]
 fn random_lists() {
-    let seed = seed("lists of moves");
-    let counts = count_parts(seed, PARTS, |rng, counts: &mut Counts| {
-        for _ in 0..LISTS_A_PART {
-            list(rng, counts);
-        }
-    });
+    let counts = count_random("lists of moves", PARTS, LISTS_A_PART, list);
     say(&format!(
         "lists, moves, accepted moves, lists with a refusal, frames of one record: {counts:?}"
     ));

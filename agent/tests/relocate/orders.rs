@@ -1,7 +1,7 @@
 //! What must not count: the order of pairs, and the bytes outside the slots.
 
 use crate::calls::Call;
-use crate::common::{count_parts, say, seed};
+use crate::common::{count_random, say};
 use crate::make;
 use generator::frames::faults::NUMBERS;
 use generator::frames::{plain, Scene};
@@ -76,32 +76,20 @@ fn complemented(rng: &mut Rng, counts: &mut Counts) {
     counts[outcome.number as usize] += 1;
 }
 
-/// The refusals of a frame itself must occur: those from 12 on.
-fn often(counts: &Counts) {
+/// Runs random frames. The refusals of a frame itself must occur: those from 12 on.
+fn random(what: &str, run: fn(&mut Rng, &mut Counts)) {
+    let counts = count_random(what, PARTS, FRAMES_A_PART, run);
+    say(&format!("{what}, answers 0 to 21: {counts:?}"));
     let number = |nth| format!("answers of number {}", nth + 12);
     crate::common::assert_often(&counts[12..], number);
 }
 
 #[test]
 fn pairs_in_another_order() {
-    let seed = seed("pairs in another order");
-    let counts = count_parts(seed, PARTS, |rng, counts: &mut Counts| {
-        (0..FRAMES_A_PART).for_each(|_| permuted(rng, counts));
-    });
-    say(&format!(
-        "pairs in another order, answers 0 to 21: {counts:?}"
-    ));
-    often(&counts);
+    random("pairs in another order", permuted);
 }
 
 #[test]
 fn bytes_outside_the_slots() {
-    let seed = seed("bytes outside the slots");
-    let counts = count_parts(seed, PARTS, |rng, counts: &mut Counts| {
-        (0..FRAMES_A_PART).for_each(|_| complemented(rng, counts));
-    });
-    say(&format!(
-        "bytes outside the slots, answers 0 to 21: {counts:?}"
-    ));
-    often(&counts);
+    random("bytes outside the slots", complemented);
 }

@@ -22,7 +22,7 @@ fn row(section: &[u8], slots: [u64; 2], new: u64) -> Outcome {
         first: 0x7000,
         olds: &[0x50000],
         news: &[new],
-        frame: Frame {
+        frames: Frame {
             address: 0x1020,
             rbp: 0,
             rsp: 0x7000,

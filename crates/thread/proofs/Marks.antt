@@ -1,5 +1,5 @@
 -- The records of many addresses, kept in one walk.
-use Prim.Native.Nat.{ℕ, _+_, _*_, _-_, _^_, _≤_, _<_}
+use Prim.Native.Nat.{ℕ, zero, suc, _+_, _*_, _-_, _^_, _≤_, _<_}
 use mathlib.Core.Path.{_≡_, refl, sym, ap, _∙_}
 use mathlib.Core.Bool.{Bool, true, false, cond}
 use mathlib.Core.List.{List, [], _∷_}
@@ -79,6 +79,24 @@ module _ (b : List ℕ) (i : ℕ) (h : Hits) where
 -- an address that is another's is not noted
 passes-by : (x : ℕ) (e : Entry) (h : Hits) → (x ≡ address e → ⊥) → noted x e h ≡ h
 passes-by x e h n = passed x e h (ne-eqb _ _ (λ q. n (sym q)))
+
+-- its address is none of those looked for
+pub unlooked : (keys : List ℕ) (n : ℕ) (e : Entry) (before : List ℕ) → ((j : ℕ) → j < n → getD keys j 0 ≡ address e → ⊥)
+    → (h : ℕ → Hits) → Holding keys n before h → Holding keys n before (notedAll e h)
+unlooked keys n e before none h r =
+    record { at = λ j m c. r .at j m c ∙ sym (passes-by (getD keys j 0) e (h (getD keys j 0)) (none j m)) }
+
+-- those that are looked for are not below the first, nor above the last
+pub not-below : (keys : List ℕ) (n x : ℕ) → Sorted keys n → x < getD keys 0 0 → (j : ℕ) → j < n → getD keys j 0 ≡ x → ⊥
+not-below keys n x o l zero m q = omega arith
+not-below keys n x o l (suc j) m q = omega (arith, o .order 0 (suc j) (omega arith) m)
+
+pub not-above : (keys : List ℕ) (n x : ℕ) → Sorted keys n → getD keys (n - 1) 0 < x → (j : ℕ) → j < n → getD keys j 0 ≡ x → ⊥
+not-above keys n x o l j m q = go (decLt j (n - 1))
+  where
+    go : Dec (j < n - 1) → ⊥
+    go (yes a) = omega (arith, o .order j (n - 1) a (omega arith))
+    go (no a) = let z : j ≡ n - 1 = omega arith in let k : getD keys (n - 1) 0 ≡ x = rw z at q in omega arith
 
 module _ (keys : List ℕ) (n : ℕ) (e : Entry) (i : ℕ) (b : LowerBound keys n (address e) i) where
   -- its address is looked for, at the place i

@@ -73,6 +73,15 @@ fn mark(
     let start = wire::u64_at(s, layout::HEADER_SIZE + layout::FUNCTION_SIZE * function);
     let offset = wire::u32_at(s, at + layout::INSTRUCTION_OFFSET_AT) as u64;
     let key = start + offset;
+    if count == 0 {
+        return;
+    }
+    if key < keys[0] {
+        return;
+    }
+    if key > keys[count - 1] {
+        return;
+    }
     let i = sorted::lower_bound(keys, count, key);
     if i < count {
         if keys[i] == key {

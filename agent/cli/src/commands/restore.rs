@@ -2,11 +2,10 @@
 
 use super::Command;
 use crate::arguments::{Arguments, Form};
-use crate::library::{Frame, Refusal, Table};
+use crate::library::{self, Frame, Refusal, Table};
 use crate::lists::{self, Entry};
 use crate::numbers::count;
 use crate::replace::Held;
-use crate::thread::{Refused, Thread};
 use crate::trouble::{Status, Trouble};
 use crate::{files, output};
 use std::ffi::OsString;
@@ -18,21 +17,22 @@ pub const COMMAND: Command = Command {
     help: "\
 usage: treskibben restore --section FILE --image FILE --first ADDRESS --moves FILE --frames FILE
 
-Moves the frames of a stopped thread, in the order of the list, and replaces the image file: all
-frames or none. On a refusal or a fault the image file stays byte for byte as it was.
+Moves the frames of a stopped thread, all of them or none, and replaces the image file. On a refusal
+or a fault the image file stays byte for byte as it was.
 
   --section FILE    the stack map section
   --image FILE      the bytes of the stack, which are replaced; at most 1,048,576
   --first ADDRESS   the address of the image's first byte
   --moves FILE      where the objects of the heap were and are: lines 'OLD NEW', old starts rising
-  --frames FILE     the stopped frames: lines 'ADDRESS RBP RSP'
+  --frames FILE     the stopped frames: lines 'ADDRESS RBP RSP'; at most 4,096
 
 Numbers are hexadecimal, with or without 0x. In the lists, '#' begins a comment, and blank lines
 are passed over.
 
-Refusals come in this order: 1 to 9 of the section, 13 of the image, 14 of the moves; 26 at the
-first frame, counted from 0, whose extent shares a byte with an earlier one's; then frame by frame
-10, 15, 12, 16, 17, 18, 19, 20, 21.
+Refusals come in this order: 1 to 9 of the section, 13 of the image, 14 of the moves, 25 of the
+frames as a list; then the first frame of the list that is refused by itself, by 10, 15, 12, or 16
+to 21; then 26 at the first frame whose extent shares a byte with an earlier one's. The place of a
+frame's refusal is its position in the list, counted from 0.
 ",
     run,
 };
@@ -72,15 +72,14 @@ fn restore(call: &Call, first: u64) -> Result<(), Trouble> {
     let frames: Vec<Frame> = lines.iter().map(frame).collect();
     let mut held = Held::open(&call.image)?;
     let mut image = held.read(files::IMAGE)?;
-    let thread = Thread {
-        section: &section,
-        first,
-        table: &table,
-        frames: &frames,
-    };
-    let pairs = thread
-        .restore(&mut image)
-        .map_err(|refused| call.words(&lines, refused))?;
+    let moved = library::relocate_thread(&section, &mut image, first, &table, &frames);
+    let pairs = moved.map_err(|(refusal, position)| {
+        let frame = position.map(|position| {
+            let pair = library::pair_at_fault(&section, &image, first, &table, frames[position]);
+            call.frame(position, &lines[position], pair)
+        });
+        call.words(refusal, frame)
+    })?;
     held.replace(&image)?;
     let (frames, pairs) = (count(frames.len() as u64, "frame"), count(pairs, "pair"));
     let image = call.image.display();
@@ -103,32 +102,27 @@ fn frame(entry: &Entry<3>) -> Frame {
 }
 
 impl Call {
-    /// What is said of a refused restore.
-    fn words(&self, lines: &[Entry<3>], refused: Refused) -> Trouble {
-        let name = |position: usize| {
-            let entry = &lines[position];
-            let [address, rbp, rsp] = entry.numbers;
-            let (file, line) = (self.frames.display(), entry.line);
-            format!("frame {position} ({file}:{line}, address {address:#x}, RBP {rbp:#x}, RSP {rsp:#x})")
-        };
-        let (refusal, name) = match refused {
-            Refused::Inputs(refusal) => (refusal, self.at_fault(refusal).display().to_string()),
-            Refused::Frame(position, refusal) => (refusal, name(position)),
-            Refused::Shared(shared) => {
-                let (one, other) = (name(shared.frame), name(shared.earlier));
-                let both = format!("{one} and {other}, at {:#x}", shared.byte);
-                (Refusal::shared(shared.frame), both)
-            }
-        };
+    /// A frame of the list, by its position, its line and, where there is one, the pair at fault.
+    fn frame(&self, position: usize, entry: &Entry<3>, pair: Option<u64>) -> String {
+        let [address, rbp, rsp] = entry.numbers;
+        let (file, line) = (self.frames.display(), entry.line);
+        let pair = pair.map_or(String::new(), |pair| format!(", pair {pair}"));
+        format!("frame {position} ({file}:{line}, address {address:#x}, RBP {rbp:#x}, RSP {rsp:#x}){pair}")
+    }
+
+    /// What is said of a refused restore, by a frame or by a file.
+    fn words(&self, refusal: Refusal, frame: Option<String>) -> Trouble {
+        let name = frame.unwrap_or_else(|| self.at_fault(refusal).display().to_string());
         let (cause, image) = (refusal.cause, self.image.display());
         Trouble::Refused(refusal, format!("{name}: {cause}\n{image} is as it was"))
     }
 
-    /// The file that a refusal of the inputs is about.
+    /// The file that a refusal is about which is no frame's.
     fn at_fault(&self, refusal: Refusal) -> &Path {
         match refusal.number {
             13 => &self.image,
             14 => &self.moves,
+            25 => &self.frames,
             _ => &self.section,
         }
     }

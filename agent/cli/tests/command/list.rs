@@ -3,23 +3,11 @@
 use crate::fixtures::{constant, location, row_h, rsp, with, C};
 use crate::run::{sample, Folder};
 use generator::layout::{Function, LiveOut, Record, Section};
+use std::fs;
 
-/// The listing of row H as document 01 writes it.
-const H_LISTING: &str = "
-    01 00 10 00 00 00 00 00 00 18 00 00 00 00 00 00 00 01 00 00 00 00 00 00 00
-    03 07 00 00 00 00 00 00 00 20 00 00 00
-    04 04 08 00 00 00 00 00 00 00
-    04 04 08 00 00 00 00 00 00 00
-    04 04 08 00 00 00 00 00 00 00
-    04 03 08 00 07 00 08 00 00 00
-    04 03 08 00 07 00 08 00 00 00
-    04 03 08 00 07 00 08 00 00 00
-    04 03 08 00 07 00 10 00 00 00
-    06";
-
+/// The listing of row H. The library's own tests hold the file to the bytes of document 01.
 pub fn h_listing() -> Vec<u8> {
-    let byte = |digits| u8::from_str_radix(digits, 16).unwrap();
-    H_LISTING.split_whitespace().map(byte).collect()
+    fs::read(sample("h-statepoint.listing")).unwrap()
 }
 
 /// A record with every kind of location, and live-outs.

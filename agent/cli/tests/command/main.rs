@@ -8,4 +8,5 @@ mod fixtures;
 mod list;
 mod restore;
 mod run;
+mod terminal;
 mod usage;

@@ -4,7 +4,6 @@ mod faults;
 mod killed;
 mod lists;
 mod refusals;
-mod terminal;
 mod threads;
 mod worked;
 

@@ -10,6 +10,9 @@ use crate::rng::Rng;
 /// The refusals of a frame that are not its section's.
 pub const NUMBERS: [u64; 11] = [10, 12, 13, 14, 15, 16, 17, 18, 19, 20, 21];
 
+/// Those that are one frame's own, whatever the other frames are.
+pub const OWN: [u64; 9] = [10, 12, 15, 16, 17, 18, 19, 20, 21];
+
 /// Lists and images past their limits are large: there are few of them.
 const LARGE: usize = 40;
 
@@ -29,6 +32,23 @@ pub fn aim(rng: &mut Rng, number: u64, scene: &mut Scene, stop: usize) -> Option
         20 => collision(rng, scene, stop),
         21 => base(rng, scene, stop),
         _ => None,
+    }
+}
+
+/// Gives one frame in so many a fault of its own. Frames at a statepoint with a fault already get
+/// none.
+pub fn scatter(rng: &mut Rng, scene: &mut Scene, many: usize) {
+    let mut faulty: Vec<usize> = Vec::new();
+    for stop in 0..scene.stops.len() {
+        let record = scene.stops[stop].record;
+        let fresh = faulty
+            .iter()
+            .all(|other| scene.stops[*other].record != record);
+        if fresh && rng.one_in(many) {
+            let number = rng.pick(&OWN);
+            aim(rng, number, scene, stop);
+            faulty.push(stop);
+        }
     }
 }
 

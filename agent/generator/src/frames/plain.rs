@@ -1,8 +1,9 @@
-//! What becomes of the image, worked out plainly from the scene: one more opinion beside those of
-//! the library and of the second implementation.
+//! How a frame is answered and what becomes of the image, worked out plainly from the scene: one more
+//! opinion beside those of the library and of the second implementation.
 
-use super::{Scene, RBP};
+use super::{Scene, MOST_PAIRS, RBP, RSP};
 use crate::layout::{Location, Record};
+use crate::questions::addresses;
 
 /// The slots of a pair, base first, by their first byte counted from RSP; a null pair has none.
 pub type Slots = Option<[i128; 2]>;
@@ -44,6 +45,65 @@ pub fn content(scene: &Scene, stop: usize, slot: i128) -> u64 {
     let at = usize::try_from(scene.start(stop) + slot).expect("a slot in the image");
     let bytes = scene.image[at..at + 8].try_into().expect("eight bytes");
     u64::from_le_bytes(bytes)
+}
+
+/// The answer of a frame by itself, where nothing is wrong with the section, the image and the table:
+/// number and place, both 0 where it is accepted.
+pub fn refusal(scene: &Scene, stop: usize) -> (u64, u64) {
+    match whole(scene, stop) {
+        Err(number) => (number, 0),
+        Ok(pairs) => {
+            let wrong = |pair: &[Location]| !is_null(scene, pair) && !pair.iter().all(is_slot);
+            if let Some(pair) = pairs.chunks_exact(2).position(wrong) {
+                return (18, pair as u64);
+            }
+            let size = i128::from(scene.stack_size(stop));
+            let outside = |slot: &i128| *slot < 0 || *slot + 8 > size;
+            let beyond = |pair: &Slots| pair.iter().flatten().any(outside);
+            match slots(scene, stop).iter().position(beyond) {
+                Some(pair) => (19, pair as u64),
+                None => answer(scene, stop),
+            }
+        }
+    }
+}
+
+/// The locations of a frame's pairs, or what it is refused by as a whole: 10, 15, 12, 16, 17.
+fn whole(scene: &Scene, stop: usize) -> Result<&[Location], u64> {
+    let own = scene.stops[stop];
+    let mut there = addresses(&scene.section)
+        .enumerate()
+        .filter(|(_, (_, address))| *address == own.address);
+    let (record, (function, _)) = there.next().ok_or(10_u64)?;
+    if there.next().is_some() {
+        return Err(15);
+    }
+    assert_eq!((record, function), (own.record, own.function));
+    let record = &scene.section.records[record];
+    let first = first_pair(record).ok_or(12_u64)?;
+    let (start, size) = (scene.start(stop), scene.stack_size(stop));
+    if size == u64::MAX || start < 0 || start + i128::from(size) > scene.image.len() as i128 {
+        return Err(16);
+    }
+    let pairs = &record.locations[first..];
+    match pairs.len() > 2 * MOST_PAIRS {
+        true => Err(17),
+        false => Ok(pairs),
+    }
+}
+
+/// Whether both locations of a pair are constants equal to 0.
+fn is_null(scene: &Scene, pair: &[Location]) -> bool {
+    pair.iter().all(|one| match one.kind {
+        4 => one.offset == 0,
+        5 => scene.section.constants[one.offset as usize] == 0,
+        _ => false,
+    })
+}
+
+/// Whether a location has the form of a slot.
+fn is_slot(location: &Location) -> bool {
+    location.kind == 3 && location.size == 8 && [RBP, RSP].contains(&location.register)
 }
 
 /// The answer of a frame whose pairs all have slots inside it: 20, 21 or accepted.

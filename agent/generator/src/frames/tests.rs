@@ -1,3 +1,4 @@
+use super::guests::Lie;
 use super::*;
 
 #[test]
@@ -37,4 +38,50 @@ fn tables_have_as_many_entries_as_asked_for() {
         assert!(table.olds.is_sorted_by(|one, next| one < next));
         assert!(!table.olds.contains(&0) && !table.news.contains(&0));
     }
+}
+
+/// A guest lies as it is asked to, and is accepted by itself; the frames before it are as they were.
+#[test]
+fn guests_lie_as_asked_and_are_accepted() {
+    let mut rng = Rng::new(1);
+    let mut added = [0; Lie::ALL.len()];
+    for _ in 0..4_000 {
+        let mut scene = Scene::many(&mut rng, 3);
+        let (nth, host) = (rng.below(Lie::ALL.len()), rng.below(3));
+        let Some(guest) = guests::add(&mut rng, &mut scene, Lie::ALL[nth], host) else {
+            continue;
+        };
+        added[nth] += 1;
+        for stop in 0..scene.stops.len() {
+            assert_eq!(plain::refusal(&scene, stop), (0, 0));
+        }
+        let extent = |stop| {
+            let start = scene.start(stop);
+            start..start + i128::from(scene.stack_size(stop))
+        };
+        let shares = extent(guest).any(|byte| extent(host).contains(&byte));
+        assert_eq!(shares, Lie::ALL[nth].shares(), "{:?}", Lie::ALL[nth]);
+        let touch =
+            extent(guest).end == extent(host).start || extent(guest).start == extent(host).end;
+        let touches = matches!(Lie::ALL[nth], Lie::TouchesFirst | Lie::TouchesLast);
+        assert!(touch || !touches);
+    }
+    assert!(added.iter().all(|count| *count > 100), "{added:?}");
+}
+
+/// Where a fault is aimed at, the plain answer is that fault.
+#[test]
+fn plain_answers_are_those_aimed_at() {
+    let mut rng = Rng::new(1);
+    let mut hit = 0;
+    for _ in 0..20_000 {
+        let mut scene = Scene::one(&mut rng);
+        assert_eq!(plain::refusal(&scene, 0), (0, 0));
+        let number = rng.pick(&faults::OWN);
+        if let Some(place) = faults::aim(&mut rng, number, &mut scene, 0) {
+            assert_eq!(plain::refusal(&scene, 0), (number, place));
+            hit += 1;
+        }
+    }
+    assert!(hit > 10_000, "{hit}");
 }

@@ -62,6 +62,17 @@ pub fn break_by(rng: &mut Rng, cause: Cause, listed: &mut Listed) -> Option<usiz
     }
 }
 
+/// Breaks any listing that keeps the grammar, and says at which place it is broken.
+pub fn break_any(rng: &mut Rng, listed: &mut Listed) -> usize {
+    let cause = rng.pick(&[
+        Cause::UnknownKind,
+        Cause::WrongOrder,
+        Cause::MissingEnd,
+        Cause::AfterTheEnd,
+    ]);
+    break_by(rng, cause, listed).expect("these can break any listing")
+}
+
 /// The nth item has a kind that there isn't, or a byte of that value stands before it.
 fn unknown_kind(rng: &mut Rng, listed: &mut Listed, nth: usize) -> usize {
     let place = listed.items[nth];

@@ -1,7 +1,7 @@
 //! Listings whose sections are about as long as a section can be, and listings about as long as one
 //! can be.
 
-use super::grammar::{break_by, Cause};
+use super::grammar::break_any;
 use super::{faults, several, Listed, CONSTANT, END, FUNCTION, LIVE_OUT, LONGEST, RECORD};
 use crate::edges::Visit;
 use crate::layout::{Section, HEADER, LARGEST};
@@ -105,14 +105,7 @@ impl Large {
         let mut section = valid::section(rng);
         self.pad(&mut section, rng.below(2) * layout::CONSTANT);
         let mut listed = Listed::of(&section);
-        let cause = rng.pick(&[
-            Cause::UnknownKind,
-            Cause::WrongOrder,
-            Cause::MissingEnd,
-            Cause::AfterTheEnd,
-        ]);
-        let place = break_by(rng, cause, &mut listed).expect("these can break any listing");
-        let place = self.base + place;
+        let place = self.base + break_any(rng, &mut listed);
         (self.with(&listed.bytes), 22, place)
     }
 

@@ -1,6 +1,6 @@
 //! Listings with as many locations or live-outs in a record as it can state, and with more.
 
-use super::grammar::{break_by, Cause};
+use super::grammar::break_any;
 use super::{item_length, several, Listed, LIVE_OUT, LOCATION, RECORD};
 use crate::edges::{function, record};
 use crate::layout::Section;
@@ -40,13 +40,7 @@ pub fn broken(rng: &mut Rng, section: &Section, kind: u8) -> Case {
     let section = with_record(section);
     let nth = rng.below(section.records.len());
     let (mut listed, _) = filled(&section, &[(nth, kind, MOST + 1)]);
-    let cause = rng.pick(&[
-        Cause::UnknownKind,
-        Cause::WrongOrder,
-        Cause::MissingEnd,
-        Cause::AfterTheEnd,
-    ]);
-    let place = break_by(rng, cause, &mut listed).expect("these can break any listing");
+    let place = break_any(rng, &mut listed);
     Case::known("overfull and broken", listed.bytes, 22, place)
 }
 

@@ -4,6 +4,7 @@ use super::Restore;
 use crate::fixtures::{
     constant, location, of_pairs, one_function, row_h, rsp, statepoint, with, words,
 };
+use generator::layout::Location;
 
 /// Row I on another section.
 fn on(section: Vec<u8>) -> Restore {
@@ -138,15 +139,21 @@ fn refusals_of_the_pairs() {
         [constant(0), rsp(8)],
         [constant(1), constant(1)],
     ] {
-        on(of_pairs(24, &[good.clone(), bad])).refused(18, 1);
+        second_pair(18, [good.clone(), bad]);
     }
     for offset in [17, -1, i32::MIN, i32::MAX] {
-        on(of_pairs(24, &[good.clone(), [rsp(8), rsp(offset)]])).refused(19, 1);
+        second_pair(19, [good.clone(), [rsp(8), rsp(offset)]]);
     }
-    on(of_pairs(24, &[good.clone(), [rsp(8), rsp(1)]])).refused(20, 1);
-    let other_base = [rsp(0), rsp(8)];
-    on(of_pairs(24, &[good.clone(), other_base])).refused(20, 1);
-    on(of_pairs(24, &[good, [rsp(16), rsp(16)]])).refused(21, 1);
+    second_pair(20, [good.clone(), [rsp(8), rsp(1)]]);
+    second_pair(20, [good.clone(), [rsp(0), rsp(8)]]);
+    second_pair(21, [good, [rsp(16), rsp(16)]]);
+}
+
+/// The place of a refusal is the frame's position; the words tell the pair.
+#[track_caller]
+fn second_pair(number: u64, pairs: [[Location; 2]; 2]) {
+    let words = on(of_pairs(24, &pairs)).refused(number, 0);
+    assert!(words.contains("RSP 0x7000), pair 1: "), "{words}");
 }
 
 #[test]
@@ -177,11 +184,14 @@ fn order() {
     all.image = Restore::row_i().image;
     all.refused(14, 0);
     all.moves = "50000 90000".to_string();
+    let frames = std::mem::replace(&mut all.frames, "9999 0 0\n".repeat(4_097));
+    all.refused(25, 0);
+    all.frames = frames;
+    all.refused(10, 2);
+    all.frames = "1020 0 7000\n1020 0 0\n9999 0 0\n".to_string();
+    all.refused(16, 1);
+    all.frames = "1020 0 7000\n1020 0 7000\n".to_string();
     all.refused(26, 1);
-    all.frames = "1020 0 7000\n9999 0 0\n1020 0 0\n".to_string();
-    all.refused(10, 0);
-    all.frames = "1020 0 7000\n1020 0 0\n".to_string();
-    all.refused(16, 0);
 }
 
 /// A list of none moves nothing, and what all frames share is looked at all the same.

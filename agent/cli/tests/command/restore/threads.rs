@@ -1,4 +1,4 @@
-//! Several frames: any order, shared extents, one of them refused.
+//! Several frames: any order, one of them refused, shared extents, as many as there may be.
 
 use super::Restore;
 use crate::fixtures::{of_pairs, one_function, row_h, rsp, statepoint, words};
@@ -57,22 +57,17 @@ fn many_frames_in_any_order() {
 #[test]
 fn one_refused_frame_refuses_all() {
     let whole = thread(20);
-    for (bad, number, place) in [
-        ("1021 0 7000", 10, 0),
-        ("1020 0 8000", 16, 0),
-        ("1020 0 6ff0", 16, 0),
+    for (bad, number) in [
+        ("1021 0 7000", 10),
+        ("1020 0 8000", 16),
+        ("1020 0 6ff0", 16),
     ] {
-        for line in [0, 7, 20] {
+        for position in [0, 7, 20] {
             let mut row = whole.clone();
             let mut lines: Vec<&str> = whole.frames.lines().collect();
-            lines.insert(line, bad);
-            if bad == "1020 0 6ff0" {
-                // The frame before the image reaches into the first one.
-                lines.retain(|line| *line != "1020 0 7000");
-            }
-            let position = lines.iter().position(|there| *there == bad).unwrap();
+            lines.insert(position, bad);
             row.frames = format!("# frames\n\n{}", lines.join("\n"));
-            let words = row.refused(number, place);
+            let words = row.refused(number, position as u64);
             let start = format!("frame {position} (frames:{}, ", position + 3);
             assert!(words.starts_with(&start), "{words}");
         }
@@ -84,46 +79,55 @@ fn one_refused_frame_refuses_all() {
 fn the_first_refused_frame_is_named() {
     let mut row = thread(3);
     row.moves = "50000 90000".to_string();
-    let words = row.refused(21, 0);
+    let words = row.refused(21, 1);
     assert!(words.starts_with("frame 1 (frames:2, "), "{words}");
+    row.frames += "9999 0 0";
+    row.refused(21, 1);
+}
+
+/// A list has at most 4,096 frames, whatever they are.
+#[test]
+fn as_many_frames_as_there_may_be() {
+    let mut row = thread(4_096);
+    assert!(row.done("4096 frames moved, 8192 pairs") == moved(4_096));
+    row.frames += "9999 0 0\n";
+    let words = row.refused(25, 0);
+    assert_eq!(
+        words,
+        "frames: list of frames not a multiple of three numbers, or over 4,096 frames"
+    );
 }
 
 #[test]
-fn shared_extents_are_refused_before_the_first_move() {
+fn shared_extents_are_refused() {
     let mut row = thread(6);
     row.frames += "1020 0 7030\n";
     assert_eq!(
         row.refused(26, 6),
-        "frame 6 (frames:7, address 0x1020, RBP 0x0, RSP 0x7030) and \
-         frame 2 (frames:3, address 0x1020, RBP 0x0, RSP 0x7030), at 0x7030: two extents share a byte"
+        "frame 6 (frames:7, address 0x1020, RBP 0x0, RSP 0x7030): \
+         extent shares a byte with that of an earlier frame"
     );
-    for (rsp, earlier, byte) in [
-        (0x7017, 1, 0x7018),
-        (0x7019, 1, 0x7019),
-        (0x6fe9, 0, 0x7000),
-    ] {
+    // Without pairs a frame is accepted wherever it lies.
+    row.section = of_pairs(24, &[]);
+    for (rsp, number) in [(0x7017, 26), (0x7019, 26), (0x702f, 26), (0x7030, 0)] {
         row.frames = format!("1020 0 7000\n1020 0 7018\n1020 0 {rsp:x}");
-        let words = row.refused(26, 2);
-        assert!(
-            words.contains(&format!(" and frame {earlier} (")),
-            "{words}"
-        );
-        assert!(words.contains(&format!(", at {byte:#x}: ")), "{words}");
+        match number {
+            0 => drop(row.done("3 frames moved, 0 pairs")),
+            _ => drop(row.refused(number, 2)),
+        }
     }
-    row.frames = "1020 0 7000\n1020 0 7018".to_string();
-    row.done("2 frames moved, 4 pairs");
 }
 
-/// Extents count wherever they are, also outside the image and beyond the last address.
+/// A frame that is refused by itself comes before extents that share a byte, wherever it stands.
 #[test]
-fn extents_outside_the_image_count() {
+fn a_refused_frame_comes_before_shared_extents() {
     let mut row = Restore::row_i();
-    row.frames = "1020 0 9000\n1020 0 9017\n".to_string();
+    row.frames = "1020 0 7000\n1020 0 7000\n1020 0 9000\n".to_string();
+    row.refused(16, 2);
+    row.frames = "1020 0 7000\n1020 0 7000\n1020 0 ffffffffffffffff\n".to_string();
+    row.refused(16, 2);
+    row.frames = "1020 0 7000\n1020 0 7000\n".to_string();
     row.refused(26, 1);
-    row.frames = "1020 0 ffffffffffffffff\n1020 0 fffffffffffffff0\n".to_string();
-    row.refused(26, 1);
-    row.frames = "1020 0 ffffffffffffffff\n1020 0 0\n".to_string();
-    row.refused(16, 0);
 }
 
 /// Functions at 0x1000 (stack size 24), 0x2000 (0) and 0x3000 (not known), each with a statepoint
@@ -165,7 +169,7 @@ fn empty_extents_share_nothing() {
     assert_eq!(row.done("50 frames moved, 0 pairs"), []);
 }
 
-/// Frames without an extent share nothing; what they are refused by is said in its turn.
+/// Frames without an extent are refused, by what is said of each by itself.
 #[test]
 fn frames_without_an_extent() {
     for (frame, number) in [
@@ -178,7 +182,7 @@ fn frames_without_an_extent() {
             frames: format!("1020 0 7000\n{frame}\n{frame}\n"),
             ..Restore::row_i()
         };
-        let words = row.refused(number, 0);
+        let words = row.refused(number, 1);
         assert!(words.starts_with("frame 1 (frames:2, "), "{words}");
     }
 }

@@ -52,7 +52,7 @@ fn also_a_base_inside_an_object() {
     };
     assert_eq!(
         row.refused(21, 0),
-        "frame 0 (frames:1, address 0x1020, RBP 0x0, RSP 0x7000): base neither 0 nor an old start"
+        "frame 0 (frames:1, address 0x1020, RBP 0x0, RSP 0x7000), pair 0: base neither 0 nor an old start"
     );
 }
 
@@ -66,9 +66,9 @@ fn also_a_slot_outside_and_a_collision() {
             section: of_pairs(24, &[[rsp(8), rsp(8)], [rsp(8), rsp(offset)]]),
             ..Restore::row_i()
         };
-        let words = row.refused(number, 1);
+        let words = row.refused(number, 0);
         assert!(words.starts_with("frame 0 (frames:1, "), "{words}");
-        assert!(words.ends_with(cause), "{words}");
+        assert!(words.ends_with(&format!("), pair 1: {cause}")), "{words}");
     }
 }
 

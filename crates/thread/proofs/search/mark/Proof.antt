@@ -6,7 +6,7 @@ use Rattle.stackmap.specs.Section.{address}
 use Rattle.stackmap.specs.Walk.{entryAt}
 use Rattle.questions.proofs.Kept.{here-address}
 use Rattle.sorted.specs.Sorted.{LowerBound}
-use Rattle.thread.proofs.Marks.{marked, unmarked, counted-more, counted-stored}
+use Rattle.thread.proofs.Marks.{unlooked, not-below, not-above, marked, unmarked, counted-more, counted-stored}
 use borrow.Author.Needs.{needs}
 use Rattle.thread.proofs.search.mark.Statement.{statement}
 use Rattle.thread.proofs.search.mark.Tie as tie
@@ -36,55 +36,88 @@ add-key c =
     let h = here-address (a .s .now) (a .index) (a .function) (a .at) in
     omega (arith, f, h, c .before .u64-at .ensures, c .u32-at .ensures)
 
-lower-bound-requires : tie.Need-lower-bound-requires
-lower-bound-requires c κs = search needs
-
-mul-if2 : tie.Need-mul-if2
-mul-if2 c = search needs
+returns : tie.Need-returns
+returns c =
+    let a = c .before .before .before .before .args in
+    (unlooked (a .keys .now) (a .count) (entryAt (a .s .now) (a .index) (a .function) (a .at)) _ (λ j m q. omega (arith, m, c .if1 .taken)), counted-more _ _ _ (omega arith) (c .before .before .before .before .pre .7))
 
 element-copy-out-if2 : tie.Need-element-copy-out-if2
 element-copy-out-if2 c = search needs
+
+returns-2 : tie.Need-returns-2
+returns-2 c =
+    let a = c .before .before .before .before .before .before .args in
+    let e = entryAt (a .s .now) (a .index) (a .function) (a .at) in
+    let x : address e ≡ c .before .before .before .before .u64-at .result + c .before .before .before .u32-at .result =
+    here-address (a .s .now) (a .index) (a .function) (a .at) ∙ rw (c .before .before .before .before .u64-at .ensures, c .before .before .before .u32-at .ensures) in
+    (unlooked (a .keys .now) (a .count) e _ (not-below (a .keys .now) (a .count) (address e) (c .before .before .before .before .before .before .pre .6) (rw x (c .if2 .taken))), counted-more _ _ _ (omega arith) (c .before .before .before .before .before .before .pre .7))
+
+sub-if3 : tie.Need-sub-if3
+sub-if3 c = search needs
+
+mul-if3 : tie.Need-mul-if3
+mul-if3 c = search needs
+
+element-copy-out-if3 : tie.Need-element-copy-out-if3
+element-copy-out-if3 c = search needs
+
+returns-3 : tie.Need-returns-3
+returns-3 c =
+    let a = c .before .before .before .before .before .before .before .before .args in
+    let e = entryAt (a .s .now) (a .index) (a .function) (a .at) in
+    let x : address e ≡ c .before .before .before .before .before .before .u64-at .result + c .before .before .before .before .before .u32-at .result =
+    here-address (a .s .now) (a .index) (a .function) (a .at) ∙ rw (c .before .before .before .before .before .before .u64-at .ensures, c .before .before .before .before .before .u32-at .ensures) in
+    (unlooked (a .keys .now) (a .count) e _ (not-above (a .keys .now) (a .count) (address e) (c .before .before .before .before .before .before .before .before .pre .6) (rw x (c .if3 .taken))), counted-more _ _ _ (omega arith) (c .before .before .before .before .before .before .before .before .pre .7))
+
+lower-bound-requires : tie.Need-lower-bound-requires
+lower-bound-requires c κs = search needs
+
+mul-if5 : tie.Need-mul-if5
+mul-if5 c = search needs
+
+element-copy-out-if5 : tie.Need-element-copy-out-if5
+element-copy-out-if5 c = search needs
 
 hits-at-requires : tie.Need-hits-at-requires
 hits-at-requires c κs = search needs
 
 note-requires : tie.Need-note-requires
 note-requires c κs =
-    let s = c .before .before .before .before .before .before .before .before .before .before in
+    let s = c .before .before .before .before .before .before .before .before .before .before .before .before .before .before .before in
     (s .pre .0, s .pre .1, s .pre .2, rw (c .hits-at .ensures) (s .pre .7 .most _), s .pre .3)
 
 store-requires : tie.Need-store-requires
 store-requires c κs = search needs
 
-returns : tie.Need-returns
-returns c =
+returns-4 : tie.Need-returns-4
+returns-4 c =
+    let a = c .before .before .before .before .before .before .before .before .before .before .before .before .before .before .before .before .before .before .args in
+    let e = entryAt (a .s .now) (a .index) (a .function) (a .at) in
+    let x : address e ≡ c .before .before .before .before .before .before .before .before .before .before .before .before .before .before .before .before .u64-at .result + c .before .before .before .before .before .before .before .before .before .before .before .before .before .before .before .u32-at .result =
+    here-address (a .s .now) (a .index) (a .function) (a .at) ∙ rw (c .before .before .before .before .before .before .before .before .before .before .before .before .before .before .before .before .u64-at .ensures, c .before .before .before .before .before .before .before .before .before .before .before .before .before .before .before .u32-at .ensures) in
+    let l : LowerBound (a .keys .now) (a .count) (address e) (c .before .before .before .before .before .before .before .before .lower-bound .result) = rw x (c .before .before .before .before .before .before .before .before .lower-bound .ensures) in (
+      marked (a .keys .now) (a .count) e _ l _ _ (c .before .before .before .before .before .before .before .if4 .taken) (c .before .before .before .before .before .if5 .taken ∙ sym x)
+          (rw (x, ← c .before .before .before .hits-at .ensures, ← c .before .before .note .ensures .0) (c .store .ensures)),
+      counted-stored _ _ _ _ _ (c .store .ensures) (c .before .before .note .ensures .1) (c .before .before .before .before .before .before .before .before .before .before .before .before .before .before .before .before .before .before .pre .7),
+    )
+
+returns-5 : tie.Need-returns-5
+returns-5 c =
     let a = c .before .before .before .before .before .before .before .before .before .before .before .before .before .args in
     let e = entryAt (a .s .now) (a .index) (a .function) (a .at) in
     let x : address e ≡ c .before .before .before .before .before .before .before .before .before .before .before .u64-at .result + c .before .before .before .before .before .before .before .before .before .before .u32-at .result =
     here-address (a .s .now) (a .index) (a .function) (a .at) ∙ rw (c .before .before .before .before .before .before .before .before .before .before .before .u64-at .ensures, c .before .before .before .before .before .before .before .before .before .before .u32-at .ensures) in
-    let l : LowerBound (a .keys .now) (a .count) (address e) (c .before .before .before .before .before .before .before .before .lower-bound .result) = rw x (c .before .before .before .before .before .before .before .before .lower-bound .ensures) in (
-      marked (a .keys .now) (a .count) e _ l _ _ (c .before .before .before .before .before .before .before .if1 .taken) (c .before .before .before .before .before .if2 .taken ∙ sym x)
-          (rw (x, ← c .before .before .before .hits-at .ensures, ← c .before .before .note .ensures .0) (c .store .ensures)),
-      counted-stored _ _ _ _ _ (c .store .ensures) (c .before .before .note .ensures .1) (c .before .before .before .before .before .before .before .before .before .before .before .before .before .pre .7),
-    )
-
-returns-2 : tie.Need-returns-2
-returns-2 c =
-    let a = c .before .before .before .before .before .before .before .before .args in
-    let e = entryAt (a .s .now) (a .index) (a .function) (a .at) in
-    let x : address e ≡ c .before .before .before .before .before .before .u64-at .result + c .before .before .before .before .before .u32-at .result =
-    here-address (a .s .now) (a .index) (a .function) (a .at) ∙ rw (c .before .before .before .before .before .before .u64-at .ensures, c .before .before .before .before .before .u32-at .ensures) in
     let l : LowerBound (a .keys .now) (a .count) (address e) (c .before .before .before .lower-bound .result) = rw x (c .before .before .before .lower-bound .ensures) in
-    (unmarked (a .keys .now) (a .count) e _ l _ (λ m q. c .if2 .left (q ∙ x)), counted-more _ _ _ (omega arith) (c .before .before .before .before .before .before .before .before .pre .7))
+    (unmarked (a .keys .now) (a .count) e _ l _ (λ m q. c .if5 .left (q ∙ x)), counted-more _ _ _ (omega arith) (c .before .before .before .before .before .before .before .before .before .before .before .before .before .pre .7))
 
-returns-3 : tie.Need-returns-3
-returns-3 c =
-    let a = c .before .before .before .before .before .before .args in
+returns-6 : tie.Need-returns-6
+returns-6 c =
+    let a = c .before .before .before .before .before .before .before .before .before .before .before .args in
     let e = entryAt (a .s .now) (a .index) (a .function) (a .at) in
-    let x : address e ≡ c .before .before .before .before .u64-at .result + c .before .before .before .u32-at .result =
-    here-address (a .s .now) (a .index) (a .function) (a .at) ∙ rw (c .before .before .before .before .u64-at .ensures, c .before .before .before .u32-at .ensures) in
+    let x : address e ≡ c .before .before .before .before .before .before .before .before .before .u64-at .result + c .before .before .before .before .before .before .before .before .u32-at .result =
+    here-address (a .s .now) (a .index) (a .function) (a .at) ∙ rw (c .before .before .before .before .before .before .before .before .before .u64-at .ensures, c .before .before .before .before .before .before .before .before .u32-at .ensures) in
     let l : LowerBound (a .keys .now) (a .count) (address e) (c .before .lower-bound .result) = rw x (c .before .lower-bound .ensures) in
-    (unmarked (a .keys .now) (a .count) e _ l _ (λ m q. omega (arith, c .if1 .left)), counted-more _ _ _ (omega arith) (c .before .before .before .before .before .before .pre .7))
+    (unmarked (a .keys .now) (a .count) e _ l _ (λ m q. omega (arith, c .if4 .left)), counted-more _ _ _ (omega arith) (c .before .before .before .before .before .before .before .before .before .before .before .pre .7))
 
 pub mark-spec : {M : Type 1} → statement M
 mark-spec =
@@ -97,12 +130,19 @@ mark-spec =
     u32-at-requires
     cast-offset
     add-key
-    lower-bound-requires
-    mul-if2
+    returns
     element-copy-out-if2
+    returns-2
+    sub-if3
+    mul-if3
+    element-copy-out-if3
+    returns-3
+    lower-bound-requires
+    mul-if5
+    element-copy-out-if5
     hits-at-requires
     note-requires
     store-requires
-    returns
-    returns-2
-    returns-3)
+    returns-4
+    returns-5
+    returns-6)

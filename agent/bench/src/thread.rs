@@ -1,0 +1,154 @@
+//! The move of a whole thread, of one frame and of as many as there may be, in several orders of the list: on the large
+//! section, and on one whose records are as short as they can be, so that most of them have to be looked up.
+
+use crate::measure::{measure, say, table};
+use crate::section;
+use std::hint::black_box;
+use treskibben::{Frame, MoveTable};
+
+const CHECK: &str = "treskibben check";
+const FIND: &str = "question by address";
+const ALONE: &str = "the same frame moved by itself";
+const ONE: &str = "thread of one frame";
+const RISING: &str = "thread of 4,096 frames, addresses rising";
+const FALLING: &str = "thread of 4,096 frames, addresses falling";
+const MIXED: &str = "thread of 4,096 frames, in any order";
+
+/// The ratios to reach to the check of the same section, for one frame and for all.
+const MOST_FOR_ONE: f64 = 1.3;
+const MOST_FOR_ALL: f64 = 6.0;
+
+const FRAMES: usize = 4_096;
+const OBJECTS: u64 = 65_536;
+const STACK: u64 = 0x7fff_0000_0000;
+const WORD: u64 = 8;
+
+/// The most bytes of a frame: on both sections the frames then fit in the largest image.
+const MOST_BYTES: u64 = 320;
+
+/// A stack with the frames one above the other, in the order of their records.
+///
+/// Every word of it is the start of one object among many that are all where they were: each base is searched for and
+/// found, each derived slot is written, and the same list can be moved again and again.
+struct Stack {
+    image: Vec<u8>,
+    objects: Vec<u64>,
+    frames: Vec<Frame>,
+    pairs: usize,
+}
+
+/// Rows on the large section and on one of short records.
+pub fn rows(rounds: usize, large: &[u8], limit: usize) {
+    on(rounds, "the large section", large);
+    on(rounds, "the section of short records", &section::short_records(limit, FRAMES));
+}
+
+fn on(rounds: usize, name: &str, bytes: &[u8]) {
+    let Ok(read) = reference::section::read(bytes) else { panic!("the second implementation refuses {name}") };
+    let stack = Stack::new(&read);
+    println!("\n{name}: {} bytes, {} records; {FRAMES} frames with {} pairs", bytes.len(), read.records.len(), stack.pairs);
+    let [one, rising, falling, mixed] = stack.lists();
+    for list in [&rising, &falling, &mixed] {
+        let mut image = stack.image.clone();
+        assert_eq!(stack.moved(bytes, list, &mut image), stack.pairs, "the pairs on {name}");
+        assert!(image == stack.image, "objects that stay where they were change no byte");
+    }
+    let action = |list| {
+        let (stack, mut image) = (&stack, stack.image.clone());
+        move || {
+            black_box(stack.moved(bytes, list, &mut image));
+        }
+    };
+    let mut image = stack.image.clone();
+    let mut alone = || {
+        let _ = black_box(treskibben::relocate(black_box(bytes), &mut image, STACK, stack.table(), one[0]));
+    };
+    let rows = measure(
+        rounds,
+        &mut [
+            (CHECK, &mut crate::on(bytes, treskibben::check)),
+            (FIND, &mut crate::on(bytes, |bytes| treskibben::find(bytes, black_box(one[0].address)))),
+            (ALONE, &mut alone),
+            (ONE, &mut action(&one)),
+            (RISING, &mut action(&rising)),
+            (FALLING, &mut action(&falling)),
+            (MIXED, &mut action(&mixed)),
+        ],
+    );
+    println!("\n{}", table(&rows, &[CHECK]));
+    for (row, most) in [(ONE, MOST_FOR_ONE), (RISING, MOST_FOR_ALL), (FALLING, MOST_FOR_ALL), (MIXED, MOST_FOR_ALL)] {
+        say(&rows, row, CHECK, "the check", most);
+    }
+}
+
+impl Stack {
+    /// Frames at statepoints all over the section, of those that have pairs, all inside their frame.
+    fn new(section: &reference::Section) -> Stack {
+        let all: Vec<(u64, u64, usize)> = section.records.iter().filter_map(|record| fitting(section, record)).collect();
+        assert!(all.len() >= FRAMES, "only {} statepoints can be moved", all.len());
+        let (mut frames, mut bytes, mut pairs) = (Vec::new(), 0, 0);
+        for nth in 0..FRAMES {
+            let (address, size, own) = all[nth * all.len() / FRAMES];
+            frames.push(Frame { address, rbp: 0, rsp: STACK + bytes });
+            bytes += size;
+            pairs += own;
+        }
+        let objects: Vec<u64> = (1..=OBJECTS).map(|nth| 0x10_0000 + 64 * nth).collect();
+        let base = objects[OBJECTS as usize / 3];
+        let image = (0..bytes / WORD).flat_map(|_| base.to_le_bytes()).collect();
+        Stack { image, objects, frames, pairs }
+    }
+
+    /// The last frame alone, and all of them: rising, falling and in any order.
+    fn lists(&self) -> [Vec<Frame>; 4] {
+        let rising = self.frames.clone();
+        let falling: Vec<Frame> = rising.iter().rev().copied().collect();
+        // 1,597 and 4,096 have no divisor in common: each frame comes once.
+        let mixed = (0..FRAMES).map(|nth| rising[nth * 1_597 % FRAMES]).collect();
+        [falling[..1].to_vec(), rising, falling, mixed]
+    }
+
+    fn table(&self) -> MoveTable<'_> {
+        MoveTable::new(&self.objects, &self.objects)
+    }
+
+    fn moved(&self, section: &[u8], frames: &[Frame], image: &mut [u8]) -> usize {
+        let moved = treskibben::relocate_thread(black_box(section), image, STACK, self.table(), frames);
+        moved.unwrap_or_else(|refusal| panic!("the library refuses the thread: {refusal}"))
+    }
+}
+
+/// Address, stack size and number of pairs of a statepoint in a short frame that has all its slots.
+fn fitting(section: &reference::Section, record: &reference::Record) -> Option<(u64, u64, usize)> {
+    let size = section.functions.get(record.function)?.stack_size;
+    let (constants, rest) = record.locations.split_first_chunk::<3>()?;
+    let statepoint = constants.iter().all(|location| location.kind == 4) && record.live_outs.is_empty();
+    let slots = rest.get(usize::try_from(constants[2].offset).ok()?..)?;
+    let inside = |offset: i32| u64::try_from(offset).is_ok_and(|offset| offset + WORD <= size);
+    let fits = slots.iter().all(|slot| (slot.kind, slot.register) == (3, 7) && inside(slot.offset));
+    let movable = statepoint && fits && size <= MOST_BYTES && slots.len() >= 2;
+    movable.then_some((record.address, size, slots.len() / 2))
+}
+
+#[cfg(test)]
+mod tests {
+    use super::*;
+
+    /// What is measured is accepted, in each order, and comes to the same image.
+    #[test]
+    fn all_frames_can_be_moved_again_and_again() {
+        let sections = [section::build(crate::LIMIT), section::short_records(1_000_000, FRAMES)];
+        for bytes in sections {
+            let Ok(read) = reference::section::read(&bytes) else { panic!("the section is refused") };
+            let stack = Stack::new(&read);
+            assert!(stack.pairs >= FRAMES && stack.image.len() <= 1_048_576);
+            for list in stack.lists() {
+                let numbers: Vec<u64> = list.iter().flat_map(|frame| [frame.address, frame.rbp, frame.rsp]).collect();
+                let mut image = stack.image.clone();
+                let moved = reference::thread(&bytes, &mut image, STACK, &stack.objects, &stack.objects, &numbers);
+                assert!(moved.is_ok_and(|pairs| list.len() == 1 || pairs == stack.pairs as u64), "{moved:?}");
+                assert!(image == stack.image);
+            }
+        }
+    }
+}

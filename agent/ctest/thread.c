@@ -1,0 +1,138 @@
+/*
+ * Moves whole threads from C: lists of row I's frame that are accepted, refused in each order, and as
+ * long as a list may be.
+ */
+#include "moves.h"
+#include "rows.h"
+#include "tally.h"
+#include "treskibben.h"
+
+#include <stdio.h>
+#include <stdlib.h>
+#include <string.h>
+
+/* Slots on the short stack, bytes of a frame's extent, and the most frames of a list. */
+enum { SLOTS = 9, EXTENT = 24, MOST = 4096 };
+
+#define FIRST UINT64_C(0x7000)
+#define OLD UINT64_C(0x50000)
+#define NEW UINT64_C(0x90000)
+#define DERIVED UINT64_C(0x4e20) /* how far the second slot points behind its base */
+
+/* Row I's frame at an RSP, and one at an address that no record has. */
+#define AT(rsp) 0x1020, 0, (rsp)
+#define NOWHERE 0x1021, 0, 0x7000
+
+/* A list on the short stack: its numbers, the answer, and whether the first frame is moved. */
+struct row {
+    const char *name;
+    size_t length;
+    uint64_t list[12];
+    uint64_t answer[3];
+    int moved;
+};
+
+static const struct row rows[] = {
+    {"none", 0, {0}, {0, 0, 0}, 0},
+    {"one", 3, {AT(0x7000)}, {0, 0, 2}, 1},
+    {"two", 6, {AT(0x7000), AT(0x7018)}, {0, 0, 4}, 1},
+    {"two, the other first", 6, {AT(0x7018), AT(0x7000)}, {0, 0, 4}, 1},
+    {"three", 9, {AT(0x7030), AT(0x7000), AT(0x7018)}, {0, 0, 6}, 1},
+    {"one number", 1, {AT(0x7000)}, {25, 0, 0}, 0},
+    {"two numbers", 2, {AT(0x7000)}, {25, 0, 0}, 0},
+    {"four numbers", 4, {NOWHERE, 0x1020}, {25, 0, 0}, 0},
+    {"no record", 6, {AT(0x7000), NOWHERE}, {10, 1, 0}, 0},
+    {"no record first", 6, {NOWHERE, AT(0x7008)}, {10, 0, 0}, 0},
+    {"a base of no object first", 6, {AT(0x7008), NOWHERE}, {21, 0, 0}, 0},
+    {"outside", 9, {AT(0x7000), AT(0x7018), AT(0x7031)}, {16, 2, 0}, 0},
+    {"outside, and one twice", 9, {AT(0x7000), AT(0x7000), AT(0x6fff)}, {16, 2, 0}, 0},
+    {"one twice", 6, {AT(0x7000), AT(0x7000)}, {26, 1, 0}, 0},
+    {"one byte shared", 6, {AT(0x7000), AT(0x7017)}, {26, 1, 0}, 0},
+    {"shared with the first of three", 9, {AT(0x7000), AT(0x7030), AT(0x7017)}, {26, 2, 0}, 0},
+    {"two shared", 12, {AT(0x7018), AT(0x7000), AT(0x7019), AT(0x7000)}, {26, 2, 0}, 0},
+};
+
+static const uint64_t old_start = OLD, new_start = NEW;
+
+/* A frame's slots: the first is no pair's, the others are a base and what is derived from it. */
+static void put_frame(uint8_t *bytes, uint64_t base)
+{
+    put(bytes, 7);
+    put(bytes + 8, base);
+    put(bytes + 16, base + DERIVED);
+}
+
+/* Moves a row's list on a stack with one frame and zeros; the list must stay as it is. */
+static int passes(const struct row *row)
+{
+    uint8_t image[8 * SLOTS] = {0}, after[8 * SLOTS] = {0};
+    uint64_t list[12];
+    treskibben_answer answer;
+    int same;
+
+    memcpy(list, row->list, sizeof list);
+    put_frame(image, OLD);
+    put_frame(after, row->moved ? NEW : OLD);
+    answer = treskibben_thread(row_h, sizeof row_h, image, sizeof image, FIRST, &old_start, 1,
+                               &new_start, 1, list, row->length);
+    same = memcmp(image, after, sizeof image) == 0 && memcmp(list, row->list, sizeof list) == 0;
+    return passed(row->name, row->answer, answer, same);
+}
+
+/* Moves as many frames as there may be and one more, from an array of frames: `more` numbers
+ * are lent beside the `count` frames, and the frame at `bad` is at no record. */
+static int passes_with(size_t count, size_t more, size_t bad, const uint64_t *expected)
+{
+    static uint8_t image[EXTENT * (MOST + 1)], after[EXTENT * (MOST + 1)];
+    static treskibben_frame frames[MOST + 2];
+    treskibben_answer answer;
+    char name[64];
+    size_t i;
+
+    for (i = 0; i <= MOST; i++) {
+        put_frame(image + EXTENT * i, OLD);
+        put_frame(after + EXTENT * i, expected[0] == 0 && i < count ? NEW : OLD);
+        frames[i].address = i == bad ? 0x1021 : 0x1020;
+        frames[i].rbp = 0;
+        frames[i].rsp = FIRST + EXTENT * i;
+    }
+    answer = treskibben_thread(row_h, sizeof row_h, image, sizeof image, FIRST, &old_start, 1,
+                               &new_start, 1, (const uint64_t *)frames, 3 * count + more);
+    sprintf(name, "%u frames and %u numbers", (unsigned)count, (unsigned)more);
+    return passed(name, expected, answer, memcmp(image, after, sizeof image) == 0);
+}
+
+/* What all frames share is refused first, whatever the list. */
+static int passes_before(size_t length, size_t old_count, uint64_t first, uint64_t number)
+{
+    const uint64_t list[3] = {NOWHERE}, expected[3] = {number, number == 4 ? 40 : 0, 0};
+    uint8_t image[8 * SLOTS] = {0}, after[8 * SLOTS] = {0};
+    treskibben_answer answer;
+
+    answer = treskibben_thread(row_h, length, image, sizeof image, first, &old_start, old_count,
+                               &new_start, 1, list, 2);
+    return passed("before the list", expected, answer, memcmp(image, after, sizeof image) == 0);
+}
+
+int main(void)
+{
+    static const uint64_t most[3] = {0, 0, 2 * MOST}, less[3] = {0, 0, 2 * MOST - 2};
+    static const uint64_t long_list[3] = {25, 0, 0}, last[3] = {10, MOST - 1, 0};
+    const size_t count = sizeof rows / sizeof rows[0] + 9;
+    size_t passed = 0;
+    size_t i;
+
+    for (i = 0; i < sizeof rows / sizeof rows[0]; i++) {
+        passed += (size_t)passes(&rows[i]);
+    }
+    passed += (size_t)passes_with(MOST - 1, 0, MOST - 1, less);
+    passed += (size_t)passes_with(MOST, 0, MOST, most);
+    passed += (size_t)passes_with(MOST, 0, MOST - 1, last);
+    passed += (size_t)passes_with(MOST, 1, 0, long_list);
+    passed += (size_t)passes_with(MOST, 2, 0, long_list);
+    passed += (size_t)passes_with(MOST + 1, 0, 0, long_list);
+    passed += (size_t)passes_before(sizeof row_h - 1, 0, (uint64_t)0 - 72, 4);
+    passed += (size_t)passes_before(sizeof row_h, 0, (uint64_t)0 - 72, 13);
+    passed += (size_t)passes_before(sizeof row_h, 0, (uint64_t)0 - 73, 14);
+    return tally(passed, count);
+}

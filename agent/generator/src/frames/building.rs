@@ -1,0 +1,198 @@
+//! A scene made step by step: the frames are laid out on the image, then each gets its contents and
+//! its statepoint, and last the functions are put into a section.
+
+use super::cells::Cells;
+use super::functions::{self, Group, Taken};
+use super::{shuffle, Scene, Size, Stop, Table};
+use crate::layout::Section;
+use crate::questions::addresses;
+use crate::rng::Rng;
+use std::ops::Range;
+
+/// A frame that is laid out on the image.
+struct Laid<'a> {
+    cells: &'a Cells,
+    pairs: usize,
+    /// The frame whose statepoint it stands at: itself, or the first of those that stand there.
+    of: usize,
+    /// Its first byte in the image.
+    at: usize,
+}
+
+impl Laid<'_> {
+    fn stretch(&self) -> Range<usize> {
+        self.at..self.at + self.cells.length
+    }
+}
+
+/// Lays the frames out one after the other, with bytes between them.
+fn lay_out<'a>(rng: &mut Rng, cells: &'a [Cells], sizes: &[Size]) -> (Vec<u8>, Vec<Laid<'a>>) {
+    let mut image = gap(rng);
+    let mut frames: Vec<Laid> = Vec::new();
+    for (nth, cells) in cells.iter().enumerate() {
+        // Sometimes the function of the frame before is called again, by itself.
+        let before = frames.last().filter(|_| rng.one_in(6));
+        let (cells, pairs, of) = match before {
+            Some(before) => (before.cells, before.pairs, before.of),
+            None => (cells, sizes[nth].pairs, nth),
+        };
+        let at = image.len();
+        image.resize(at + cells.length, 0);
+        image.extend(gap(rng));
+        frames.push(Laid {
+            cells,
+            pairs,
+            of,
+            at,
+        });
+    }
+    (image, frames)
+}
+
+/// Bytes between frames.
+fn gap(rng: &mut Rng) -> Vec<u8> {
+    let count = rng.pick(&[0, 0, 1, 7, 8, 16, 24]);
+    (0..count).map(|_| rng.byte()).collect()
+}
+
+/// An address from which an image of this length fits: often the lowest or the highest there is.
+fn first_address(rng: &mut Rng, length: usize) -> u64 {
+    let most = u64::MAX - length as u64;
+    match rng.below(8) {
+        0 => 0,
+        1 => rng.number(8),
+        2 | 3 => most,
+        4 => most - rng.number(8),
+        5 => 0x7000,
+        _ => rng.word().min(most),
+    }
+}
+
+/// What there is so far.
+struct Building<'a> {
+    table: &'a Table,
+    constants: Vec<u64>,
+    image: Vec<u8>,
+    first: u64,
+    groups: Vec<Group>,
+    taken: Taken,
+    /// RBP minus RSP of each frame, modulo 2^64.
+    distances: Vec<u64>,
+}
+
+/// Frames of these sizes, in a section that has the noise too. None where a frame that is to stand
+/// at the statepoint of the one before cannot: its RBP would be no address.
+pub(super) fn build(
+    rng: &mut Rng,
+    table: &Table,
+    sizes: &[Size],
+    noise: &Section,
+) -> Option<Scene> {
+    let mut constants = noise.constants.clone();
+    constants.extend([0, rng.number(64).max(1)]);
+    let cells: Vec<Cells> = sizes
+        .iter()
+        .map(|size| Cells::any(rng, size.cells))
+        .collect();
+    let (image, frames) = lay_out(rng, &cells, sizes);
+    let mut building = Building {
+        table,
+        constants,
+        first: first_address(rng, image.len()),
+        image,
+        groups: functions::groups_of(noise),
+        taken: Taken::new(
+            addresses(noise).map(|(_, address)| address),
+            std::iter::empty(),
+        ),
+        distances: Vec::new(),
+    };
+    for (nth, frame) in frames.iter().enumerate() {
+        let stretch = &mut building.image[frame.stretch()];
+        frame.cells.fill(rng, table, stretch);
+        let distance = match frame.of == nth {
+            true => building.stand(rng, frame),
+            false => building.stand_again(nth, frame, &frames[frame.of]),
+        };
+        building.distances.push(distance);
+    }
+    building.finish(rng, &frames)
+}
+
+impl Building<'_> {
+    /// Makes the frame's statepoint, and gives RBP minus RSP.
+    fn stand(&mut self, rng: &mut Rng, frame: &Laid) -> u64 {
+        let rsp = self.first + frame.at as u64;
+        let mut record = functions::statepoint(rng, &self.constants);
+        let rbp = frame.cells.rbp(rng, rsp);
+        frame.cells.pairs(
+            rng,
+            frame.pairs,
+            [rbp, rsp],
+            &self.constants,
+            &self.image[frame.stretch()],
+            self.table,
+            &mut record,
+        );
+        let length = frame.cells.length as u64;
+        let group = functions::standing(rng, length, &record, frame.of, &mut self.taken);
+        self.groups.push(group);
+        rbp.wrapping_sub(rsp)
+    }
+
+    /// Has the frame stand at the statepoint of the one before, with the same contents, and gives
+    /// RBP minus RSP.
+    fn stand_again(&mut self, nth: usize, frame: &Laid, same: &Laid) -> u64 {
+        self.image.copy_within(same.stretch(), frame.at);
+        let group = self.groups.last_mut();
+        group.expect("that of the frame before").stops.push(nth);
+        *self.distances.last().expect("that of the frame before")
+    }
+
+    /// The scene, where RBP of every frame is an address.
+    fn finish(self, rng: &mut Rng, frames: &[Laid]) -> Option<Scene> {
+        let mut stops = Vec::new();
+        for (frame, distance) in frames.iter().zip(&self.distances) {
+            let rsp = self.first + frame.at as u64;
+            let rbp = rsp.wrapping_add(*distance);
+            if (rbp >= rsp) != (*distance < 1 << 63) {
+                return None;
+            }
+            stops.push(Stop {
+                address: 0,
+                rbp,
+                rsp,
+                record: 0,
+                function: 0,
+            });
+        }
+        let section = Section {
+            constants: self.constants,
+            ..Section::default()
+        };
+        let mut scene = Scene {
+            section,
+            image: self.image,
+            first: self.first,
+            table: self.table.clone(),
+            stops,
+        };
+        place(rng, &mut scene, self.groups);
+        Some(scene)
+    }
+}
+
+/// Puts the functions into the section in any order, and notes where the statepoints stand.
+fn place(rng: &mut Rng, scene: &mut Scene, mut groups: Vec<Group>) {
+    shuffle(rng, &mut groups);
+    for group in groups {
+        for stop in &group.stops {
+            let stop = &mut scene.stops[*stop];
+            stop.record = scene.section.records.len() + group.at;
+            stop.function = scene.section.functions.len();
+            stop.address = group.address();
+        }
+        scene.section.functions.push(group.function);
+        scene.section.records.extend(group.records);
+    }
+}

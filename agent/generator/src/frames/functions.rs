@@ -1,0 +1,192 @@
+//! The functions of a scene's section: those with the statepoints that frames stand at, and others.
+
+use super::RSP;
+use crate::layout::{Function, LiveOut, Location, Record, Section};
+use crate::rng::Rng;
+use crate::valid::{self, Shape};
+use std::collections::BTreeSet;
+
+/// A function of the section with its records, and the frames that stand at one of them.
+pub(super) struct Group {
+    pub(super) function: Function,
+    pub(super) records: Vec<Record>,
+    /// The number of that record among these, and those of the frames.
+    pub(super) at: usize,
+    pub(super) stops: Vec<usize>,
+}
+
+impl Group {
+    /// The addresses of the records.
+    fn addresses(&self) -> impl Iterator<Item = u64> + '_ {
+        let start = self.function.address;
+        let offsets = self.records.iter().map(|record| record.offset);
+        offsets.map(move |offset| start + u64::from(offset))
+    }
+
+    /// The address of the record that frames stand at.
+    pub(super) fn address(&self) -> u64 {
+        self.function.address + u64::from(self.records[self.at].offset)
+    }
+}
+
+/// The addresses that records have, and those of them at which frames stand: these have to be the
+/// address of one record only.
+#[derive(Default)]
+pub(super) struct Taken {
+    all: BTreeSet<u64>,
+    stops: BTreeSet<u64>,
+}
+
+impl Taken {
+    /// The addresses of records and of frames.
+    pub(super) fn new(
+        records: impl Iterator<Item = u64>,
+        stops: impl Iterator<Item = u64>,
+    ) -> Taken {
+        Taken {
+            all: records.collect(),
+            stops: stops.collect(),
+        }
+    }
+
+    /// Adds a function with a statepoint for frames, unless an address would be there twice.
+    fn add(&mut self, group: &Group) -> bool {
+        let own = group.address();
+        let alone = group.addresses().filter(|other| *other == own).count() == 1;
+        let free = alone && !self.all.contains(&own);
+        if !free || group.addresses().any(|other| self.stops.contains(&other)) {
+            return false;
+        }
+        self.all.extend(group.addresses());
+        self.stops.insert(own);
+        true
+    }
+}
+
+/// Functions, constants and records that have nothing to do with the frames.
+pub(super) fn noise(rng: &mut Rng) -> Section {
+    let shape = Shape {
+        functions: rng.below(3),
+        constants: rng.below(3),
+        records: rng.below(4),
+        locations: 5,
+        live_outs: 2,
+    };
+    valid::shaped(rng, &shape)
+}
+
+/// The functions of a section, each with its records; no frame stands at any.
+pub(super) fn groups_of(section: &Section) -> Vec<Group> {
+    let mut records = section.records.iter().cloned();
+    let group = |function: &Function| Group {
+        function: function.clone(),
+        records: records
+            .by_ref()
+            .take(function.record_count as usize)
+            .collect(),
+        at: 0,
+        stops: Vec::new(),
+    };
+    section.functions.iter().map(group).collect()
+}
+
+fn function(rng: &mut Rng, stack_size: u64) -> Function {
+    let address = match rng.below(4) {
+        0 => rng.number(22),
+        1 => u64::MAX - rng.number(16),
+        _ => rng.word(),
+    };
+    Function {
+        address,
+        stack_size,
+        record_count: 0,
+    }
+}
+
+/// A function of this stack size with the statepoint, whose address no other record has, and which is
+/// that of the frame of this number.
+pub(super) fn standing(
+    rng: &mut Rng,
+    stack_size: u64,
+    record: &Record,
+    stop: usize,
+    taken: &mut Taken,
+) -> Group {
+    loop {
+        let function = function(rng, stack_size);
+        let group = group(rng, function, record.clone(), stop);
+        if taken.add(&group) {
+            return group;
+        }
+    }
+}
+
+/// A function with the statepoint and, sometimes, records before and after it.
+fn group(rng: &mut Rng, mut function: Function, mut record: Record, stop: usize) -> Group {
+    let room = (u64::MAX - function.address).min(u64::from(u32::MAX)) as usize;
+    record.offset = if rng.one_in(4) {
+        room as u32
+    } else {
+        rng.below(room + 1) as u32
+    };
+    let at = rng.pick(&[0, 0, 1, 2]);
+    let mut records = Vec::new();
+    for _ in 0..at + rng.pick(&[0, 0, 1]) {
+        let offset = rng.below(room + 1) as u32;
+        let outs = rng.below(2);
+        let live_outs = vec![
+            LiveOut {
+                register: 7,
+                size: 8
+            };
+            outs
+        ];
+        records.push(Record {
+            id: rng.word(),
+            offset,
+            locations: Vec::new(),
+            live_outs,
+        });
+    }
+    records.insert(at, record);
+    function.record_count = records.len() as u64;
+    Group {
+        function,
+        records,
+        at,
+        stops: vec![stop],
+    }
+}
+
+/// A statepoint without pairs: three constants and, sometimes, deoptimisation values.
+pub(super) fn statepoint(rng: &mut Rng, constants: &[u64]) -> Record {
+    let deopt = if rng.one_in(3) { rng.below(5) } else { 0 };
+    let mut locations: Vec<Location> = (0..3)
+        .map(|_| Location {
+            kind: 4,
+            size: rng.number(16) as u16,
+            register: rng.number(16) as u16,
+            offset: rng.number(32) as u32,
+        })
+        .collect();
+    locations[2].offset = deopt as u32;
+    for _ in 0..deopt {
+        let kind = 1 + rng.below(5) as u8;
+        let offset = match kind {
+            5 => rng.below(constants.len()) as u32,
+            _ => rng.number(32) as u32,
+        };
+        locations.push(Location {
+            kind,
+            size: 8,
+            register: RSP,
+            offset,
+        });
+    }
+    Record {
+        id: rng.word(),
+        offset: 0,
+        locations,
+        live_outs: Vec::new(),
+    }
+}

@@ -1,0 +1,67 @@
+//! Relocation of a whole thread in one call: all frames are moved, or none.
+//!
+//! Each frame is judged by itself on the image as lent. Only then are the
+//! extents compared, each with all earlier ones, and only then is anything
+//! written.
+
+#[cfg(test)]
+mod tests;
+
+use crate::relocate::{check_image, check_table, judge, Frame, Plan};
+use crate::section::read;
+use crate::Refusal;
+
+/// The most frames of a thread.
+pub const MAX_FRAMES: usize = 4_096;
+
+/// Relocates the frames of a list, and gives the sum of their pairs, null ones
+/// included.
+///
+/// The list has three numbers a frame: address, RBP, RSP. The rest is as for
+/// [`relocate`](crate::relocate()). The order of refusals: 1 to 9, 13, 14, 25,
+/// the first refused frame's own number at its position, 26 at the first frame
+/// whose extent shares a byte with an earlier one's.
+pub fn thread(
+    section: &[u8],
+    image: &mut [u8],
+    first: u64,
+    old_starts: &[u64],
+    new_starts: &[u64],
+    list: &[u64],
+) -> Result<u64, Refusal> {
+    let section = read(section)?;
+    check_image(image, first)?;
+    check_table(old_starts, new_starts)?;
+    let (frames, rest) = list.as_chunks::<3>();
+    if !rest.is_empty() || frames.len() > MAX_FRAMES {
+        return Err(Refusal::at(25, 0));
+    }
+    let mut plans = Vec::new();
+    for (position, &[address, rbp, rsp]) in frames.iter().enumerate() {
+        let frame = Frame { address, rbp, rsp };
+        let plan = judge(&section, image, first, old_starts, new_starts, frame);
+        plans.push(plan.map_err(|refusal| Refusal::at(refusal.number, position))?);
+    }
+    if let Some(position) = first_overlap(&plans) {
+        return Err(Refusal::at(26, position));
+    }
+    for plan in &plans {
+        plan.write(image);
+    }
+    Ok(plans.iter().map(|plan| plan.pairs).sum())
+}
+
+/// The first frame whose extent shares a byte with an earlier one's.
+fn first_overlap(plans: &[Plan]) -> Option<usize> {
+    plans.iter().enumerate().position(|(position, plan)| {
+        let earlier = plans.iter().take(position);
+        earlier.clone().any(|other| shares(plan, other))
+    })
+}
+
+/// Whether there is a byte that is in both extents.
+fn shares(one: &Plan, other: &Plan) -> bool {
+    let from = one.stretch.start.max(other.stretch.start);
+    let to = one.stretch.end.min(other.stretch.end);
+    from < to
+}

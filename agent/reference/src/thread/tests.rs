@@ -1,0 +1,276 @@
+//! The thread call by hand: its order, its positions, its limits, and shared
+//! extents.
+
+use super::*;
+use crate::fixtures::*;
+use crate::relocate::relocate;
+use crate::section::{encode, Function};
+
+/// Functions of stack sizes 24, 0, 8 and 2^64 - 1 at 0x1000, 0x2000, 0x3000
+/// and 0x4000. Each has a statepoint at its offset 0x20, that of the first with
+/// row H's pairs, the others with a null pair. Two records share 0x1040, and
+/// the record at 0x1060 is no statepoint.
+fn section() -> Vec<u8> {
+    let sizes = [
+        (0x1000, 24, 4),
+        (0x2000, 0, 1),
+        (0x3000, 8, 1),
+        (0x4000, u64::MAX, 1),
+    ];
+    let functions: Vec<Function> = sizes
+        .iter()
+        .map(|&(address, size, count)| function(address, size, count))
+        .collect();
+    let null = [(small(0), small(0))];
+    let records = [
+        statepoint(0x20, &[(rsp(8), rsp(8)), (rsp(8), rsp(16))]),
+        statepoint(0x40, &[]),
+        statepoint(0x40, &[]),
+        record(0x60, vec![], vec![]),
+        statepoint(0x20, &null),
+        statepoint(0x20, &null),
+        statepoint(0x20, &null),
+    ];
+    encode(&functions, &[], &records)
+}
+
+/// Frames of the functions, and frames that are refused.
+fn full(rsp: u64) -> [u64; 3] {
+    [0x1020, 0, rsp]
+}
+fn empty(rsp: u64) -> [u64; 3] {
+    [0x2020, 0, rsp]
+}
+fn word(rsp: u64) -> [u64; 3] {
+    [0x3020, 0, rsp]
+}
+const NOWHERE: [u64; 3] = [0x1021, 0, 0x7000];
+const TWICE: [u64; 3] = [0x1040, 0, 0x7000];
+const NO_STATEPOINT: [u64; 3] = [0x1060, 0, 0x7000];
+const UNKNOWN: [u64; 3] = [0x4020, 0, 0x7000];
+
+/// Three frames of row I's kind from 0x7000 on; the third has a base of no
+/// object.
+fn image() -> Vec<u8> {
+    let slots = [1, 0x50000, 0x54E20, 2, 0, 0x1234, 3, 0x50008, 0x50010_u64];
+    slots.into_iter().flat_map(u64::to_le_bytes).collect()
+}
+
+/// The answer to a list, and the image after it.
+fn run(frames: &[[u64; 3]]) -> (Result<u64, Refusal>, Vec<u8>) {
+    let mut image = image();
+    let list = frames.concat();
+    let answer = thread(
+        &section(),
+        &mut image,
+        0x7000,
+        &[0x50000],
+        &[0x90000],
+        &list,
+    );
+    (answer, image)
+}
+
+/// A refused list leaves the image as it was.
+fn refused(frames: &[[u64; 3]]) -> (u64, u64) {
+    let (answer, after) = run(frames);
+    assert_eq!(after, image());
+    let refusal = answer.unwrap_err();
+    (refusal.number, refusal.place)
+}
+
+#[test]
+fn a_list_of_none_is_accepted() {
+    assert_eq!(run(&[]), (Ok(0), image()));
+    assert_eq!(thread(&row_c(), &mut [], 0, &[], &[], &[]), Ok(0));
+}
+
+#[test]
+fn all_move_as_one_by_one_and_the_pairs_are_added() {
+    let lists = [
+        vec![full(0x7000), full(0x7018)],
+        vec![full(0x7018), full(0x7000)],
+        vec![
+            full(0x7000),
+            full(0x7018),
+            word(0x7030),
+            word(0x7038),
+            empty(0x7000),
+            empty(0x7000),
+        ],
+    ];
+    for list in lists {
+        let mut one_by_one = image();
+        let mut sum = 0;
+        for &[address, rbp, rsp] in &list {
+            let frame = Frame { address, rbp, rsp };
+            let pairs = relocate(
+                &section(),
+                &mut one_by_one,
+                0x7000,
+                &[0x50000],
+                &[0x90000],
+                frame,
+            );
+            sum += pairs.unwrap();
+        }
+        assert_ne!(one_by_one, image());
+        assert_eq!(run(&list), (Ok(sum), one_by_one));
+    }
+    assert_eq!(run(&[full(0x7000), word(0x7018)]).0, Ok(3));
+}
+
+#[test]
+fn the_first_refused_frame_has_its_position() {
+    assert_eq!(refused(&[full(0x7000), NOWHERE]), (10, 1));
+    assert_eq!(refused(&[NOWHERE, full(0x7000)]), (10, 0));
+    assert_eq!(refused(&[full(0x7000), TWICE]), (15, 1));
+    assert_eq!(
+        refused(&[full(0x7000), full(0x7018), NO_STATEPOINT]),
+        (12, 2)
+    );
+    assert_eq!(refused(&[full(0x7000), full(0x7018), UNKNOWN]), (16, 2));
+    assert_eq!(refused(&[full(0x7000), full(0x7031)]), (16, 1));
+    assert_eq!(refused(&[word(0x6FFF)]), (16, 0));
+    assert_eq!(refused(&[full(0x7000), full(0x7030)]), (21, 1));
+}
+
+/// The lowest position counts, whatever its number; the pair is lost.
+#[test]
+fn a_21_at_0_wins_over_a_10_at_1() {
+    assert_eq!(refused(&[full(0x7030), NOWHERE]), (21, 0));
+    assert_eq!(refused(&[NOWHERE, full(0x7030)]), (10, 0));
+    assert_eq!(
+        refused(&[full(0x7000), TWICE, NOWHERE, full(0x7030)]),
+        (15, 1)
+    );
+}
+
+#[test]
+fn pairs_have_no_place() {
+    let pairs = [(rsp(8), rsp(8)), (rsp(8), rsp(17))];
+    let section = one_function(24, &[], &[statepoint(0x20, &pairs)]);
+    let mut image = image();
+    let list = [full(0x7000), full(0x7018)].concat();
+    let answer = thread(&section, &mut image, 0x7000, &[0x50000], &[0x90000], &list);
+    assert_eq!(answer, refusal(19, 0), "19 of pair 1, in frame 0");
+}
+
+/// Each frame is judged on the image as lent: the second of two equal ones is
+/// not 21, though its base is moved by the first.
+#[test]
+fn a_frame_twice_is_26() {
+    assert_eq!(refused(&[full(0x7000), full(0x7000)]), (26, 1));
+    assert_eq!(
+        refused(&[full(0x7000), full(0x7018), full(0x7000)]),
+        (26, 2)
+    );
+}
+
+#[test]
+fn a_shared_byte_is_26_at_the_later_frame() {
+    for inside in [0x7000, 0x7001, 0x7008, 0x700F, 0x7010, 0x7017] {
+        let both = [full(0x7000), word(inside)];
+        assert_eq!(refused(&both), (26, 1), "{inside:#x}");
+        let [one, other] = both;
+        assert_eq!(refused(&[other, one]), (26, 1), "{inside:#x}");
+    }
+    assert_eq!(run(&[full(0x7000), word(0x7018)]).0, Ok(3), "they touch");
+    assert_eq!(run(&[word(0x7000), word(0x7008)]).0, Ok(2), "they touch");
+    assert_eq!(refused(&[word(0x7000), word(0x7007)]), (26, 1));
+}
+
+/// With any earlier frame, not only the one before; and the first that shares.
+#[test]
+fn any_earlier_frame_counts() {
+    let list = [
+        word(0x7000),
+        word(0x7040),
+        word(0x7020),
+        word(0x7030),
+        word(0x7004),
+    ];
+    assert_eq!(refused(&list), (26, 4));
+    let list = [word(0x7000), word(0x7040), word(0x703C), word(0x7004)];
+    assert_eq!(refused(&list), (26, 2));
+}
+
+#[test]
+fn empty_extents_share_nothing() {
+    let inside = [0x7000, 0x7001, 0x7010, 0x7018, 0x7048].map(empty);
+    let list = [&inside[..], &[full(0x7000)], &inside[..]].concat();
+    assert_eq!(run(&list).0, Ok(12));
+    assert_eq!(refused(&[empty(0x7049)]), (16, 0));
+    assert_eq!(refused(&[empty(0x6FFF)]), (16, 0));
+}
+
+/// 26 is for lists of accepted frames only.
+#[test]
+fn a_refused_frame_comes_before_26() {
+    assert_eq!(refused(&[word(0x7000), word(0x7000), NOWHERE]), (10, 2));
+    assert_eq!(refused(&[word(0x7000), word(0x7000), UNKNOWN]), (16, 2));
+    assert_eq!(
+        refused(&[full(0x7000), full(0x7000), full(0x7030)]),
+        (21, 2)
+    );
+}
+
+#[test]
+fn the_length_is_tested_before_any_frame() {
+    let answer = |list: &[u64]| {
+        thread(
+            &section(),
+            &mut image(),
+            0x7000,
+            &[0x50000],
+            &[0x90000],
+            list,
+        )
+    };
+    for length in [
+        1,
+        2,
+        4,
+        5,
+        3 * MAX_FRAMES + 1,
+        3 * MAX_FRAMES + 2,
+        3 * MAX_FRAMES + 3,
+    ] {
+        assert_eq!(answer(&vec![0; length]), refusal(25, 0), "{length}");
+        assert_eq!(answer(&vec![u64::MAX; length]), refusal(25, 0), "{length}");
+    }
+    assert_eq!(answer(&[0; 3 * MAX_FRAMES]), refusal(10, 0));
+    let most = empty(0x7010).repeat(MAX_FRAMES);
+    assert_eq!(answer(&most), Ok(4_096));
+    let more = empty(0x7010).repeat(MAX_FRAMES + 1);
+    assert_eq!(answer(&more), refusal(25, 0));
+    let mut last = most;
+    last[3 * MAX_FRAMES - 3] = 0;
+    assert_eq!(answer(&last), refusal(10, 4_095));
+}
+
+/// Section, image and table come before the list, also where it is empty.
+#[test]
+fn what_all_frames_share_comes_first() {
+    let long = vec![0; 1_048_577];
+    let lists: [&[u64]; 3] = [&[], &[1], &NOWHERE];
+    for list in lists {
+        let (section, cut) = (section(), &row_h()[..151]);
+        assert_eq!(
+            thread(cut, &mut long.clone(), 0, &[0], &[], list),
+            refusal(4, 40)
+        );
+        assert_eq!(
+            thread(&section, &mut long.clone(), 0, &[0], &[], list),
+            refusal(13, 0)
+        );
+        assert_eq!(
+            thread(&section, &mut image(), u64::MAX - 71, &[0], &[], list),
+            refusal(13, 0)
+        );
+        assert_eq!(
+            thread(&section, &mut image(), u64::MAX - 72, &[0], &[], list),
+            refusal(14, 0)
+        );
+    }
+}

@@ -1,0 +1,138 @@
+//! Sorts of positions and shapes of lists that random lists must have often enough.
+
+use generator::frames::thread::Thread;
+use generator::frames::{plain, Scene};
+use std::ops::Range;
+
+/// A sort of position: its name, and whether a position in a list of so many frames is of it.
+type Position = (&'static str, fn(usize, usize) -> bool);
+
+pub const POSITIONS: [Position; 5] = [
+    ("the first frame", |at, _| at == 0),
+    ("the second frame", |at, _| at == 1),
+    ("a frame among others", |at, frames| {
+        (2..8).contains(&at) && at + 1 < frames
+    }),
+    ("a late frame", |at, _| at >= 8),
+    ("the last frame of several", |at, frames| {
+        at > 0 && at + 1 == frames
+    }),
+];
+
+/// A shape: its name, and whether a list with this answer has it.
+type Shape = (&'static str, fn(&Thread, (u64, u64)) -> bool);
+
+pub const SHAPES: [Shape; 11] = [
+    ("accepted, a list of none", |thread, answer| {
+        answer.0 == 0 && thread.order.is_empty()
+    }),
+    ("accepted, extents that touch", |thread, answer| {
+        answer.0 == 0 && some_two(thread, |one, other| one.end == other.start)
+    }),
+    (
+        "accepted, an empty extent inside another",
+        |thread, answer| {
+            let within = |one: &Range<i128>, other: &Range<i128>| {
+                other.start < one.start && one.end < other.end
+            };
+            answer.0 == 0 && some_two(thread, |one, other| one.is_empty() && within(one, other))
+        },
+    ),
+    ("accepted, two equal empty extents", |thread, answer| {
+        answer.0 == 0 && some_two(thread, |one, other| one.is_empty() && one == other)
+    }),
+    (
+        "accepted, two frames at one statepoint",
+        |thread, answer| {
+            let record = |stop: &usize| thread.scene.stops[*stop].record;
+            let two = thread.order.windows(2).filter(|two| two[0] != two[1]);
+            answer.0 == 0 && two.clone().any(|two| record(&two[0]) == record(&two[1]))
+        },
+    ),
+    ("26 by the same frame twice", |thread, answer| {
+        let (number, at) = (answer.0, answer.1 as usize);
+        number == 26 && thread.order[..at].contains(&thread.order[at])
+    }),
+    ("26 by a frame inside an earlier one", |thread, answer| {
+        shared(thread, answer, |own, other| {
+            other.start < own.start && own.end < other.end
+        })
+    }),
+    ("26 by a frame around an earlier one", |thread, answer| {
+        shared(thread, answer, |own, other| {
+            own.start < other.start && other.end < own.end
+        })
+    }),
+    ("26 by one byte only", |thread, answer| {
+        let bytes = |own: &Range<i128>, other: &Range<i128>| {
+            own.end.min(other.end) - own.start.max(other.start)
+        };
+        shared(thread, answer, |own, other| bytes(own, other) == 1)
+    }),
+    (
+        "26 by a frame that is not the one before",
+        |thread, answer| {
+            let at = answer.1 as usize;
+            let before = |own: &Range<i128>| extent(&thread.scene, thread.order[at - 1]) != *own;
+            at > 1
+                && shared(thread, answer, |own, other| {
+                    before(other) && meet(own, other)
+                })
+        },
+    ),
+    (
+        "a later frame has a number that would come first",
+        |thread, answer| {
+            let order = [10, 15, 12, 16, 17, 18, 19, 20, 21];
+            let rank = |number: u64| order.iter().position(|one| *one == number);
+            let later = thread.order.iter().skip(answer.1 as usize + 1);
+            let mut numbers = later.map(|stop| rank(plain::refusal(&thread.scene, *stop).0));
+            rank(answer.0)
+                .is_some_and(|own| numbers.any(|other| other.is_some_and(|other| other < own)))
+        },
+    ),
+];
+
+/// A frame's extent by its bytes in the image.
+fn extent(scene: &Scene, stop: usize) -> Range<i128> {
+    let stop = scene.stops[stop];
+    let start = i128::from(stop.rsp) - i128::from(scene.first);
+    start..start + i128::from(scene.section.functions[stop.function].stack_size)
+}
+
+fn meet(one: &Range<i128>, other: &Range<i128>) -> bool {
+    one.start.max(other.start) < one.end.min(other.end)
+}
+
+/// Whether the extents of some two frames are so.
+fn some_two(thread: &Thread, are: impl Fn(&Range<i128>, &Range<i128>) -> bool) -> bool {
+    let extents: Vec<Range<i128>> = thread
+        .order
+        .iter()
+        .map(|stop| extent(&thread.scene, *stop))
+        .collect();
+    let others = |nth: usize| {
+        extents
+            .iter()
+            .enumerate()
+            .filter(move |(other, _)| *other != nth)
+    };
+    extents
+        .iter()
+        .enumerate()
+        .any(|(nth, one)| others(nth).any(|(_, other)| are(one, other)))
+}
+
+/// Whether a list is refused by 26, and the frame and some earlier one are so.
+fn shared(
+    thread: &Thread,
+    answer: (u64, u64),
+    are: impl Fn(&Range<i128>, &Range<i128>) -> bool,
+) -> bool {
+    let (number, at) = (answer.0, answer.1 as usize);
+    let of = |stop: &usize| extent(&thread.scene, *stop);
+    number == 26
+        && thread.order[..at]
+            .iter()
+            .any(|other| are(&of(&thread.order[at]), &of(other)))
+}

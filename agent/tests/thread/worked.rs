@@ -1,0 +1,97 @@
+//! Lists made of row I's frame, written out by hand.
+
+use crate::calls::{Call, Outcome};
+
+const H: &[u8] = include_bytes!("../../../samples/h-statepoint.section");
+
+/// Where the stack size and the offset of the last slot stand in row H.
+const STACK_SIZE: usize = 24;
+const LAST_OFFSET: usize = 136;
+
+/// Row I's frame.
+const I: [u64; 3] = [0x1020, 0, 0x7000];
+
+/// Three stretches of row I's length. The second has a base of 0, the third one that is no old start.
+fn image() -> Vec<u8> {
+    let slots = [1, 0x50000, 0x54e20, 2, 0, 0x1234, 3, 0x50008, 0x54e20_u64];
+    slots.map(u64::to_le_bytes).concat()
+}
+
+/// Row I's frame at another RSP.
+fn at(rsp: u64) -> [u64; 3] {
+    [0x1020, 0, rsp]
+}
+
+fn moved_on(section: &[u8], frames: &[[u64; 3]]) -> Outcome {
+    let call = Call {
+        section,
+        image: &image(),
+        first: 0x7000,
+        olds: &[0x50000],
+        news: &[0x90000],
+        frames: &frames.concat()[..],
+    };
+    call.compare()
+}
+
+/// Number and place of a refusal.
+fn refused(frames: &[[u64; 3]]) -> (u64, u64) {
+    let outcome = moved_on(H, frames);
+    assert_eq!((outcome.count, outcome.image), (0, image()));
+    (outcome.number, outcome.place)
+}
+
+#[test]
+fn accepted_lists() {
+    let unmoved = Outcome {
+        number: 0,
+        place: 0,
+        count: 0,
+        image: image(),
+    };
+    assert_eq!(moved_on(H, &[]), unmoved);
+    let mut moved = Outcome {
+        count: 2,
+        ..unmoved
+    };
+    moved.image[8..16].copy_from_slice(&0x90000_u64.to_le_bytes());
+    moved.image[16..24].copy_from_slice(&0x94e20_u64.to_le_bytes());
+    assert_eq!(moved_on(H, &[I]), moved);
+    moved.count = 4;
+    assert_eq!(moved_on(H, &[I, at(0x7018)]), moved);
+    assert_eq!(moved_on(H, &[at(0x7018), I]), moved);
+}
+
+/// Each frame is judged on the image as lent: row I's frame twice is 26, not 21.
+#[test]
+fn shared_bytes() {
+    assert_eq!(refused(&[I, I]), (26, 1));
+    assert_eq!(refused(&[I, at(0x7018), I]), (26, 2));
+    assert_eq!(refused(&[I, at(0x7018), at(0x7018), I]), (26, 2));
+    // A frame of no pairs, over the end of the one before by one byte, and beside it.
+    let mut none = H.to_vec();
+    none.truncate(68);
+    none[54] = 3;
+    none.extend([4, 0, 8, 0, 0, 0, 0, 0, 0, 0, 0, 0].repeat(2));
+    none.extend([0; 12]);
+    for (rsp, number) in [(0x7017, 26), (0x7018, 0), (0x7019, 0), (0x7001, 26)] {
+        let outcome = moved_on(&none, &[I, at(rsp)]);
+        assert_eq!(outcome.number, number, "{rsp:#x}");
+    }
+    none[STACK_SIZE] = 0;
+    assert_eq!(moved_on(&none, &[I; 100]).number, 0);
+}
+
+#[test]
+fn refused_frames() {
+    let nowhere = [0x1021, 0, 0x7000];
+    assert_eq!(refused(&[at(0x7030), nowhere]), (21, 0));
+    assert_eq!(refused(&[nowhere, at(0x7030)]), (10, 0));
+    assert_eq!(refused(&[I, at(0x7018), at(0x7030)]), (21, 2));
+    assert_eq!(refused(&[I, I, at(0x7031)]), (16, 2));
+    assert_eq!(refused(&[I, at(0x6fff)]), (16, 1));
+    let mut outside = H.to_vec();
+    outside[LAST_OFFSET] = 17;
+    let outcome = moved_on(&outside, &[I]);
+    assert_eq!((outcome.number, outcome.place), (19, 0), "19 of pair 1");
+}
