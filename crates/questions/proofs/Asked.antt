@@ -6,7 +6,7 @@ use borrow.Author.Tests.{eq-eqb, ne-eqb}
 use lib.ListN.{length, drop}
 use Rattle.stackmap.specs.declared.Verdict.the-variants.{Valid, Refused}
 use Rattle.stackmap.specs.Verdict.{must, chain, shift, bind}
-use Rattle.stackmap.specs.Section.{numConstants, Entry}
+use Rattle.stackmap.specs.Section.{numConstants, isOld, Entry}
 use Rattle.stackmap.specs.Record.{recordCheck}
 use Rattle.stackmap.specs.Walk.{ownerAt, ahead}
 use Rattle.stackmap.specs.Check.{headerCheck, tablesCheck, walkCheck, sectionCheck}
@@ -32,7 +32,7 @@ module _ {A H : Type 0} (refused : ℕ → ℕ → A) (answer : A) {add : Entry 
     (e : c ≡ numConstants s) (f : Folding add s c h₀ next left remaining number p h) where
   -- it stops at a record that is refused, whose owner stands before next′
   pub ask-stop : (next′ left′ : ℕ) → ahead s next′ left′ ≡ ahead s next left → 0 < left′ → {n q : ℕ}
-      → shift p (recordCheck (drop p s) c (ownerAt s (next′ - 1) .function .address)) ≡ Refused n q → refused n q ≡ ask refused answer (walkCheck s)
+      → shift p (recordCheck (isOld s) (drop p s) c (ownerAt s (next′ - 1) .function .address)) ≡ Refused n q → refused n q ≡ ask refused answer (walkCheck s)
   unfolding ask walkCheck bind
   ask-stop next′ left′ a l v = rw (rw e at (walk-stop next′ left′ (f .walking) a l v))
 

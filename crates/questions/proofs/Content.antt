@@ -1,6 +1,7 @@
 -- What stands in a record, read by its number.
 use Prim.Native.Nat.{ℕ, zero, suc, _+_, _*_, _-_, _%_, _^_, _≤_, _<_}
 use mathlib.Core.Path.{_≡_, refl, sym}
+use mathlib.Core.Bool.{Bool, true, false}
 use mathlib.Core.Option.{none, some}
 use mathlib.Core.List.{List, [], _∷_}
 use native.Mathlib.Omega.{arith}
@@ -9,6 +10,7 @@ use borrow.Author.Tests.{eq-eqb, ne-eqb, lt-ltb, le-ltb}
 use lib.ListN.{getD, drop, getElem?}
 use Rattle.wire.specs.Word.{word}
 use Rattle.wire.proofs.Laws.{word-drop}
+use Rattle.stackmap.specs.Layout.{locationSize, locationsPadding}
 use Rattle.stackmap.specs.Fields.{many}
 use Rattle.stackmap.specs.Section.{Location, numConstants, constantsAt, readConstant, readLocation, readLiveOut, numLocations, locationsEnd, numLiveOuts, recordLength, readRecord, readSection}
 use Rattle.questions.specs.Questions.{constantOf}
@@ -73,45 +75,46 @@ module _ (pool : List ℕ) (l : Location) where
 
 -- The record at the place `first` of s, by the section's own bytes.
 
-module _ (s : List ℕ) (first n e : ℕ) (locations : n ≡ word 2 s (first + 14)) (end : e ≡ first + 16 + 12 * n + n % 2 * 4) where
+module _ (old : Bool) (s : List ℕ) (first n e : ℕ) (locations : n ≡ word 2 s (first + 14))
+    (end : e ≡ first + 16 + locationSize old * n + locationsPadding old n) where
   num-here : numLocations (drop first s) ≡ n
   num-here = rw word-drop (sym locations)
 
-  end-here : first + (locationsEnd (drop first s) + 2) ≡ e + 2
+  end-here : first + (locationsEnd old (drop first s) + 2) ≡ e + 2
   end-here = rw num-here (omega arith)
 
-  outs-here : numLiveOuts (drop first s) ≡ word 2 s (e + 2)
-  outs-here = rw (word-drop 2 first s (locationsEnd (drop first s) + 2), end-here)
+  outs-here : numLiveOuts old (drop first s) ≡ word 2 s (e + 2)
+  outs-here = rw (word-drop 2 first s (locationsEnd old (drop first s) + 2), end-here)
 
   -- how long it is
-  pub record-long : first + recordLength (drop first s) ≡ e + 4 + 4 * word 2 s (e + 2) + (word 2 s (e + 2) + 1) % 2 * 4
+  pub record-long : first + recordLength old (drop first s) ≡ e + 4 + 4 * word 2 s (e + 2) + (word 2 s (e + 2) + 1) % 2 * 4
   unfolding recordLength
   record-long = rw (outs-here, num-here) (omega arith)
 
-  location-here : (at : ℕ) → readLocation (drop first s) at ≡ readLocation s (first + at)
+  location-here : (at : ℕ) → readLocation old (drop first s) at ≡ readLocation old s (first + at)
   unfolding readLocation
   location-here at = simp (word-drop, ← add-assoc)
 
-  pub location-at : (j : ℕ) → j < n → getElem? (readRecord (drop first s) .locations) j ≡ some (readLocation s (first + 16 + 12 * j))
+  pub location-at : (j : ℕ) → j < n → getElem? (readRecord old (drop first s) .locations) j ≡ some (readLocation old s (first + 16 + locationSize old * j))
   unfolding readRecord
   location-at j h =
-      let p : first + (16 + 12 * j) ≡ first + 16 + 12 * j = omega arith in
-      rw (num-here, many-some readLocation 12 n (drop first s) 16 j h, location-here (16 + 12 * j), p)
+      let p : first + (16 + locationSize old * j) ≡ first + 16 + locationSize old * j = omega arith in
+      rw (num-here, many-some (readLocation old) (locationSize old) n (drop first s) 16 j h, location-here (16 + locationSize old * j), p)
 
-  pub location-past : (j : ℕ) → n ≤ j → getElem? (readRecord (drop first s) .locations) j ≡ none
+  pub location-past : (j : ℕ) → n ≤ j → getElem? (readRecord old (drop first s) .locations) j ≡ none
   unfolding readRecord
-  location-past j h = rw (num-here, many-none readLocation 12 n (drop first s) 16 j h)
+  location-past j h = rw (num-here, many-none (readLocation old) (locationSize old) n (drop first s) 16 j h)
 
   live-out-here : (at : ℕ) → readLiveOut (drop first s) at ≡ readLiveOut s (first + at)
   unfolding readLiveOut
   live-out-here at = simp (word-drop, ← add-assoc)
 
-  pub live-out-at : (j : ℕ) → j < word 2 s (e + 2) → getElem? (readRecord (drop first s) .liveOuts) j ≡ some (readLiveOut s (e + 4 + 4 * j))
+  pub live-out-at : (j : ℕ) → j < word 2 s (e + 2) → getElem? (readRecord old (drop first s) .liveOuts) j ≡ some (readLiveOut s (e + 4 + 4 * j))
   unfolding readRecord
   live-out-at j h =
-      let p : first + (locationsEnd (drop first s) + 4 + 4 * j) ≡ e + 4 + 4 * j = omega (arith, end-here) in
-      rw (outs-here, many-some readLiveOut 4 (word 2 s (e + 2)) (drop first s) (locationsEnd (drop first s) + 4) j h, live-out-here _, p)
+      let p : first + (locationsEnd old (drop first s) + 4 + 4 * j) ≡ e + 4 + 4 * j = omega (arith, end-here) in
+      rw (outs-here, many-some readLiveOut 4 (word 2 s (e + 2)) (drop first s) (locationsEnd old (drop first s) + 4) j h, live-out-here _, p)
 
-  pub live-out-past : (j : ℕ) → word 2 s (e + 2) ≤ j → getElem? (readRecord (drop first s) .liveOuts) j ≡ none
+  pub live-out-past : (j : ℕ) → word 2 s (e + 2) ≤ j → getElem? (readRecord old (drop first s) .liveOuts) j ≡ none
   unfolding readRecord
-  live-out-past j h = rw (outs-here, many-none readLiveOut 4 (word 2 s (e + 2)) (drop first s) (locationsEnd (drop first s) + 4) j h)
+  live-out-past j h = rw (outs-here, many-none readLiveOut 4 (word 2 s (e + 2)) (drop first s) (locationsEnd old (drop first s) + 4) j h)

@@ -10,10 +10,11 @@ use lib.Dec.{eqb}
 use borrow.Author.Tests.{eq-eqb, ne-eqb}
 use Rattle.wire.specs.Word.{word}
 use Rattle.wire.proofs.Laws.{word-drop}
-use Rattle.stackmap.specs.Section.{readFunction, readRecord, Record, recordFields, Owner, Entry, address, entriesFrom, entriesOf, entries}
-use Rattle.stackmap.specs.Walk.{functionAt, ownerAt, entryAt}
+use Rattle.stackmap.specs.Section.{isOld, readRecord, Record, recordFields, Owner, Entry, address, entriesFrom, entries}
+use Rattle.stackmap.specs.Walk.{ownerBy, ownerAt, entryAt}
 use Rattle.stackmap.specs.Fields.{size}
 use Rattle.stackmap.proofs.Back.{record-size}
+use Rattle.stackmap.proofs.Entries.{entries-are}
 use Rattle.stackmap.proofs.OneWalk.{fold}
 use Rattle.questions.specs.declared.Found.{Found}
 use Rattle.questions.specs.declared.Hits.{Hits}
@@ -24,9 +25,16 @@ use Rattle.questions.specs.Questions.{among, withAddress, notFound, firs
 
 -- By address.
 
-pub here-address : (s : List ℕ) (index function at : ℕ) → address (entryAt s index function at) ≡ word 8 s (functionAt function) + word 4 s (at + 8)
-unfolding address ownerAt readFunction readRecord
+pub here-address : (s : List ℕ) (index function at : ℕ)
+    → address (entryAt s index function at) ≡ ownerAt s function .function .address + word 4 s (at + 8)
+unfolding address readRecord
 here-address s index function at = rw (word-drop 4 at s 8)
+
+-- an owner has the number that it is asked for by
+owner-number : (old : Bool) (s : List ℕ) (i : ℕ) → ownerBy old s i .number ≡ i
+unfolding ownerBy
+owner-number true s i = refl
+owner-number false s i = refl
 
 -- the answer, by what was kept
 abbrev pub hitsAnswer : Bool → Hits → Found
@@ -71,6 +79,10 @@ module _ (a : ℕ) where
   unfolding noted
   fresh e h q z = rw (q, z)
 
+  pub fresh-at : (s : List ℕ) (index function at : ℕ) (h : Hits) → eqb (address (entryAt s index function at)) a ≡ true → eqb (h .sharing) 0 ≡ true
+      → noted a (entryAt s index function at) h ≡ record { index = index; function = function; sharing = 1; first = at }
+  fresh-at s index function at h q z = fresh (entryAt s index function at) h q z ∙ rw (owner-number (isOld s) s function)
+
   pub hits-answer : (es : List Entry) → hitsAnswer (eqb (fold (noted a) es noHits .sharing) 0) (fold (noted a) es noHits) ≡ firstOf (withAddress a es)
   unfolding withAddress
   hits-answer [] = refl
@@ -93,65 +105,65 @@ module _ (a : ℕ) where
 
 -- By number.
 
-module _ (k : ℕ) where
-  pub picked-other : (e : Entry) (h : Stretch) → (e .number ≡ k → ⊥) → picked k e h ≡ h
+module _ (old : Bool) (k : ℕ) where
+  pub picked-other : (e : Entry) (h : Stretch) → (e .number ≡ k → ⊥) → picked old k e h ≡ h
   unfolding picked
   picked-other e h n = rw (ne-eqb _ _ n)
 
-  pub picked-this : (e : Entry) (h : Stretch) → e .number ≡ k → picked k e h ≡ record { first = e .first; length = size (recordFields (e .body)) }
+  pub picked-this : (e : Entry) (h : Stretch) → e .number ≡ k → picked old k e h ≡ record { first = e .first; length = size (recordFields old (e .body)) }
   unfolding picked
   picked-this e h n = rw (eq-eqb _ _ n)
 
   -- a record that was passed is not seen again
-  past : (rs : List Record) (os : List Owner) (i at : ℕ) (h : Stretch) → k < i → fold (picked k) (entriesFrom i at os rs) h ≡ h
+  past : (rs : List Record) (os : List Owner) (i at : ℕ) (h : Stretch) → k < i → fold (picked old k) (entriesFrom old i at os rs) h ≡ h
   unfolding entriesFrom
   past rs [] i at h l = refl
   past [] (o ∷ os) i at h l = refl
   past (r ∷ rs) (o ∷ os) i at h l =
-      ap (λ (g : Stretch). fold (picked k) (entriesFrom (suc i) (at + size (recordFields r)) os rs) g)
+      ap (λ (g : Stretch). fold (picked old k) (entriesFrom old (suc i) (at + size (recordFields old r)) os rs) g)
       (picked-other (record { number = i; first = at; owner = o; body = r }) h (λ (e : i ≡ k). omega arith))
-      ∙ past rs os (suc i) (at + size (recordFields r)) h (omega arith)
+      ∙ past rs os (suc i) (at + size (recordFields old r)) h (omega arith)
 
   -- the record number i + j
   abbrev stretchOf : Stretch → Option Entry → Stretch
   stretchOf h none = h
-  stretchOf h (some e) = record { first = e .first; length = size (recordFields (e .body)) }
+  stretchOf h (some e) = record { first = e .first; length = size (recordFields old (e .body)) }
 
   reach : (rs : List Record) (os : List Owner) (i at j : ℕ) (h : Stretch) → i + j ≡ k
-      → fold (picked k) (entriesFrom i at os rs) h ≡ stretchOf h (getElem? (entriesFrom i at os rs) j)
+      → fold (picked old k) (entriesFrom old i at os rs) h ≡ stretchOf h (getElem? (entriesFrom old i at os rs) j)
   unfolding entriesFrom
   reach rs [] i at j h e = refl
   reach [] (o ∷ os) i at j h e = refl
   reach (r ∷ rs) (o ∷ os) i at zero h e =
-      ap (λ (g : Stretch). fold (picked k) (entriesFrom (suc i) (at + size (recordFields r)) os rs) g)
+      ap (λ (g : Stretch). fold (picked old k) (entriesFrom old (suc i) (at + size (recordFields old r)) os rs) g)
       (picked-this (record { number = i; first = at; owner = o; body = r }) h (omega arith))
-      ∙ past rs os (suc i) (at + size (recordFields r)) (record { first = at; length = size (recordFields r) }) (omega arith)
+      ∙ past rs os (suc i) (at + size (recordFields old r)) (record { first = at; length = size (recordFields old r) }) (omega arith)
   reach (r ∷ rs) (o ∷ os) i at (suc j) h e =
-      ap (λ (g : Stretch). fold (picked k) (entriesFrom (suc i) (at + size (recordFields r)) os rs) g)
+      ap (λ (g : Stretch). fold (picked old k) (entriesFrom old (suc i) (at + size (recordFields old r)) os rs) g)
       (picked-other (record { number = i; first = at; owner = o; body = r }) h (λ (z : i ≡ k). omega arith))
-      ∙ reach rs os (suc i) (at + size (recordFields r)) j h (omega arith)
+      ∙ reach rs os (suc i) (at + size (recordFields old r)) j h (omega arith)
 
   -- no record is empty
-  not-empty : (e : Entry) → 0 < size (recordFields (e .body))
-  not-empty e = rw (record-size (e .body)) (omega arith)
+  not-empty : (e : Entry) → 0 < size (recordFields old (e .body))
+  not-empty e = rw (record-size old (e .body)) (omega arith)
 
   abbrev pub stretchAnswer : Bool → Stretch → Located
   stretchAnswer true h = notLocated 10 0
   stretchAnswer false h = record { number = 0; place = 0; first = h .first; length = h .length }
 
-  answered : (x : Option Entry) → stretchAnswer (eqb (stretchOf noStretch x .length) 0) (stretchOf noStretch x) ≡ among (notLocated 10 0) located x
+  answered : (x : Option Entry) → stretchAnswer (eqb (stretchOf noStretch x .length) 0) (stretchOf noStretch x) ≡ among (notLocated 10 0) (located old) x
   answered none = refl
-  answered (some e) = let n = not-empty e in rw (ne-eqb (size (recordFields (e .body))) 0 (λ z. omega arith))
+  answered (some e) = let n = not-empty e in rw (ne-eqb (size (recordFields old (e .body))) 0 (λ z. omega arith))
 
-  kept-answer : (s : List ℕ) → stretchAnswer (eqb (fold (picked k) (entries s) noStretch .length) 0) (fold (picked k) (entries s) noStretch)
-      ≡ among (notLocated 10 0) located (getElem? (entries s) k)
-  unfolding entries entriesOf
-  kept-answer s = rw (reach _ _ 0 _ k noStretch (omega arith)) (answered (getElem? (entries s) k))
+module _ (k : ℕ) (s : List ℕ) where
+  kept-answer : stretchAnswer (isOld s) k (eqb (fold (picked (isOld s) k) (entries s) noStretch .length) 0) (fold (picked (isOld s) k) (entries s) noStretch)
+      ≡ among (notLocated 10 0) (located (isOld s)) (getElem? (entries s) k)
+  kept-answer = rw (entries-are s, reach (isOld s) k _ _ 0 _ k noStretch (omega arith)) (answered (isOld s) k (getElem? _ k))
 
-  pub located-none : (s : List ℕ) (h : Stretch) → fold (picked k) (entries s) noStretch ≡ h → h .length ≡ 0
-      → among (notLocated 10 0) located (getElem? (entries s) k) ≡ notLocated 10 0
-  located-none s h e z = sym (kept-answer s) ∙ rw (e, eq-eqb _ _ z)
+  pub located-none : (h : Stretch) → fold (picked (isOld s) k) (entries s) noStretch ≡ h → h .length ≡ 0
+      → among (notLocated 10 0) (located (isOld s)) (getElem? (entries s) k) ≡ notLocated 10 0
+  located-none h e z = sym kept-answer ∙ rw (e, eq-eqb _ _ z)
 
-  pub located-some : (s : List ℕ) (h : Stretch) → fold (picked k) (entries s) noStretch ≡ h → (h .length ≡ 0 → ⊥)
-      → among (notLocated 10 0) located (getElem? (entries s) k) ≡ stretchAnswer false h
-  located-some s h e z = sym (kept-answer s) ∙ rw (e, ne-eqb _ _ z)
+  pub located-some : (h : Stretch) → fold (picked (isOld s) k) (entries s) noStretch ≡ h → (h .length ≡ 0 → ⊥)
+      → among (notLocated 10 0) (located (isOld s)) (getElem? (entries s) k) ≡ stretchAnswer (isOld s) k false h
+  located-some h e z = sym kept-answer ∙ rw (e, ne-eqb _ _ z)

@@ -7,7 +7,7 @@ use native.Mathlib.Omega.{arith}
 use lib.ListN.{length, drop, getElem?}
 use Rattle.stackmap.specs.declared.Verdict.{Verdict}
 use Rattle.stackmap.specs.declared.Verdict.the-variants.{Valid, Refused}
-use Rattle.stackmap.specs.Section.{recordsAt, recordLength, readRecord, Entry, entries}
+use Rattle.stackmap.specs.Section.{isOld, recordsAt, recordLength, readRecord, Entry, entries}
 use Rattle.stackmap.specs.Check.{sectionCheck}
 use Rattle.stackmap.proofs.Verdicts.{chain-first}
 use Rattle.stackmap.proofs.Forth.{read-size}
@@ -32,7 +32,7 @@ module _ {A : Type 0} (refused : ℕ → ℕ → A) (found : Entry → A) (s : L
   asking v x = ask refused (among (refused 10 0) found x) v
 
   abbrev standing : Verdict → Option Entry → Located
-  standing v x = ask notLocated (among (notLocated 10 0) located x) v
+  standing v x = ask notLocated (among (notLocated 10 0) (located (isOld s)) x) v
 
   same-refusal : (v : Verdict) (x : Option Entry) → (standing v x .number ≡ 0 → ⊥) → asking v x ≡ refused (standing v x .number) (standing v x .place)
   unfolding ask
@@ -50,8 +50,8 @@ module _ {A : Type 0} (refused : ℕ → ℕ → A) (found : Entry → A) (s : L
   pub record Here (first length : ℕ) : Type 0 where
     pub entry : Entry
     pub answer : ask refused (among (refused 10 0) found (getElem? (entries s) k)) (sectionCheck s) ≡ found entry
-    pub body : entry .body ≡ readRecord (drop first s)
-    pub long : recordLength (drop first s) ≡ length
+    pub body : entry .body ≡ readRecord (isOld s) (drop first s)
+    pub long : recordLength (isOld s) (drop first s) ≡ length
     pub inside : recordsAt s ≤ lib.ListN.length s
 
   asked-here : (v : Verdict) → sectionCheck s ≡ v → (x : Option Entry) → getElem? (entries s) k ≡ x → Numbered 9 v → standing v x .number ≡ 0
@@ -65,7 +65,7 @@ module _ {A : Type 0} (refused : ℕ → ℕ → A) (found : Entry → A) (s : L
         entry = y;
         answer = rw (e, m);
         body = b;
-        long = sym (read-size (drop (y .first) s)) ∙ rw (← b);
+        long = sym (read-size (isOld s) (drop (y .first) s)) ∙ rw (← b);
         inside = tables-inside s n e;
       }
 

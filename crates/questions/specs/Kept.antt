@@ -1,6 +1,6 @@
 -- What a walk keeps of the entries that it has passed, to answer a question in one pass.
 use Prim.Native.Nat.{ℕ, suc}
-use mathlib.Core.Bool.{cond}
+use mathlib.Core.Bool.{Bool, cond}
 use lib.Dec.{eqb}
 use Rattle.stackmap.specs.Fields.{size}
 use Rattle.stackmap.specs.Section.{recordFields, Entry, address}
@@ -23,5 +23,5 @@ noted a e h = cond (eqb (address e) a) (hit e h) h
 abbrev pub noStretch : Stretch
 noStretch = record { first = 0; length = 0 }
 
-unfoldable pub picked : ℕ → Entry → Stretch → Stretch
-picked k e h = cond (eqb (e .number) k) (record { first = e .first; length = size (recordFields (e .body)) }) h
+unfoldable pub picked : Bool → ℕ → Entry → Stretch → Stretch
+picked old k e h = cond (eqb (e .number) k) (record { first = e .first; length = size (recordFields old (e .body)) }) h

@@ -1,6 +1,6 @@
 -- Questions on a section, in the words and order of document 01. Each is a short function of the list of entries.
 use Prim.Native.Nat.{ℕ, _+_, _-_, _^_}
-use mathlib.Core.Bool.{cond}
+use mathlib.Core.Bool.{Bool, cond}
 use mathlib.Core.Option.{Option, none, some}
 use mathlib.Core.List.{List, [], _∷_}
 use lib.ListN.{length, getD, take, drop, getElem?}
@@ -9,7 +9,7 @@ use Rattle.stackmap.specs.declared.Verdict.{Verdict}
 use Rattle.stackmap.specs.declared.Verdict.the-variants.{Valid, Refused}
 use Rattle.stackmap.specs.Layout.{negativeFrom}
 use Rattle.stackmap.specs.Fields.{size}
-use Rattle.stackmap.specs.Section.{Location, LiveOut, recordFields, readSection, Entry, address, entries}
+use Rattle.stackmap.specs.Section.{Location, LiveOut, recordFields, isOld, readSection, Entry, address, entries}
 use Rattle.stackmap.specs.Check.{sectionCheck}
 use Rattle.questions.specs.declared.Found.{Found}
 use Rattle.questions.specs.declared.Located.{Located}
@@ -57,11 +57,11 @@ byAddress s a = ask notFound (firstOf (withAddress a (entries s))) (sectionCheck
 abbrev pub notLocated : ℕ → ℕ → Located
 notLocated n p = record { number = n; place = p; first = 0; length = 0 }
 
-abbrev pub located : Entry → Located
-located e = record { number = 0; place = 0; first = e .first; length = size (recordFields (e .body)) }
+abbrev pub located : Bool → Entry → Located
+located old e = record { number = 0; place = 0; first = e .first; length = size (recordFields old (e .body)) }
 
 unfoldable pub recordPlace : List ℕ → ℕ → Located
-recordPlace s k = ask notLocated (among (notLocated 10 0) located (getElem? (entries s) k)) (sectionCheck s)
+recordPlace s k = ask notLocated (among (notLocated 10 0) (located (isOld s)) (getElem? (entries s) k)) (sectionCheck s)
 
 unfoldable pub recordPart : List ℕ → ℕ → List ℕ
 recordPart s k = take (recordPlace s k .length) (drop (recordPlace s k .first) s)

@@ -2,9 +2,9 @@
 ghost use mathlib.Core.Path.{_≡_};
 ghost use Prim.Native.Nat.{_+_, _^_, _≤_, _<_};
 ghost use lib.ListN.{length};
-ghost use Rattle.stackmap.specs.Section.{numFunctions, constantsAt, recordsAt, entries};
+ghost use Rattle.stackmap.specs.Section.{recordsAt, entries};
 ghost use Rattle.stackmap.specs.Check.{walkCheck};
-ghost use Rattle.stackmap.specs.Walk.{entryAt, Walkable};
+ghost use Rattle.stackmap.specs.Walk.{ownerAt, entryAt, Walkable};
 ghost use Rattle.questions.specs.Kept.{noted};
 ghost use Rattle.questions.specs.Questions.{ask, withAddress, notFound, firstOf, byAddress};
 use crate::Found;
@@ -29,12 +29,19 @@ fn refused(number: u8, place: usize) -> Found
     }
 }
 
-// Notes the record `index` at `at`, of function number `function`, if it has the address.
-pub fn note(s: &[u8], address: u64, index: usize, function: usize, at: usize, hits: Hits) -> Hits
-    requires { ⌜ (constantsAt (now s) ≤ length (now s)) × (function < numFunctions (now s)) × (at + 16 ≤ length (now s)) × (hits .sharing ≤ index) × (index < 2 ^ 32) ⌝ }
+// Notes the record `index` at `at`, of function number `function`, which starts at `start`, if it has the address.
+pub fn note(
+    s: &[u8],
+    start: u64,
+    address: u64,
+    index: usize,
+    function: usize,
+    at: usize,
+    hits: Hits,
+) -> Hits
+    requires { ⌜ (start ≡ ownerAt (now s) function .function .address) × (at + 16 ≤ length (now s)) × (hits .sharing ≤ index) × (index < 2 ^ 32) ⌝ }
     ensures { λ r. ⌜ (r ≡ noted address (entryAt (now (s .entry)) index function at) hits) × (r .sharing ≤ index + 1) ⌝ }
 {
-    let start = wire::u64_at(s, layout::HEADER_SIZE + layout::FUNCTION_SIZE * function);
     let offset = wire::u32_at(s, at + layout::INSTRUCTION_OFFSET_AT) as u64;
     if address < start {
         return hits;
@@ -67,7 +74,8 @@ fn search(s: &[u8], at: usize, address: u64) -> Found
     let constants = wire::u32_at(s, layout::NUM_CONSTANTS_AT);
     let mut remaining = wire::u32_at(s, layout::NUM_RECORDS_AT);
     let mut index: usize = 0;
-    let mut turn = Turn { next: 0, left: 0 };
+    let old = tables::is_old(s);
+    let mut turn = walk::start(s, old);
     let mut p = at;
     let mut hits = Hits {
         index: 0,
@@ -78,10 +86,11 @@ fn search(s: &[u8], at: usize, address: u64) -> Found
     while remaining > 0 {
         let t = walk::owner(s, turn);
         let next = t.next;
-        match walk::record_at(s, constants, next - 1, p) {
+        match walk::record_at(s, old, constants, next - 1, p) {
             Verdict::Refused(n, q) => return refused(n, q),
             Verdict::Valid(end) => {
-                hits = note(s, address, index, next - 1, p, hits);
+                let start = walk::owner_address(s, old, next - 1);
+                hits = note(s, start, address, index, next - 1, p, hits);
                 p = end;
             }
         }

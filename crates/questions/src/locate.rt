@@ -2,7 +2,7 @@
 ghost use mathlib.Core.Path.{_≡_};
 ghost use Prim.Native.Nat.{ℕ, _+_, _≤_};
 ghost use lib.ListN.{length, drop, getElem?};
-ghost use Rattle.stackmap.specs.Section.{recordsAt, recordLength, entries};
+ghost use Rattle.stackmap.specs.Section.{recordsAt, isOld, recordLength, entries};
 ghost use Rattle.stackmap.specs.Check.{walkCheck};
 ghost use Rattle.stackmap.specs.Walk.{entryAt, Walkable};
 ghost use Rattle.questions.specs.Kept.{picked};
@@ -29,8 +29,8 @@ fn refused(number: u8, place: usize) -> Located
 
 // Keeps where the record `index` stands, from `at` to `end`, if it is the wanted one.
 fn keep(s: &[u8], wanted: u64, index: u64, at: usize, end: usize, kept: Stretch) -> Stretch
-    requires { ⌜ (end ≡ at + recordLength (drop at (now s))) × (kept .first + kept .length ≤ at) ⌝ }
-    ensures { λ r. ⌜ ((i : ℕ) → r ≡ picked wanted (entryAt (now (s .entry)) index i at) kept) × (r .first + r .length ≤ end) ⌝ }
+    requires { ⌜ (end ≡ at + recordLength (isOld (now s)) (drop at (now s))) × (kept .first + kept .length ≤ at) ⌝ }
+    ensures { λ r. ⌜ ((i : ℕ) → r ≡ picked (isOld (now (s .entry))) wanted (entryAt (now (s .entry)) index i at) kept) × (r .first + r .length ≤ end) ⌝ }
 {
     if index == wanted {
         return Stretch {
@@ -44,12 +44,13 @@ fn keep(s: &[u8], wanted: u64, index: u64, at: usize, end: usize, kept: Stretch)
 // The walk from the first record's byte: all records, with where the wanted one stands; then 9, then 10.
 fn search(s: &[u8], at: usize, wanted: u64) -> Located
     requires { ⌜ Walkable (now s) × (at ≡ recordsAt (now s)) × (at ≤ length (now s)) ⌝ }
-    ensures { λ r. ⌜ (r ≡ ask notLocated (among (notLocated 10 0) located (getElem? (entries (now (s .entry))) wanted)) (walkCheck (now (s .entry)))) × (r .first + r .length ≤ length (now (s .entry))) ⌝ }
+    ensures { λ r. ⌜ (r ≡ ask notLocated (among (notLocated 10 0) (located (isOld (now (s .entry)))) (getElem? (entries (now (s .entry))) wanted)) (walkCheck (now (s .entry)))) × (r .first + r .length ≤ length (now (s .entry))) ⌝ }
 {
     let constants = wire::u32_at(s, layout::NUM_CONSTANTS_AT);
     let mut remaining = wire::u32_at(s, layout::NUM_RECORDS_AT);
     let mut index: u64 = 0;
-    let mut turn = Turn { next: 0, left: 0 };
+    let old = tables::is_old(s);
+    let mut turn = walk::start(s, old);
     let mut p = at;
     let mut kept = Stretch {
         first: 0,
@@ -58,7 +59,7 @@ fn search(s: &[u8], at: usize, wanted: u64) -> Located
     while remaining > 0 {
         let t = walk::owner(s, turn);
         let next = t.next;
-        match walk::record_at(s, constants, next - 1, p) {
+        match walk::record_at(s, old, constants, next - 1, p) {
             Verdict::Refused(n, q) => return refused(n, q),
             Verdict::Valid(end) => {
                 kept = keep(s, wanted, index, p, end, kept);

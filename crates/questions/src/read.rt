@@ -2,12 +2,14 @@
 ghost use mathlib.Core.Path.{_≡_};
 ghost use Prim.Native.Nat.{ℕ, _+_, _≤_};
 ghost use lib.ListN.{length, drop, getElem?};
-ghost use Rattle.stackmap.specs.Section.{recordsAt, recordLength, readRecord, readSection};
+ghost use Rattle.stackmap.specs.Layout.{headerSize, locationSize};
+ghost use Rattle.stackmap.specs.Section.{recordsAt, isOld, readLocation, recordLength, readRecord, readSection};
 ghost use Rattle.questions.specs.Questions.{among, constantOf, noLocation, thisLocation, locationAnswer, noLiveOut, thisLiveOut, liveOutAnswer};
 use crate::LiveOutAnswer;
 use crate::LocationAnswer;
 use crate::locate;
 use stackmap::layout;
+use stackmap::tables;
 
 // What is added to the 32 bits of a negative number to make its 64 bits: 2^64 - 2^32.
 const SIGN: u64 = 18446744069414584320;
@@ -29,7 +31,7 @@ fn constant(s: &[u8], kind: u8, offset: u32) -> u64
             return wire::u64_at(
                 s,
                 layout::HEADER_SIZE
-                    + layout::FUNCTION_SIZE * functions
+                    + layout::function_size(tables::is_old(s)) * functions
                     + layout::CONSTANT_SIZE * (offset as usize),
             );
         }
@@ -52,26 +54,55 @@ fn no_location(number: u8, place: usize) -> LocationAnswer
     }
 }
 
+// The four numbers of a location.
+pub struct LocationWords {
+    pub kind: u8,
+    pub size: u16,
+    pub register: u16,
+    pub offset: u32,
+}
+
+// The location at `at`.
+fn location_fields(s: &[u8], old: bool, at: usize) -> LocationWords
+    requires { ⌜ at + locationSize old ≤ length (now s) ⌝ }
+    ensures { λ r. ⌜ readLocation old (now (s .entry)) at ≡ record { kind = r .kind; size = r .size; register = r .register; offset = r .offset } ⌝ }
+{
+    if old {
+        return LocationWords {
+            kind: s[at],
+            size: s[at + 1] as u16,
+            register: wire::u16_at(s, at + 2),
+            offset: wire::u32_at(s, at + 4),
+        };
+    }
+    LocationWords {
+        kind: s[at],
+        size: wire::u16_at(s, at + 2),
+        register: wire::u16_at(s, at + 4),
+        offset: wire::u32_at(s, at + 8),
+    }
+}
+
 // The location `number` of the record at `first`, or 11.
 pub fn location_in(s: &[u8], first: usize, number: u64) -> LocationAnswer
-    requires { ⌜ (recordsAt (now s) ≤ length (now s)) × (first + recordLength (drop first (now s)) ≤ length (now s)) ⌝ }
-    ensures { λ r. ⌜ r ≡ among (noLocation 11 0) (thisLocation (readSection (now (s .entry)) .constants)) (getElem? (readRecord (drop first (now (s .entry))) .locations) number) ⌝ }
+    requires { ⌜ (recordsAt (now s) ≤ length (now s)) × (first + recordLength (isOld (now s)) (drop first (now s)) ≤ length (now s)) ⌝ }
+    ensures { λ r. ⌜ r ≡ among (noLocation 11 0) (thisLocation (readSection (now (s .entry)) .constants)) (getElem? (readRecord (isOld (now (s .entry))) (drop first (now (s .entry))) .locations) number) ⌝ }
 {
     let count = wire::u16_at(s, first + layout::NUM_LOCATIONS_AT) as u64;
     if number >= count {
         return no_location(11, 0);
     }
-    let at = first + layout::RECORD_HEAD_SIZE + layout::LOCATION_SIZE * (number as usize);
-    let kind = s[at];
-    let offset = wire::u32_at(s, at + layout::LOCATION_OFFSET_AT);
+    let old = tables::is_old(s);
+    let at = first + layout::RECORD_HEAD_SIZE + layout::location_size(old) * (number as usize);
+    let l = location_fields(s, old, at);
     LocationAnswer {
         number: 0,
         place: 0,
-        kind,
-        size: wire::u16_at(s, at + layout::LOCATION_SIZE_AT),
-        register: wire::u16_at(s, at + layout::LOCATION_REGISTER_AT),
-        offset,
-        constant: constant(s, kind, offset),
+        kind: l.kind,
+        size: l.size,
+        register: l.register,
+        offset: l.offset,
+        constant: constant(s, l.kind, l.offset),
     }
 }
 
@@ -100,14 +131,13 @@ fn no_live_out(number: u8, place: usize) -> LiveOutAnswer
 
 // The live-out `number` of the record at `first`, or 11.
 fn live_out_in(s: &[u8], first: usize, number: u64) -> LiveOutAnswer
-    requires { ⌜ first + recordLength (drop first (now s)) ≤ length (now s) ⌝ }
-    ensures { λ r. ⌜ r ≡ among (noLiveOut 11 0) thisLiveOut (getElem? (readRecord (drop first (now (s .entry))) .liveOuts) number) ⌝ }
+    requires { ⌜ (headerSize ≤ length (now s)) × (first + recordLength (isOld (now s)) (drop first (now s)) ≤ length (now s)) ⌝ }
+    ensures { λ r. ⌜ r ≡ among (noLiveOut 11 0) thisLiveOut (getElem? (readRecord (isOld (now (s .entry))) (drop first (now (s .entry))) .liveOuts) number) ⌝ }
 {
     let locations = wire::u16_at(s, first + layout::NUM_LOCATIONS_AT) as usize;
-    let end = first
-        + layout::RECORD_HEAD_SIZE
-        + layout::LOCATION_SIZE * locations
-        + locations % 2 * 4;
+    let old = tables::is_old(s);
+    let pad = first + layout::RECORD_HEAD_SIZE + layout::location_size(old) * locations;
+    let end = pad + layout::locations_padding(old, locations);
     let count = wire::u16_at(s, end + layout::LIVE_OUTS_HEAD_ZEROS) as u64;
     if number >= count {
         return no_live_out(11, 0);

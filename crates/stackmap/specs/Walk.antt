@@ -13,7 +13,7 @@ abbrev pub functionAt : Bool → ℕ → ℕ
 functionAt old i = headerSize + functionSize old * i
 
 unfoldable pub ownerBy : Bool → List ℕ → ℕ → Owner
-ownerBy true s i = nobody
+ownerBy true s i = record { number = i; function = nobody .function }
 ownerBy false s i = record { number = i; function = readFunction false s (functionAt false i) }
 
 abbrev pub ownerAt : List ℕ → ℕ → Owner
