@@ -7,7 +7,7 @@ use mathlib.Core.List.{List, [], _∷_}
 use native.Mathlib.Omega.{arith}
 use native.Mathlib.Nat.{mul-suc, add-assoc}
 use borrow.Author.Tests.{eq-eqb, ne-eqb, lt-ltb, le-ltb}
-use lib.ListN.{getD, drop, getElem?}
+use lib.ListN.{length, getD, drop, getElem?}
 use Rattle.wire.specs.Word.{word}
 use Rattle.wire.proofs.Laws.{word-drop}
 use Rattle.stackmap.specs.Layout.{locationSize, locationsPadding}
@@ -73,6 +73,11 @@ module _ (pool : List ℕ) (l : Location) where
   unfolding constantOf
   constant-none k₄ k₅ = rw (ne-eqb _ _ k₄, ne-eqb _ _ k₅)
 
+times-up : (a m n : ℕ) → m ≤ n → a * m ≤ a * n
+times-up a m zero h = let z : m ≡ 0 = omega arith in rw z (omega arith)
+times-up a zero (suc n) h = omega arith
+times-up a (suc m) (suc n) h = let i = times-up a m n (omega arith) in omega arith
+
 -- The record at the place `first` of s, by the section's own bytes.
 
 module _ (old : Bool) (s : List ℕ) (first n e : ℕ) (locations : n ≡ word 2 s (first + 14))
@@ -90,6 +95,13 @@ module _ (old : Bool) (s : List ℕ) (first n e : ℕ) (locations : n ≡ word 2
   pub record-long : first + recordLength old (drop first s) ≡ e + 4 + 4 * word 2 s (e + 2) + (word 2 s (e + 2) + 1) % 2 * 4
   unfolding recordLength
   record-long = rw (outs-here, num-here) (omega arith)
+
+  -- each of its locations is inside, where it is
+  pub location-inside : (j : ℕ) → j < n → first + recordLength old (drop first s) ≤ length s → first + 16 + locationSize old * j + locationSize old ≤ length s
+  location-inside j h i =
+      let l = record-long in
+      let m : locationSize old * (j + 1) ≤ locationSize old * n = times-up (locationSize old) (j + 1) n (omega arith) in
+      omega arith
 
   location-here : (at : ℕ) → readLocation old (drop first s) at ≡ readLocation old s (first + at)
   unfolding readLocation

@@ -155,10 +155,15 @@ module _ (old : Bool) (k : ℕ) where
   answered none = refl
   answered (some e) = let n = not-empty e in rw (ne-eqb (size (recordFields old (e .body))) 0 (λ z. omega arith))
 
+  answer-from : (rs : List Record) (os : List Owner) (at : ℕ)
+      → stretchAnswer (eqb (fold (picked old k) (entriesFrom old 0 at os rs) noStretch .length) 0) (fold (picked old k) (entriesFrom old 0 at os rs) noStretch)
+      ≡ among (notLocated 10 0) (located old) (getElem? (entriesFrom old 0 at os rs) k)
+  answer-from rs os at = rw (reach rs os 0 at k noStretch (omega arith)) (answered (getElem? (entriesFrom old 0 at os rs) k))
+
 module _ (k : ℕ) (s : List ℕ) where
   kept-answer : stretchAnswer (isOld s) k (eqb (fold (picked (isOld s) k) (entries s) noStretch .length) 0) (fold (picked (isOld s) k) (entries s) noStretch)
       ≡ among (notLocated 10 0) (located (isOld s)) (getElem? (entries s) k)
-  kept-answer = rw (entries-are s, reach (isOld s) k _ _ 0 _ k noStretch (omega arith)) (answered (isOld s) k (getElem? _ k))
+  kept-answer = rw (entries-are s) (answer-from (isOld s) k _ _ _)
 
   pub located-none : (h : Stretch) → fold (picked (isOld s) k) (entries s) noStretch ≡ h → h .length ≡ 0
       → among (notLocated 10 0) (located (isOld s)) (getElem? (entries s) k) ≡ notLocated 10 0

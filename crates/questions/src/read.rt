@@ -62,6 +62,12 @@ pub struct LocationWords {
     pub offset: u32,
 }
 
+fn wide(byte: u8) -> u16
+    ensures { λ r. ⌜ r ≡ byte ⌝ }
+{
+    byte as u16
+}
+
 // The location at `at`.
 fn location_fields(s: &[u8], old: bool, at: usize) -> LocationWords
     requires { ⌜ at + locationSize old ≤ length (now s) ⌝ }
@@ -70,7 +76,7 @@ fn location_fields(s: &[u8], old: bool, at: usize) -> LocationWords
     if old {
         return LocationWords {
             kind: s[at],
-            size: s[at + 1] as u16,
+            size: wide(s[at + 1]),
             register: wire::u16_at(s, at + 2),
             offset: wire::u32_at(s, at + 4),
         };

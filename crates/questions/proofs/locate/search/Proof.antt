@@ -55,10 +55,12 @@ refused-requires : tie.Need-refused-requires Inv-loop μ-loop
 refused-requires c κs = search needs
 
 returns : tie.Need-returns Inv-loop μ-loop
-returns c =
-    (c .refused .ensures
-    ∙ ask-stop _ _ (c .before .before .before .before .before .before .before .before .before .before .before .u32-at .ensures) (c .before .before .before .before .before .before .before .loop .inv .0) (c .before .before .before .before .before .owner .result .next) (c .before .before .before .before .before .owner .result .left) (c .before .before .before .before .before .owner .ensures .0) (c .before .before .before .before .before .owner .ensures .1)
-    (sym (c .before .before .before .before .record-at .ensures) ∙ c .before .before .n .given .1), rw (c .refused .ensures) (omega arith))
+returns c = (
+  c .refused .ensures
+      ∙ ask-stop _ _ (c .before .before .before .before .before .before .before .before .before .before .before .u32-at .ensures) (c .before .before .before .before .before .before .before .loop .inv .0) (c .before .before .before .before .before .owner .result .next) (c .before .before .before .before .before .owner .result .left) (c .before .before .before .before .before .owner .ensures .0) (c .before .before .before .before .before .owner .ensures .1)
+      (sym (c .before .before .before .before .record-at .ensures) ∙ c .before .before .n .given .1),
+  rw (c .refused .ensures) (omega arith),
+)
 
 enum-known-end : tie.Need-enum-known-end Inv-loop μ-loop
 enum-known-end c = search needs
@@ -102,18 +104,22 @@ returns-3 : tie.Need-returns-3 Inv-loop μ-loop
 returns-3 c =
     let q = c .before .before .before .before .before .before .before .before .before .before .before in
     let none : c .before .before .before .before .before .loop .remaining ≡ 0 = omega arith in
-    let f = c .before .before .before .before .before .loop .inv .0 in
-    (c .refused3 .ensures
-    ∙ sym (located-none (q .args .wanted) (q .args .s .now) (c .before .before .before .before .before .loop .kept) (fold-end (picked (isOld (q .args .s .now)) (q .args .wanted)) f none) (c .before .if2 .taken))
-    ∙ ask-whole _ _ (c .before .before .before .before .before .before .before .before .before .u32-at .ensures) f none (c .before .before .before .if1 .left), rw (c .refused3 .ensures) (omega arith))
+    let f = c .before .before .before .before .before .loop .inv .0 in (
+      c .refused3 .ensures
+          ∙ sym (located-none (q .args .wanted) (q .args .s .now) (c .before .before .before .before .before .loop .kept) (fold-end (picked (isOld (q .args .s .now)) (q .args .wanted)) f none) (c .before .if2 .taken))
+          ∙ ask-whole _ _ (c .before .before .before .before .before .before .before .before .before .u32-at .ensures) f none (c .before .before .before .if1 .left),
+      rw (c .refused3 .ensures) (omega arith),
+    )
 
 returns-4 : tie.Need-returns-4 Inv-loop μ-loop
 returns-4 c =
     let q = c .before .before .before .before .before .before .before .before .before .before in
     let none : c .before .before .before .before .loop .remaining ≡ 0 = omega arith in
-    let f = c .before .before .before .before .loop .inv .0 in
-    (sym (located-some (q .args .wanted) (q .args .s .now) (c .before .before .before .before .loop .kept) (fold-end (picked (isOld (q .args .s .now)) (q .args .wanted)) f none) (c .if2 .left))
-    ∙ ask-whole _ _ (c .before .before .before .before .before .before .before .before .u32-at .ensures) f none (c .before .before .if1 .left), let i = c .before .before .before .before .loop .inv .1 in omega arith)
+    let f = c .before .before .before .before .loop .inv .0 in (
+      sym (located-some (q .args .wanted) (q .args .s .now) (c .before .before .before .before .loop .kept) (fold-end (picked (isOld (q .args .s .now)) (q .args .wanted)) f none) (c .if2 .left))
+          ∙ ask-whole _ _ (c .before .before .before .before .before .before .before .before .u32-at .ensures) f none (c .before .before .if1 .left),
+      let i = c .before .before .before .before .loop .inv .1 in omega arith,
+    )
 
 pub search-spec : {M : Type 1} → statement M
 search-spec =

@@ -1,87 +1,84 @@
+-- The four numbers, where the version has them.
+use Prim.Native.Nat.{_+_}
+use native.Mathlib.Omega.{arith}
+use Rattle.stackmap.specs.Section.{readLocation}
+use Rattle.stackmap.proofs.Items.{byte-word}
 use borrow.Author.Needs.{needs}
 use Rattle.questions.proofs.read.location_fields.Statement.{statement}
 use Rattle.questions.proofs.read.location_fields.Tie as tie
-use Rattle.questions.proofs.read.location_fields.Reads as reads
-use Rattle.questions.proofs.read.location_fields.Lts as lts
-use Rattle.wire.proofs.u16_at.Reads as u16-at-reads
-use Rattle.wire.proofs.u32_at.Reads as u32-at-reads
 
--- src/read.rt:72:19
 shared-slice-read-t6 : tie.Need-shared-slice-read-t6
-shared-slice-read-t6 c = ?
+shared-slice-read-t6 c = let q = c .before .before .before in let z = rw (c .before .if1 .taken) at (q .pre) in omega arith
 
--- src/read.rt:73:21
-add-t7 : tie.Need-add-t7
-add-t7 c = search needs
+add-wide : tie.Need-add-wide
+add-wide c = let q = c .before .before .before in let z = rw (c .before .if1 .taken) at (q .pre) in omega arith
 
--- src/read.rt:73:19
-shared-slice-read-t9 : tie.Need-shared-slice-read-t9
-shared-slice-read-t9 c = ?
+shared-slice-read-wide : tie.Need-shared-slice-read-wide
+shared-slice-read-wide c =
+    let q = c .before .before .before .before in let z = rw (c .before .before .if1 .taken) at (q .pre) in omega arith
 
--- src/read.rt:73:19
-cast-t10 : tie.Need-cast-t10
-cast-t10 c = ?
+wide-requires : tie.Need-wide-requires
+wide-requires c κs = search needs
 
--- src/read.rt:74:39
 add-u16-at : tie.Need-add-u16-at
-add-u16-at c = search needs
+add-u16-at c =
+    let q = c .before .before .before .before .before in let z = rw (c .before .before .before .if1 .taken) at (q .pre) in omega arith
 
--- src/read.rt:74:23
 u16-at-requires : tie.Need-u16-at-requires
-u16-at-requires c κs = ?
+u16-at-requires c κs =
+    let q = c .before .before .before .before .before in let z = rw (c .before .before .before .if1 .taken) at (q .pre) in omega arith
 
--- src/read.rt:75:37
 add-u32-at : tie.Need-add-u32-at
-add-u32-at c = search needs
+add-u32-at c =
+    let q = c .before .before .before .before .before .before in let z = rw (c .before .before .before .before .if1 .taken) at (q .pre) in omega arith
 
--- src/read.rt:75:21
 u32-at-requires : tie.Need-u32-at-requires
-u32-at-requires c κs = ?
+u32-at-requires c κs =
+    let q = c .before .before .before .before .before .before in let z = rw (c .before .before .before .before .if1 .taken) at (q .pre) in omega arith
 
--- src/read.rt:71:9
 returns : tie.Need-returns
-returns c = ?
+unfolding readLocation
+returns c =
+    let q = c .before .before .before .before .before .before .before .args in rw (c .before .before .before .before .before .if1 .taken, byte-word (q .s .now) (q .at), byte-word (q .s .now) (q .at + 1), c .u32-at .ensures, c .before .u16-at .ensures, c .before .before .wide .ensures)
 
--- src/read.rt:79:15
 shared-slice-read-t16 : tie.Need-shared-slice-read-t16
-shared-slice-read-t16 c = ?
+shared-slice-read-t16 c = let q = c .before .before .before in let z = rw (c .before .if1 .left) at (q .pre) in omega arith
 
--- src/read.rt:80:31
 add-u16-at-2 : tie.Need-add-u16-at-2
-add-u16-at-2 c = search needs
+add-u16-at-2 c = let q = c .before .before .before in let z = rw (c .before .if1 .left) at (q .pre) in omega arith
 
--- src/read.rt:80:15
 u16-at-requires-2 : tie.Need-u16-at-requires-2
-u16-at-requires-2 c κs = ?
+u16-at-requires-2 c κs = let q = c .before .before .before in let z = rw (c .before .if1 .left) at (q .pre) in omega arith
 
--- src/read.rt:81:35
 add-u16-at-3 : tie.Need-add-u16-at-3
-add-u16-at-3 c = search needs
+add-u16-at-3 c =
+    let q = c .before .before .before .before in let z = rw (c .before .before .if1 .left) at (q .pre) in omega arith
 
--- src/read.rt:81:19
 u16-at-requires-3 : tie.Need-u16-at-requires-3
-u16-at-requires-3 c κs = ?
+u16-at-requires-3 c κs =
+    let q = c .before .before .before .before in let z = rw (c .before .before .if1 .left) at (q .pre) in omega arith
 
--- src/read.rt:82:33
 add-u32-at-2 : tie.Need-add-u32-at-2
-add-u32-at-2 c = search needs
+add-u32-at-2 c =
+    let q = c .before .before .before .before .before in let z = rw (c .before .before .before .if1 .left) at (q .pre) in omega arith
 
--- src/read.rt:82:17
 u32-at-requires-2 : tie.Need-u32-at-requires-2
-u32-at-requires-2 c κs = ?
+u32-at-requires-2 c κs =
+    let q = c .before .before .before .before .before in let z = rw (c .before .before .before .if1 .left) at (q .pre) in omega arith
 
--- src/read.rt:66:1
 returns-2 : tie.Need-returns-2
-returns-2 c = ?
+unfolding readLocation
+returns-2 c =
+    rw (c .before .before .before .before .if1 .left, byte-word, c .u32-at2 .ensures, c .before .u16-at3 .ensures, c .before .before .u16-at2 .ensures)
 
 pub location-fields-spec : {M : Type 1} → statement M
 location-fields-spec =
     tie.close
     (tie.spec
     shared-slice-read-t6
-    add-t7
-    shared-slice-read-t9
-    cast-t10
+    add-wide
+    shared-slice-read-wide
+    wide-requires
     add-u16-at
     u16-at-requires
     add-u32-at
