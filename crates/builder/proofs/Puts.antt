@@ -1,6 +1,7 @@
 -- Fields put one after the other into an output.
 use Prim.Native.Nat.{ℕ, zero, suc, _+_, _*_, _%_, _-_, _≤_, _<_, _^_}
 use mathlib.Core.Path.{_≡_, refl, sym, _∙_}
+use mathlib.Core.Bool.{false}
 use mathlib.Core.List.{List, [], _∷_, _++_, append-assoc}
 use native.Mathlib.Omega.{arith}
 use native.Mathlib.Nat.{add-zero, add-assoc}
@@ -49,9 +50,9 @@ zeros-step (suc n) out p h = let b : suc n - 1 ≡ n = omega arith in rw (b, add
 module _ (l : List ℕ) (at : ℕ) (out : List ℕ) (to : ℕ) where
   pub function-put :
       sets (sets (sets out to (bytes 8 (word 8 l (at + 1)))) (to + 8) (bytes 8 (word 8 l (at + 9)))) (to + 16) (bytes 8 (word 8 l (at + 17)))
-      ≡ sets out to (bytesOf (functionFields (listedFunction l at)))
+      ≡ sets out to (bytesOf (functionFields false (listedFunction l at)))
   unfolding functionFields listedFunction
-  function-put = rw add-zero at (puts-all (functionFields (listedFunction l at)) out to)
+  function-put = rw add-zero at (puts-all (functionFields false (listedFunction l at)) out to)
 
   pub constant-put : sets out to (bytes 8 (word 8 l (at + 1))) ≡ sets out to (bytesOf (constantFields (listedConstant l at)))
   unfolding constantFields listedConstant
@@ -72,13 +73,13 @@ module _ (l : List ℕ) (at : ℕ) (out : List ℕ) (to : ℕ) where
     abbrev locationWords : List Field
     locationWords = (2 of getD l (at + 1) 0) ∷ (4 of word 4 l (at + 2)) ∷ (2 of 0) ∷ (4 of word 4 l (at + 6)) ∷ []
 
-    location-words : bytesOf locationWords ≡ bytesOf (locationFields (listedLocation l at))
+    location-words : bytesOf locationWords ≡ bytesOf (locationFields false (listedLocation l at))
     unfolding bytesOf locationFields listedLocation
     location-words = rw (byte-zero (at + 1), side-by-side 2 2 (at + 2) (at + 4) (omega arith), append-assoc (bytes 1 (word 1 l (at + 1))), append-assoc (bytes 2 (word 2 l (at + 2))))
 
     pub location-put :
         sets (sets (sets (sets out to (bytes 2 (getD l (at + 1) 0))) (to + 2) (bytes 4 (word 4 l (at + 2)))) (to + 6) (bytes 2 0)) (to + 8) (bytes 4 (word 4 l (at + 6)))
-        ≡ sets out to (bytesOf (locationFields (listedLocation l at)))
+        ≡ sets out to (bytesOf (locationFields false (listedLocation l at)))
     location-put = rw (← location-words) (rw add-zero at (puts-all locationWords out to))
 
     pub live-out-put :

@@ -1,6 +1,7 @@
 -- A record, put part by part.
 use Prim.Native.Nat.{ℕ, _+_, _*_, _%_}
 use mathlib.Core.Path.{_≡_, refl}
+use mathlib.Core.Bool.{false}
 use mathlib.Core.List.{List, [], _∷_, _++_, append-nil}
 use native.Mathlib.Omega.{arith}
 use lib.Seq.{sets}
@@ -29,7 +30,7 @@ module _ {l : List ℕ} {at n m stop : ℕ} (h : Shaped l at n m stop) where
   H = headFields l at n
 
   abbrev B : List Field
-  B = all locationFields (many listedLocation 10 n l (at + 13))
+  B = all (locationFields false) (many listedLocation 10 n l (at + 13))
 
   abbrev C : List Field
   C = ((n % 2 * 4 + 2) of 0) ∷ (2 of m) ∷ []
@@ -40,12 +41,12 @@ module _ {l : List ℕ} {at n m stop : ℕ} (h : Shaped l at n m stop) where
   abbrev E : List Field
   E = (((m + 1) % 2 * 4) of 0) ∷ []
 
-  fields-are : recordFields (listedRecord l at) ≡ H ++ B ++ C ++ D ++ E
+  fields-are : recordFields false (listedRecord l at) ≡ H ++ B ++ C ++ D ++ E
   unfolding recordFields listedRecord
   fields-are = rw (length-many listedLocation, length-many listedLiveOut, ← h .live-outs-are, ← h .locations-are)
 
   sizes : (size B ≡ 12 * n) × (size D ≡ 4 * m)
-  sizes = (size-many locationFields listedLocation 10 12 location-size n l (at + 13), size-many liveOutFields listedLiveOut 4 4 live-out-size m l (at + 13 + 10 * n))
+  sizes = (size-many (locationFields false) listedLocation 10 12 (location-size false) n l (at + 13), size-many liveOutFields listedLiveOut 4 4 live-out-size m l (at + 13 + 10 * n))
 
   module _ (out : List ℕ) (to : ℕ) where
     -- where the locations end, and where their padding does
@@ -57,7 +58,7 @@ module _ {l : List ℕ} {at n m stop : ℕ} (h : Shaped l at n m stop) where
 
     pub record-put :
         sets (sets (sets (sets (sets (sets out to (bytesOf H)) (to + 16) (bytesOf B)) pad (bytes (n % 2 * 4 + 2) 0)) (end + 2) (bytes 2 m)) (end + 4) (bytesOf D)) (end + 4 + 4 * m) (bytes ((m + 1) % 2 * 4) 0)
-        ≡ sets out to (bytesOf (recordFields (listedRecord l at)))
+        ≡ sets out to (bytesOf (recordFields false (listedRecord l at)))
     record-put =
         let s₁ : size H ≡ 16 = unfold size in refl in
         let s₂ : size (H ++ B) ≡ 16 + 12 * n = rw (size-append H B, s₁, sizes .0) in

@@ -2,7 +2,7 @@
 use Prim.Native.Nat.{ℕ, _+_, _*_, _-_, _≤_, _<_}
 use mathlib.Core.Path.{_≡_, refl, sym, _∙_, ap}
 use mathlib.Core.List.{List, [], _∷_, _++_}
-use mathlib.Core.Bool.{true}
+use mathlib.Core.Bool.{true, false}
 use native.Mathlib.Omega.{arith}
 use borrow.Author.Tests.{leb-true}
 use lib.ListN.{length}
@@ -29,9 +29,9 @@ use Rattle.parser.proofs.Plans.{reads}
 -- `left` records from `at` on are still to be put, to q
 pub record PuttingRecords (l : List ℕ) (from : ℕ) (out₀ : List ℕ) (to : ℕ) (out : List ℕ) (at q left : ℕ) : Type 0 where
   pub ready : Ready l at left
-  pub room : q + size (all recordFields (recordsFrom l at)) ≤ length out
+  pub room : q + size (all (recordFields false) (recordsFrom l at)) ≤ length out
   pub long : length out ≡ length out₀
-  pub same : sets out₀ to (bytesOf (all recordFields (recordsFrom l from))) ≡ sets out q (bytesOf (all recordFields (recordsFrom l at)))
+  pub same : sets out₀ to (bytesOf (all (recordFields false) (recordsFrom l from))) ≡ sets out q (bytesOf (all (recordFields false) (recordsFrom l at)))
 
 module _ {l : List ℕ} {at n : ℕ} (r : Ready l at n) (h : 0 < n) where
   pub ready-stands : stands recordKind recordItemSize l at ≡ true
@@ -55,7 +55,7 @@ module _ {l : List ℕ} {at n : ℕ} (r : Ready l at n) (h : 0 < n) where
         }
 
 module _ {l : List ℕ} {from : ℕ} {out₀ : List ℕ} {to : ℕ} where
-  pub records-start : {n : ℕ} → Ready l from n → to + size (all recordFields (recordsFrom l from)) ≤ length out₀ → PuttingRecords l from out₀ to out₀ from to n
+  pub records-start : {n : ℕ} → Ready l from n → to + size (all (recordFields false) (recordsFrom l from)) ≤ length out₀ → PuttingRecords l from out₀ to out₀ from to n
   records-start r h = record { ready = r; room = h; long = refl; same = refl }
 
   module _ {out : List ℕ} {at q left : ℕ} (w : PuttingRecords l from out₀ to out at q left) (h : 0 < left) {a b stop : ℕ} (s : Shaped l at a b stop) where
@@ -65,7 +65,7 @@ module _ {l : List ℕ} {from : ℕ} {out₀ : List ℕ} {to : ℕ} where
         let z = sized-here s (ready-stands (w .ready) h) in
         omega arith
 
-    pub records-on : (out′ : List ℕ) → out′ ≡ sets out q (bytesOf (recordFields (listedRecord l at)))
+    pub records-on : (out′ : List ℕ) → out′ ≡ sets out q (bytesOf (recordFields false (listedRecord l at)))
         → PuttingRecords l from out₀ to out′ stop (q + recordSize a b) (left - 1)
     records-on out′ e =
         let y = ready-stands (w .ready) h in
@@ -78,14 +78,14 @@ module _ {l : List ℕ} {from : ℕ} {out₀ : List ℕ} {to : ℕ} where
           room = omega arith;
           long = omega arith;
           same = w .same ∙ rw (records-here s y, e)
-              (unfold all in sym (then-put (recordFields (listedRecord l at)) (all recordFields (recordsFrom l stop)) out q (q + recordSize a b) (rw (shape-size s))));
+              (unfold all in sym (then-put (recordFields false (listedRecord l at)) (all (recordFields false) (recordsFrom l stop)) out q (q + recordSize a b) (rw (shape-size s))));
         }
 
   pub records-end : {out : List ℕ} {at q left : ℕ} → PuttingRecords l from out₀ to out at q left → left ≡ 0
-      → out ≡ sets out₀ to (bytesOf (all recordFields (recordsFrom l from)))
+      → out ≡ sets out₀ to (bytesOf (all (recordFields false) (recordsFrom l from)))
   records-end {out} {at} {q} w z = sym (w .same ∙ none (recordsFrom l at) (w .ready .counted ∙ z))
     where
-      none : (rs : List _) → length rs ≡ 0 → sets out q (bytesOf (all recordFields rs)) ≡ out
+      none : (rs : List _) → length rs ≡ 0 → sets out q (bytesOf (all (recordFields false) rs)) ≡ out
       none [] e = unfold all bytesOf in refl
       none (r ∷ rs) e = absurd (omega arith)
 
@@ -109,20 +109,20 @@ module _ {l : List ℕ} {f c n : ℕ} (t : Tabled l f c) (counted : length (reco
   H = headerFields f c n
 
   abbrev F : List Field
-  F = all functionFields (functionsOf l f)
+  F = all (functionFields false) (functionsOf l f)
 
   abbrev K : List Field
   K = all constantFields (many listedConstant 9 c l (25 * f))
 
   abbrev R : List Field
-  R = all recordFields (recordsFrom l (recordsAfter l f c))
+  R = all (recordFields false) (recordsFrom l (recordsAfter l f c))
 
   fields-are : sectionFields (readListing l) ≡ H ++ F ++ K ++ R
   unfolding sectionFields
   fields-are = rw (reads t, counted) (simp length-many)
 
   sizes : (size F ≡ 24 * f) × (size K ≡ 8 * c)
-  sizes = (size-many functionFields listedFunction 25 24 function-size f l 0, size-many constantFields listedConstant 9 8 constant-size c l (25 * f))
+  sizes = (size-many (functionFields false) listedFunction 25 24 (function-size false) f l 0, size-many constantFields listedConstant 9 8 constant-size c l (25 * f))
 
   pub section-put : (out : List ℕ)
       → sets (sets (sets (sets out 0 (bytesOf H)) 16 (bytesOf F)) (16 + 24 * f) (bytesOf K)) (16 + 24 * f + 8 * c) (bytesOf R)

@@ -1,8 +1,9 @@
 -- The parts of a section, by the places of the listing that they are written from.
 use Prim.Native.Nat.{ℕ, _+_}
+use mathlib.Core.Bool.{false}
 use mathlib.Core.List.{List, [], _∷_}
 use Rattle.wire.specs.Word.{word}
-use Rattle.stackmap.specs.Layout.{version, headerZeros, flagsSize}
+use Rattle.stackmap.specs.Layout.{versionNumber, headerZeros, flagsSize}
 use Rattle.stackmap.specs.Fields.{Field, _of_}
 
 -- ID, instruction offset, flags and the number of locations of the record item at `at`
@@ -12,4 +13,4 @@ headFields l at n = (8 of word 8 l (at + 1)) ∷ (4 of word 4 l (at + 9)) ∷ (f
 -- version, three zero bytes, and the numbers of functions, constants and records
 abbrev pub headerFields : ℕ → ℕ → ℕ → List Field
 headerFields functions constants records =
-    (1 of version) ∷ (headerZeros of 0) ∷ (4 of functions) ∷ (4 of constants) ∷ (4 of records) ∷ []
+    (1 of versionNumber false) ∷ (headerZeros of 0) ∷ (4 of functions) ∷ (4 of constants) ∷ (4 of records) ∷ []

@@ -1,6 +1,7 @@
 // Items of a listing, written as items of a section. Each function writes its item's bytes and nothing else, and
 // requires that they are inside: `to_section` has shown it before the first write.
 ghost use mathlib.Core.Path.{_≡_};
+ghost use mathlib.Core.Bool.{false};
 ghost use Prim.Native.Nat.{_+_, _≤_};
 ghost use lib.ListN.{length};
 ghost use lib.Seq.{sets};
@@ -29,8 +30,8 @@ pub fn zeros(out: &mut [u8], to: usize, n: usize)
 
 // The function item at `at`: address, stack size, record count.
 pub fn function(l: &[u8], at: usize, out: &mut [u8], to: usize)
-    requires { ⌜ (at + functionItemSize ≤ length (now l)) × (to + functionSize ≤ length (now out)) ⌝ }
-    ensures { λ _. ⌜ now (out .exit) ≡ sets (now (out .entry)) to (bytesOf (functionFields (listedFunction (now (l .entry)) at))) ⌝ }
+    requires { ⌜ (at + functionItemSize ≤ length (now l)) × (to + functionSize false ≤ length (now out)) ⌝ }
+    ensures { λ _. ⌜ now (out .exit) ≡ sets (now (out .entry)) to (bytesOf (functionFields false (listedFunction (now (l .entry)) at))) ⌝ }
 {
     let address = wire::u64_at(l, at + numbers::LISTED_ADDRESS_AT);
     let stack_size = wire::u64_at(l, at + numbers::LISTED_STACK_SIZE_AT);
@@ -50,16 +51,16 @@ pub fn constant(l: &[u8], at: usize, out: &mut [u8], to: usize)
 
 // The location item at `at`: kind and a zero, size and register, two zeros, offset.
 pub fn location(l: &[u8], at: usize, out: &mut [u8], to: usize)
-    requires { ⌜ (at + locationItemSize ≤ length (now l)) × (to + locationSize ≤ length (now out)) ⌝ }
-    ensures { λ _. ⌜ now (out .exit) ≡ sets (now (out .entry)) to (bytesOf (locationFields (listedLocation (now (l .entry)) at))) ⌝ }
+    requires { ⌜ (at + locationItemSize ≤ length (now l)) × (to + locationSize false ≤ length (now out)) ⌝ }
+    ensures { λ _. ⌜ now (out .exit) ≡ sets (now (out .entry)) to (bytesOf (locationFields false (listedLocation (now (l .entry)) at))) ⌝ }
 {
     let kind = l[at + numbers::LISTED_LOCATION_KIND_AT] as u16;
     let size_and_register = wire::u32_at(l, at + numbers::LISTED_LOCATION_SIZE_AT);
     let offset = wire::u32_at(l, at + numbers::LISTED_LOCATION_OFFSET_AT);
     wire::put_u16(out, to, kind);
-    wire::put_u32(out, to + layout::LOCATION_SIZE_AT, size_and_register);
-    wire::put_u16(out, to + layout::LOCATION_ZEROS_AT, 0);
-    wire::put_u32(out, to + layout::LOCATION_OFFSET_AT, offset);
+    wire::put_u32(out, to + numbers::LOCATION_SIZE_AT, size_and_register);
+    wire::put_u16(out, to + numbers::LOCATION_ZEROS_AT, 0);
+    wire::put_u32(out, to + numbers::LOCATION_OFFSET_AT, offset);
 }
 
 // The live-out item at `at`: register, a zero, size.

@@ -1,6 +1,7 @@
 // Runs of items, records and the whole section, written to the output. Each function writes its bytes and nothing else, and
 // requires that they are inside: `to_section` has shown it before the first write.
 ghost use mathlib.Core.Path.{_≡_};
+ghost use mathlib.Core.Bool.{false};
 ghost use Prim.Native.Nat.{_+_, _*_, _≤_};
 ghost use lib.ListN.{length};
 ghost use lib.Seq.{sets};
@@ -25,8 +26,8 @@ use parser::shape;
 
 // The `n` function items from `at`.
 pub fn functions(l: &[u8], at: usize, n: usize, out: &mut [u8], to: usize)
-    requires { ⌜ (at + functionItemSize * n ≤ length (now l)) × (to + functionSize * n ≤ length (now out)) ⌝ }
-    ensures { λ _. ⌜ now (out .exit) ≡ sets (now (out .entry)) to (bytesOf (all functionFields (many listedFunction functionItemSize n (now (l .entry)) at))) ⌝ }
+    requires { ⌜ (at + functionItemSize * n ≤ length (now l)) × (to + functionSize false * n ≤ length (now out)) ⌝ }
+    ensures { λ _. ⌜ now (out .exit) ≡ sets (now (out .entry)) to (bytesOf (all (functionFields false) (many listedFunction functionItemSize n (now (l .entry)) at))) ⌝ }
 {
     let mut p = at;
     let mut q = to;
@@ -57,8 +58,8 @@ pub fn constants(l: &[u8], at: usize, n: usize, out: &mut [u8], to: usize)
 
 // The `n` location items from `at`.
 fn locations(l: &[u8], at: usize, n: usize, out: &mut [u8], to: usize)
-    requires { ⌜ (at + locationItemSize * n ≤ length (now l)) × (to + locationSize * n ≤ length (now out)) ⌝ }
-    ensures { λ _. ⌜ now (out .exit) ≡ sets (now (out .entry)) to (bytesOf (all locationFields (many listedLocation locationItemSize n (now (l .entry)) at))) ⌝ }
+    requires { ⌜ (at + locationItemSize * n ≤ length (now l)) × (to + locationSize false * n ≤ length (now out)) ⌝ }
+    ensures { λ _. ⌜ now (out .exit) ≡ sets (now (out .entry)) to (bytesOf (all (locationFields false) (many listedLocation locationItemSize n (now (l .entry)) at))) ⌝ }
 {
     let mut p = at;
     let mut q = to;
@@ -66,7 +67,7 @@ fn locations(l: &[u8], at: usize, n: usize, out: &mut [u8], to: usize)
     while left > 0 {
         item::location(l, p, out, q);
         p += numbers::LOCATION_ITEM_SIZE;
-        q += layout::LOCATION_SIZE;
+        q += numbers::LOCATION_SIZE;
         left -= 1;
     }
 }
@@ -103,13 +104,13 @@ fn head(l: &[u8], at: usize, n: usize, out: &mut [u8], to: usize)
 // The record item at `at` with its locations and live-outs, and the paddings after both.
 fn whole_record(l: &[u8], at: usize, shape: shape::Shape, out: &mut [u8], to: usize)
     requires { ⌜ Shaped (now l) at (shape .locations) (shape .outs) (shape .stop) × (shape .locations ≤ itemsMost) × (shape .outs ≤ itemsMost) × (to + recordSize (shape .locations) (shape .outs) ≤ length (now out)) ⌝ }
-    ensures { λ _. ⌜ now (out .exit) ≡ sets (now (out .entry)) to (bytesOf (recordFields (listedRecord (now (l .entry)) at))) ⌝ }
+    ensures { λ _. ⌜ now (out .exit) ≡ sets (now (out .entry)) to (bytesOf (recordFields false (listedRecord (now (l .entry)) at))) ⌝ }
 {
     let n = shape.locations;
     let m = shape.outs;
     let first = at + numbers::RECORD_ITEM_SIZE;
     let next = first + numbers::LOCATION_ITEM_SIZE * n;
-    let pad = to + layout::RECORD_HEAD_SIZE + layout::LOCATION_SIZE * n;
+    let pad = to + layout::RECORD_HEAD_SIZE + numbers::LOCATION_SIZE * n;
     let end = pad + n % 2 * 4;
     let outs = end + layout::LIVE_OUTS_HEAD_SIZE;
     head(l, at, n, out, to);
@@ -122,8 +123,8 @@ fn whole_record(l: &[u8], at: usize, shape: shape::Shape, out: &mut [u8], to: us
 
 // The `n` records from the item at `from` on.
 fn records(l: &[u8], from: usize, n: usize, out: &mut [u8], to: usize)
-    requires { ⌜ Ready (now l) from n × (length (now l) ≤ listingMost) × (to + size (all recordFields (recordsFrom (now l) from)) ≤ length (now out)) ⌝ }
-    ensures { λ _. ⌜ now (out .exit) ≡ sets (now (out .entry)) to (bytesOf (all recordFields (recordsFrom (now (l .entry)) from))) ⌝ }
+    requires { ⌜ Ready (now l) from n × (length (now l) ≤ listingMost) × (to + size (all (recordFields false) (recordsFrom (now l) from)) ≤ length (now out)) ⌝ }
+    ensures { λ _. ⌜ now (out .exit) ≡ sets (now (out .entry)) to (bytesOf (all (recordFields false) (recordsFrom (now (l .entry)) from))) ⌝ }
 {
     let mut at = from;
     let mut q = to;

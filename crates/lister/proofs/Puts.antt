@@ -1,6 +1,7 @@
 -- Fields put one after the other into an output, and a loop that does so.
 use Prim.Native.Nat.{ℕ, zero, suc, _+_, _-_, _<_}
 use mathlib.Core.Path.{_≡_, refl, sym, _∙_, ap}
+use mathlib.Core.Bool.{Bool}
 use mathlib.Core.List.{List, [], _++_}
 use native.Mathlib.Omega.{arith}
 use lib.ListN.{length, drop}
@@ -61,13 +62,13 @@ module _ {A : Type 0} (item : A → List Field) (read : List ℕ → ℕ → A) 
   unfolding all many
   no-item n at h = rw h
 
-module _ (item : Record → List Field) (s : List ℕ) where
+module _ (old : Bool) (item : Record → List Field) (s : List ℕ) where
   pub first-record : (n at : ℕ) → 0 < n
-      → all item (readRecords n s at) ≡ item (readRecord (drop at s)) ++ all item (readRecords (n - 1) s (at + recordLength (drop at s)))
+      → all item (readRecords old n s at) ≡ item (readRecord old (drop at s)) ++ all item (readRecords old (n - 1) s (at + recordLength old (drop at s)))
   unfolding all readRecords
   first-record zero at h = absurd (omega arith)
   first-record (suc n) at h = let b : suc n - 1 ≡ n = omega arith in rw b
 
-  pub no-record : (n at : ℕ) → n ≡ 0 → all item (readRecords n s at) ≡ []
+  pub no-record : (n at : ℕ) → n ≡ 0 → all item (readRecords old n s at) ≡ []
   unfolding all readRecords
   no-record n at h = rw h

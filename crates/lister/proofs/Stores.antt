@@ -1,6 +1,7 @@
 -- The stores that write one item.
 use Prim.Native.Nat.{ℕ, _+_, _%_, _<_}
 use mathlib.Core.Path.{_≡_, refl}
+use mathlib.Core.Bool.{false}
 use mathlib.Core.List.{List, [], _∷_}
 use native.Mathlib.Omega.{arith}
 use native.Mathlib.Nat.{add-assoc}
@@ -26,7 +27,7 @@ module _ (out s : List ℕ) (to at : ℕ) where
   pub function-put :
       Put out
       (sets (sets (sets (set out to 1) (to + 1) (bytes 8 (word 8 s at))) (to + 9) (bytes 8 (word 8 s (at + 8)))) (to + 17) (bytes 8 (word 8 s (at + 16))))
-      to (to + 25) (functionItem (readFunction s at))
+      to (to + 25) (functionItem (readFunction false s at))
   unfolding functionItem readFunction bytesOf size
   function-put = record { ends = refl; output = simp (sets-append, length-bytes, byte-is 1 (omega arith), add-assoc) }
 
@@ -37,7 +38,7 @@ module _ (out s : List ℕ) (to at : ℕ) where
   pub location-put : getD s at 0 < 256 →
       Put out
       (sets (sets (sets (set (set out to 4) (to + 1) (getD s at 0)) (to + 2) (bytes 2 (word 2 s (at + 2)))) (to + 4) (bytes 2 (word 2 s (at + 4)))) (to + 6) (bytes 4 (word 4 s (at + 8))))
-      to (to + 10) (locationItem (readLocation s at))
+      to (to + 10) (locationItem (readLocation false s at))
   unfolding locationItem readLocation bytesOf size
   location-put h = record { ends = refl; output = simp (sets-append, length-bytes, byte-is 4 (omega arith), byte-read s at h, add-assoc) }
 
@@ -49,6 +50,6 @@ module _ (out s : List ℕ) (to at : ℕ) where
   live-out-put h = record { ends = refl; output = simp (sets-append, length-bytes, byte-is 5 (omega arith), byte-read s (at + 3) h, add-assoc) }
 
 pub record-put : (out s : List ℕ) (to : ℕ) →
-    Put out (sets (sets (set out to 3) (to + 1) (bytes 8 (word 8 s 0))) (to + 9) (bytes 4 (word 4 s 8))) to (to + 13) (recordItem (readRecord s))
+    Put out (sets (sets (set out to 3) (to + 1) (bytes 8 (word 8 s 0))) (to + 9) (bytes 4 (word 4 s 8))) to (to + 13) (recordItem (readRecord false s))
 unfolding recordItem readRecord bytesOf size
 record-put out s to = record { ends = refl; output = simp (sets-append, length-bytes, byte-is 3 (omega arith), add-assoc) }

@@ -1,4 +1,5 @@
 // One item of a listing, written from what stands in the section. Each function answers where the next item begins.
+ghost use mathlib.Core.Bool.{false};
 ghost use Prim.Native.Nat.{_+_, _≤_};
 ghost use lib.ListN.{length};
 ghost use Rattle.stackmap.specs.Layout.{functionSize, constantSize, recordHeadSize, locationSize, liveOutSize};
@@ -11,8 +12,8 @@ use stackmap::layout;
 
 // The function at `at`: address (8), stack size (8), record count (8).
 pub fn put_function(s: &[u8], at: usize, out: &mut [u8], to: usize) -> usize
-    requires { ⌜ (at + functionSize ≤ length (now s)) × (to + functionItemSize ≤ length (now out)) ⌝ }
-    ensures { λ r. ⌜ Put (now (out .entry)) (now (out .exit)) to r (functionItem (readFunction (now (s .entry)) at)) ⌝ }
+    requires { ⌜ (at + functionSize false ≤ length (now s)) × (to + functionItemSize ≤ length (now out)) ⌝ }
+    ensures { λ r. ⌜ Put (now (out .entry)) (now (out .exit)) to r (functionItem (readFunction false (now (s .entry)) at)) ⌝ }
 {
     out[to] = numbers::FUNCTION_KIND;
     wire::put_u64(out, to + 1, wire::u64_at(s, at));
@@ -34,7 +35,7 @@ pub fn put_constant(s: &[u8], at: usize, out: &mut [u8], to: usize) -> usize
 // The record at the start of `s`, without its locations and live-outs: ID (8), offset (4).
 pub fn put_record_item(s: &[u8], out: &mut [u8], to: usize) -> usize
     requires { ⌜ (recordHeadSize ≤ length (now s)) × (to + recordItemSize ≤ length (now out)) ⌝ }
-    ensures { λ r. ⌜ Put (now (out .entry)) (now (out .exit)) to r (recordItem (readRecord (now (s .entry)))) ⌝ }
+    ensures { λ r. ⌜ Put (now (out .entry)) (now (out .exit)) to r (recordItem (readRecord false (now (s .entry)))) ⌝ }
 {
     out[to] = numbers::RECORD_KIND;
     wire::put_u64(out, to + 1, wire::u64_at(s, 0));
@@ -44,21 +45,21 @@ pub fn put_record_item(s: &[u8], out: &mut [u8], to: usize) -> usize
 
 // The location at `at`: kind (1), size (2), register (2), offset (4).
 pub fn put_location(s: &[u8], at: usize, out: &mut [u8], to: usize) -> usize
-    requires { ⌜ (at + locationSize ≤ length (now s)) × (to + locationItemSize ≤ length (now out)) ⌝ }
-    ensures { λ r. ⌜ Put (now (out .entry)) (now (out .exit)) to r (locationItem (readLocation (now (s .entry)) at)) ⌝ }
+    requires { ⌜ (at + locationSize false ≤ length (now s)) × (to + locationItemSize ≤ length (now out)) ⌝ }
+    ensures { λ r. ⌜ Put (now (out .entry)) (now (out .exit)) to r (locationItem (readLocation false (now (s .entry)) at)) ⌝ }
 {
     out[to] = numbers::LOCATION_KIND;
     out[to + 1] = s[at];
-    wire::put_u16(out, to + 2, wire::u16_at(s, at + layout::LOCATION_SIZE_AT));
+    wire::put_u16(out, to + 2, wire::u16_at(s, at + numbers::LOCATION_SIZE_AT));
     wire::put_u16(
         out,
         to + 4,
-        wire::u16_at(s, at + layout::LOCATION_REGISTER_AT),
+        wire::u16_at(s, at + numbers::LOCATION_REGISTER_AT),
     );
     wire::put_u32(
         out,
         to + 6,
-        wire::u32_at(s, at + layout::LOCATION_OFFSET_AT),
+        wire::u32_at(s, at + numbers::LOCATION_OFFSET_AT),
     );
     to + numbers::LOCATION_ITEM_SIZE
 }

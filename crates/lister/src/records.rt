@@ -1,5 +1,6 @@
 // The records, each read from its own stretch of the section: how long they are in the listing, and their items.
 ghost use mathlib.Core.Path.{_≡_};
+ghost use mathlib.Core.Bool.{false};
 ghost use Prim.Native.Nat.{_+_, _≤_};
 ghost use lib.ListN.{length};
 ghost use Rattle.stackmap.specs.Fields.{size, all};
@@ -24,12 +25,12 @@ struct Shape {
 
 // The record at the start of `s`.
 fn record_shape(s: &[u8]) -> Shape
-    requires { ⌜ recordLength (now s) ≤ length (now s) ⌝ }
+    requires { ⌜ recordLength false (now s) ≤ length (now s) ⌝ }
     ensures { λ r. ⌜ Shaped (now (s .entry)) (r .locations) (r .outs) (r .begin) (r .length) ⌝ }
 {
     let locations = wire::u16_at(s, layout::NUM_LOCATIONS_AT) as usize;
     let end = layout::RECORD_HEAD_SIZE
-        + layout::LOCATION_SIZE * locations
+        + numbers::LOCATION_SIZE * locations
         + locations % 2 * PADDING_SIZE;
     let outs = wire::u16_at(s, end + layout::LIVE_OUTS_HEAD_ZEROS) as usize;
     let begin = end + layout::LIVE_OUTS_HEAD_SIZE;
@@ -43,8 +44,8 @@ fn record_shape(s: &[u8]) -> Shape
 
 // How long the items of the `count` records from `at` are.
 pub fn records_length(s: &[u8], at: usize, count: usize) -> usize
-    requires { ⌜ at + size (all recordFields (readRecords count (now s) at)) ≤ length (now s) ⌝ }
-    ensures { λ r. ⌜ r ≡ size (all recordItems (readRecords count (now (s .entry)) at)) ⌝ }
+    requires { ⌜ at + size (all (recordFields false) (readRecords false count (now s) at)) ≤ length (now s) ⌝ }
+    ensures { λ r. ⌜ r ≡ size (all recordItems (readRecords false count (now (s .entry)) at)) ⌝ }
 {
     let mut p = at;
     let mut left = count;
@@ -68,8 +69,8 @@ struct Passed {
 
 // The record at the start of `s`, with its locations and then its live-outs.
 fn put_record(s: &[u8], out: &mut [u8], to: usize) -> Passed
-    requires { ⌜ (recordLength (now s) ≤ length (now s)) × (to + size (recordItems (readRecord (now s))) ≤ length (now out)) ⌝ }
-    ensures { λ r. ⌜ (r .length ≡ recordLength (now (s .entry))) × Put (now (out .entry)) (now (out .exit)) to (r .next) (recordItems (readRecord (now (s .entry)))) ⌝ }
+    requires { ⌜ (recordLength false (now s) ≤ length (now s)) × (to + size (recordItems (readRecord false (now s))) ≤ length (now out)) ⌝ }
+    ensures { λ r. ⌜ (r .length ≡ recordLength false (now (s .entry))) × Put (now (out .entry)) (now (out .exit)) to (r .next) (recordItems (readRecord false (now (s .entry)))) ⌝ }
 {
     let shape = record_shape(s);
     let mut next = items::put_record_item(s, out, to);
@@ -83,8 +84,8 @@ fn put_record(s: &[u8], out: &mut [u8], to: usize) -> Passed
 
 // The `count` records from `at`.
 pub fn put_records(s: &[u8], at: usize, count: usize, out: &mut [u8], to: usize) -> usize
-    requires { ⌜ (at + size (all recordFields (readRecords count (now s) at)) ≤ length (now s)) × (to + size (all recordItems (readRecords count (now s) at)) ≤ length (now out)) ⌝ }
-    ensures { λ r. ⌜ Put (now (out .entry)) (now (out .exit)) to r (all recordItems (readRecords count (now (s .entry)) at)) ⌝ }
+    requires { ⌜ (at + size (all (recordFields false) (readRecords false count (now s) at)) ≤ length (now s)) × (to + size (all recordItems (readRecords false count (now s) at)) ≤ length (now out)) ⌝ }
+    ensures { λ r. ⌜ Put (now (out .entry)) (now (out .exit)) to r (all recordItems (readRecords false count (now (s .entry)) at)) ⌝ }
 {
     let mut p = at;
     let mut left = count;

@@ -1,4 +1,5 @@
 // Runs of items of one kind. Each function answers where the next item begins.
+ghost use mathlib.Core.Bool.{false};
 ghost use Prim.Native.Nat.{_+_, _*_, _≤_};
 ghost use lib.ListN.{length};
 ghost use Rattle.stackmap.specs.Fields.{all, many};
@@ -8,12 +9,13 @@ ghost use Rattle.listing.specs.Layout.{functionItemSize, constantItemSize, loca
 ghost use Rattle.listing.specs.Listing.{functionItem, constantItem, locationItem, liveOutItem};
 ghost use Rattle.lister.specs.Put.{Put};
 use crate::items;
+use listing::numbers;
 use stackmap::layout;
 
 // The `count` functions from `at`.
 pub fn put_functions(s: &[u8], at: usize, count: usize, out: &mut [u8], to: usize) -> usize
-    requires { ⌜ (at + functionSize * count ≤ length (now s)) × (to + functionItemSize * count ≤ length (now out)) ⌝ }
-    ensures { λ r. ⌜ Put (now (out .entry)) (now (out .exit)) to r (all functionItem (many readFunction functionSize count (now (s .entry)) at)) ⌝ }
+    requires { ⌜ (at + functionSize false * count ≤ length (now s)) × (to + functionItemSize * count ≤ length (now out)) ⌝ }
+    ensures { λ r. ⌜ Put (now (out .entry)) (now (out .exit)) to r (all functionItem (many (readFunction false) (functionSize false) count (now (s .entry)) at)) ⌝ }
 {
     let mut p = at;
     let mut functions = count;
@@ -44,15 +46,15 @@ pub fn put_constants(s: &[u8], at: usize, count: usize, out: &mut [u8], to: usiz
 
 // The `count` locations from `at`.
 pub fn put_locations(s: &[u8], at: usize, count: usize, out: &mut [u8], to: usize) -> usize
-    requires { ⌜ (at + locationSize * count ≤ length (now s)) × (to + locationItemSize * count ≤ length (now out)) ⌝ }
-    ensures { λ r. ⌜ Put (now (out .entry)) (now (out .exit)) to r (all locationItem (many readLocation locationSize count (now (s .entry)) at)) ⌝ }
+    requires { ⌜ (at + locationSize false * count ≤ length (now s)) × (to + locationItemSize * count ≤ length (now out)) ⌝ }
+    ensures { λ r. ⌜ Put (now (out .entry)) (now (out .exit)) to r (all locationItem (many (readLocation false) (locationSize false) count (now (s .entry)) at)) ⌝ }
 {
     let mut p = at;
     let mut locations = count;
     let mut t = to;
     while locations > 0 {
         t = items::put_location(s, p, out, t);
-        p += layout::LOCATION_SIZE;
+        p += numbers::LOCATION_SIZE;
         locations -= 1;
     }
     t

@@ -176,9 +176,9 @@ module _ (t : Section) where
         }
 
     -- the listing of a section is read as the section
-    pub listing-back : readListing (encodeListing t) ≡ t
+    pub listing-back : t .old ≡ false → readListing (encodeListing t) ≡ t
     unfolding readListing
-    listing-back =
+    listing-back new =
         let w = listed in
         rw (
           w .functions-num,
@@ -187,15 +187,21 @@ module _ (t : Section) where
           many-back functionItem listedFunction 25 function-item-size l (function-back l) (t .functions) 0 (w .functions-in),
           many-back constantItem listedConstant 9 constant-item-size l (constant-back l) (t .constants) _ (w .constants-in),
         )
+        (ap (λ (old : Bool). record { old = old; functions = t .functions; constants = t .constants; records = t .records }) (sym new))
 
     -- and accepted
-    pub listing-check : AllSmall (t .records) → length (encodeListing t) ≤ 33554432 → listingCheck (encodeListing t) ≡ Valid (length (encodeListing t))
+    pub listing-check : t .old ≡ false → AllSmall (t .records) → length (encodeListing t) ≤ 33554432 → listingCheck (encodeListing t) ≡ Valid (length (encodeListing t))
     unfolding listingCheck itemsStop must chain
-    listing-check s b =
+    listing-check new s b =
         let w = listed in
         let n = listing-length in
         let y = yes-item 6 1 l (25 * nf + 9 * nc + size R) (omega arith) (kind-byte l _ 6 (w .end-in .0)) in
-        rw (le-leb _ _ b, w .functions-num, w .constants-num, w .stop-is, y, eq-eqb _ _ (sym n), listing-back, small-whole (t .records) (25 * nf + 9 * nc) s)
+        rw (le-leb _ _ b, w .functions-num, w .constants-num, w .stop-is, y, eq-eqb _ _ (sym n), listing-back new, small-whole (t .records) (25 * nf + 9 * nc) s)
+
+-- what is read from a listing is of version 3
+pub read-new : (l : List ℕ) → readListing l .old ≡ false
+unfolding readListing
+read-new l = refl
 
 -- an accepted listing
 
@@ -302,4 +308,4 @@ module _ (l : List ℕ) where
           let e = accepted-listing in
           let u = kept .under in
           let g : length (encodeListing t) ≡ length l = ap length e in
-          listing-to-section t f (kept .small) (omega arith) (omega arith) (omega arith)
+          listing-to-section t (read-new l) f (kept .small) (omega arith) (omega arith) (omega arith)

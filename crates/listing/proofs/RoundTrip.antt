@@ -1,8 +1,8 @@
 -- The round trips.
 use Prim.Native.Nat.{ℕ, _≤_}
-use mathlib.Core.Path.{_≡_, refl, ap}
+use mathlib.Core.Path.{_≡_, refl, sym, _∙_, ap}
 use mathlib.Core.List.{List}
-use mathlib.Core.Bool.{Bool, true, false}
+use mathlib.Core.Bool.{Bool, true, false, true≢false}
 use native.Mathlib.Omega.{arith}
 use lib.ListN.{length, drop}
 use lib.Seq.{take-append-seam}
@@ -14,17 +14,17 @@ use Rattle.stackmap.specs.Check.{sectionCheck}
 use Rattle.stackmap.specs.Fault.{sectionFault}
 use Rattle.stackmap.specs.Section.{Section, encodeSection, readSection}
 use Rattle.stackmap.specs.Verdict.{chain}
-use Rattle.stackmap.proofs.Back.{check-back, encoded-length, read-back, section-size}
+use Rattle.stackmap.proofs.Back.{check-back, encoded-length, read-back}
 use Rattle.stackmap.proofs.Forth.{accepted-bytes, accepted-encodable, accepted-length}
 use Rattle.stackmap.proofs.Verdicts.{chain-first, chain-rest}
 use Rattle.stackmap.proofs.WellFormed.{bytes-of}
 use Rattle.listing.specs.Listing.{listingFields, encodeListing, listingCheck, readListing, give, toListing, toSection}
 use Rattle.listing.specs.RoundTrip.{result, gives, RoundTrips, OutputKept, ListingOneToOne}
 use Rattle.listing.proofs.Fits.{section-to-listing}
-use Rattle.listing.proofs.Listing.{listing-length, listing-back, listing-check, accepted-listing, listing-encodable}
+use Rattle.listing.proofs.Listing.{listing-length, listing-back, listing-check, read-new, accepted-listing, listing-encodable}
 use Rattle.stackmap.proofs.Numbers.{Numbered, n-more, n-chain, section-numbered}
 use Rattle.listing.proofs.Refusals.{listing-numbered}
-use Rattle.listing.proofs.Short.{records-short}
+use Rattle.listing.proofs.Short.{section-new, new-size, records-short}
 
 -- where nothing is refused, all is whole, and the result is written
 record Gave (c : Verdict) (r out : List ℕ) : Type 0 where
@@ -49,15 +49,16 @@ section-first s out out′ w h =
     let k = g .whole in
     let fit = accepted-encodable s _ k w in
     let b = accepted-bytes s _ k w in
-    let f = section-to-listing t fit in
+    let new = section-new s _ k in
+    let f = section-to-listing t new fit in
     let l : length (encodeListing t) ≤ 33554432 =
     let z₁ = listing-length t in
-    let z₂ = section-size t in
+    let z₂ = new-size t new in
     let z₃ = encoded-length t in
     let z₄ = accepted-length s _ k in
     let z₅ : length (encodeSection t) ≡ length s = ap length b in
     omega (arith, records-short (t .records)) in
-    rw (g .wrote, listing-check t (f .0) (f .1) l, listing-back t (f .0), b, k)
+    rw (g .wrote, listing-check t (f .0) new (f .1) l, listing-back t (f .0) new, b, k)
 
 listing-first : (l out out′ : List ℕ) → Bytes l → toSection l out .number ≡ 0 → toListing (result (toSection l out)) out′ ≡ gives l out′
 unfolding toListing toSection
@@ -66,7 +67,7 @@ listing-first l out out′ w h =
     let g = gave (chain (listingCheck l) (sectionCheck (encodeSection t))) (encodeSection t) out (n-chain _ _ (listing-numbered l) (n-more (omega arith) (section-numbered (encodeSection t)))) h in
     let k = chain-first _ _ _ (g .whole) .1 in
     let j = chain-rest _ _ _ (g .whole) in
-    rw (g .wrote, j, read-back t (listing-encodable l _ k w), accepted-listing l _ k w)
+    rw (g .wrote, j, read-back t (listing-encodable l _ k w) (λ e. absurd (true≢false (sym e ∙ read-new l))), accepted-listing l _ k w)
 
 pub round-trips : RoundTrips
 round-trips = (section-first, listing-first)
@@ -101,9 +102,10 @@ listing-bytes t = bytes-of (listingFields t)
 pub listing-one-to-one : ListingOneToOne
 listing-one-to-one =
     record {
+      read-new = read-new;
       read-fits = λ l w k. listing-encodable l (length l) k w;
       encode-read = λ l w k. accepted-listing l (length l) k w;
       encode-bytes = listing-bytes;
-      encode-accepted = λ t f n. let g = section-to-listing t f in listing-check t (g .0) (g .1) n;
-      read-encode = λ t f. listing-back t (section-to-listing t f .0);
+      encode-accepted = λ t v f n. let g = section-to-listing t v f in listing-check t (g .0) v (g .1) n;
+      read-encode = λ t v f. listing-back t (section-to-listing t v f .0) v;
     }

@@ -115,9 +115,11 @@ module _ (l : List ℕ) where
   abbrev pub recordsBegin : ℕ
   recordsBegin = functionItemSize * functionsListed + constantItemSize * constantsListed
 
+  -- a section of version 3
   unfoldable pub readListing : Section
   readListing =
       record {
+        old = false;
         functions = many listedFunction functionItemSize functionsListed l 0;
         constants = many listedConstant constantItemSize constantsListed l (functionItemSize * functionsListed);
         records = listedRecords (length l) recordsBegin;

@@ -14,6 +14,7 @@ use Rattle.stackmap.specs.declared.Verdict.the-variants.{Valid, Refused}
 use Rattle.stackmap.specs.Verdict.{must, chain, pick, shift}
 use Rattle.stackmap.specs.Fields.{many, size}
 use Rattle.stackmap.specs.Section.{Location, recordFields, Entry, address}
+use Rattle.stackmap.specs.Record.{poolCheck}
 use Rattle.stackmap.specs.Fault.{locationFault, locationsFault, entryFault}
 use Rattle.stackmap.proofs.Steps.{many-step}
 use Rattle.stackmap.proofs.Items.{byte-word}
@@ -43,49 +44,49 @@ shift-end : (p at : ℕ) → shift p (Valid (at + 12)) ≡ Valid (p + at + 12)
 unfolding shift
 shift-end p at = ap Valid (omega arith)
 
-shift-location : (p c : ℕ) (x : Location) (at : ℕ) → shift p (locationFault c x at) ≡ locationFault c x (p + at)
-unfolding locationFault
+shift-location : (p c : ℕ) (x : Location) (at : ℕ) → shift p (locationFault false c x at) ≡ locationFault false c x (p + at)
+unfolding locationFault poolCheck
 shift-location p c x at = simp (shift-must, shift-pick, shift-end)
 
-pub shift-locations : (p c : ℕ) (xs : List Location) (at : ℕ) → shift p (locationsFault c xs at) ≡ locationsFault c xs (p + at)
+pub shift-locations : (p c : ℕ) (xs : List Location) (at : ℕ) → shift p (locationsFault false c xs at) ≡ locationsFault false c xs (p + at)
 unfolding locationsFault
 shift-locations p c [] at = unfold shift in refl
 shift-locations p c (x ∷ xs) at = rw (shift-chain, shift-location, shift-locations p c xs (at + 12), add-assoc)
 
 -- a record's refusal, with places of the section
 pub entry-placed : (p c : ℕ) (e : Entry)
-    → shift p (entryFault c e) ≡ must (leb (address e) (2 ^ 64 - 1)) 8 p (chain (locationsFault c (e .body .locations) (p + 16)) (Valid (p + size (recordFields (e .body)))))
+    → shift p (entryFault false c e) ≡ must (leb (address e) (2 ^ 64 - 1)) 8 p (chain (locationsFault false c (e .body .locations) (p + 16)) (Valid (p + size (recordFields false (e .body)))))
 unfolding entryFault
 entry-placed p c e = rw (shift-must, add-zero, shift-chain, shift-locations) (unfold shift in refl)
 
 -- one location after the other
 pub locations-step : (c n : ℕ) (l : List ℕ) (at p : ℕ) → 0 < n
-    → locationsFault c (many listedLocation 10 n l at) p
-    ≡ chain (locationFault c (listedLocation l at) p) (locationsFault c (many listedLocation 10 (n - 1) l (at + 10)) (p + 12))
+    → locationsFault false c (many listedLocation 10 n l at) p
+    ≡ chain (locationFault false c (listedLocation l at) p) (locationsFault false c (many listedLocation 10 (n - 1) l (at + 10)) (p + 12))
 unfolding locationsFault
 locations-step c n l at p h = rw (many-step listedLocation 10 n l at h)
 
 -- a location's refusal, by the bytes of its item
 pub location-listed : (c : ℕ) (l : List ℕ) (at p : ℕ)
-    → locationFault c (listedLocation l at) p
+    → locationFault false c (listedLocation l at) p
     ≡ must (leb 1 (getD l (at + 1) 0)) 6 p
     (must (leb (getD l (at + 1) 0) 5) 6 p
     (pick (eqb (getD l (at + 1) 0) 5)
     (must (ltb (word 4 l (at + 6)) (2 ^ 31)) 7 p (must (ltb (word 4 l (at + 6)) c) 7 p (Valid (p + 12))))
     (Valid (p + 12))))
-unfolding locationFault listedLocation
+unfolding locationFault poolCheck listedLocation
 location-listed c l at p = rw byte-word
 
 -- a record's refusal, by the bytes of its items and of its function's
 pub entry-listed : {l : List ℕ} {at n m stop : ℕ} (i p c : ℕ) → Shaped l at n m stop
-    → shift p (entryFault c (entryAt l i at p))
+    → shift p (entryFault false c (entryAt l i at p))
     ≡ must (leb (word 8 l (25 * i + 1) + word 4 l (at + 9)) (2 ^ 64 - 1)) 8 p
-    (chain (locationsFault c (many listedLocation 10 n l (at + 13)) (p + 16)) (Valid (p + recordSize n m)))
+    (chain (locationsFault false c (many listedLocation 10 n l (at + 13)) (p + 16)) (Valid (p + recordSize n m)))
 unfolding address ownerAt listedFunction listedRecord
 entry-listed {l} {at} i p c h = rw (entry-placed p c (entryAt l i at p), shape-size h, h .locations-are)
 
 -- its address fits
 pub entry-fits : {l : List ℕ} {at n m stop : ℕ} (i p c : ℕ) → Shaped l at n m stop → word 8 l (25 * i + 1) + word 4 l (at + 9) ≤ 2 ^ 64 - 1
-    → shift p (entryFault c (entryAt l i at p)) ≡ chain (locationsFault c (many listedLocation 10 n l (at + 13)) (p + 16)) (Valid (p + recordSize n m))
+    → shift p (entryFault false c (entryAt l i at p)) ≡ chain (locationsFault false c (many listedLocation 10 n l (at + 13)) (p + 16)) (Valid (p + recordSize n m))
 unfolding must
 entry-fits i p c h f = rw (entry-listed i p c h, le-leb _ _ f)

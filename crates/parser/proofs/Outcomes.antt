@@ -60,7 +60,7 @@ module _ {l : List ℕ} {f c : ℕ} (t : Tabled l f c) (short : length l ≤ lis
           let n = p .few in
           let m = p .short in
           let k : length (recordsFrom l stop) ≡ 0 = rw none-left in
-          let j : size (all recordFields (recordsFrom l stop)) ≡ 0 = rw none-left (unfold all size in refl) in
+          let j : size (all (recordFields false) (recordsFrom l stop)) ≡ 0 = rw none-left (unfold all size in refl) in
           let x = p .counted in
           let y = p .sized in
           record { tables = t; counted = omega arith; sized = omega arith; few = omega arith; short = omega arith }
@@ -72,7 +72,7 @@ module _ {l : List ℕ} {f c : ℕ} (t : Tabled l f c) (short : length l ≤ lis
 -- a section without refusal ends where its bytes do
 section-end : (t : Section) (n : ℕ) → sectionFault t ≡ Valid n → n ≡ size (sectionFields t)
 unfolding sectionFault
-section-end t n h = entries-valid _ _ _ n (must-rest _ _ _ _ _ (must-rest _ _ _ _ _ h))
+section-end t n h = entries-valid _ _ _ _ n (must-rest _ _ _ _ _ (must-rest _ _ _ _ _ (must-rest _ _ _ _ _ h)))
 
 pub buildable : {l : List ℕ} {f c r b n : ℕ} → refusal l ≡ sectionFault (readListing l) → Planned l f c r b → Ready l (recordsAfter l f c) r → length l ≤ listingMost
     → sectionFault (readListing l) ≡ Valid n → Buildable l f c r b n

@@ -2,14 +2,15 @@
 use Prim.Native.Nat.{ℕ, _+_, _*_, _≤_}
 use mathlib.Core.Path.{_≡_, ap}
 use mathlib.Core.List.{List}
-use mathlib.Core.Bool.{true}
+use mathlib.Core.Bool.{true, false}
 use native.Mathlib.Omega.{arith}
 use borrow.Author.Tests.{eqb-true}
 use lib.Dec.{leb, eqb}
 use Rattle.stackmap.specs.Layout.{sectionMost, numRecordsAt}
 use Rattle.stackmap.specs.Verdict.{must}
 use Rattle.stackmap.specs.Fields.{size, many}
-use Rattle.stackmap.specs.Section.{Section, sectionFields, counted, entriesOf}
+use Rattle.stackmap.specs.Section.{Section, sectionFields, recordOwners, counted, entriesOf}
+use Rattle.stackmap.specs.Check.{countsRight}
 use Rattle.stackmap.specs.Fault.{sectionFault}
 use Rattle.stackmap.proofs.Fields.{length-many}
 use Rattle.stackmap.proofs.Back.{section-size}
@@ -27,6 +28,7 @@ module _ {l : List ℕ} {functions constants : ℕ} (t : Tabled l functions cons
   abbrev pub listed : Section
   listed =
       record {
+        old = false;
         functions = functionsOf l functions;
         constants = many listedConstant 9 constants l (25 * functions);
         records = recordsFrom l (recordsAfter l functions constants);
@@ -65,5 +67,5 @@ module _ {l : List ℕ} {functions constants records bytes : ℕ} (p : Planned l
       ≡ must (leb end sectionMost) 1 0
       (must (eqb (counted (functionsOf l functions)) records) 5 numRecordsAt
       (whole l functions constants (recordsAfter l functions constants) place end))
-  unfolding sectionFault entriesOf
+  unfolding sectionFault must countsRight entriesOf recordOwners
   planned-fault = rw (planned-size, reads (p .tables), p .counted) (simp length-many)

@@ -2,7 +2,7 @@
 use Prim.Native.Nat.{ℕ, _+_, _≤_, _<_}
 use mathlib.Core.Path.{_≡_, refl, _∙_, ap}
 use mathlib.Core.List.{List, _∷_}
-use mathlib.Core.Bool.{true, _&&_, and-false}
+use mathlib.Core.Bool.{true, false, _&&_, and-false}
 use native.Mathlib.Omega.{arith}
 use borrow.Author.Tests.{le-leb, lt-leb}
 use lib.ListN.{length}
@@ -30,8 +30,8 @@ module _ {l : List ℕ} {at n m stop : ℕ} (h : Shaped l at n m stop) where
   unfolding recordStop
   shape-stop = rw (h .stops, ← h .live-outs-are, ← h .locations-are)
 
-  pub shape-size : size (recordFields (listedRecord l at)) ≡ recordSize n m
-  shape-size = rw (record-size (listedRecord l at), shape-lengths .0, shape-lengths .1)
+  pub shape-size : size (recordFields false (listedRecord l at)) ≡ recordSize n m
+  shape-size = rw (record-size false (listedRecord l at), shape-lengths .0, shape-lengths .1)
 
   shape-items : at + size (recordItems (listedRecord l at)) ≡ stop
   shape-items =
@@ -50,7 +50,7 @@ module _ {l : List ℕ} {at n m stop : ℕ} (h : Shaped l at n m stop) where
     unfolding notTooMany
     check-here = rw (records-here, shape-lengths .0, shape-lengths .1, shape-items)
 
-    pub sized-here : size (all recordFields (recordsFrom l at)) ≡ recordSize n m + size (all recordFields (recordsFrom l stop))
+    pub sized-here : size (all (recordFields false) (recordsFrom l at)) ≡ recordSize n m + size (all (recordFields false) (recordsFrom l stop))
     unfolding all
     sized-here = rw (records-here, size-append, shape-size)
 

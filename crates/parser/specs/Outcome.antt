@@ -1,6 +1,7 @@
 -- What a listing comes to, for each case of an outcome.
 use Prim.Native.Nat.{ℕ, _+_, _*_, _≤_}
 use mathlib.Core.Path.{_≡_}
+use mathlib.Core.Bool.{false}
 use mathlib.Core.List.{List}
 use lib.ListN.{length}
 use Rattle.stackmap.specs.declared.Verdict.{Verdict}
@@ -16,7 +17,7 @@ use Rattle.parser.specs.Survey.{recordsFrom, recordsAfter, Planned}
 
 -- where a section ends that has so many functions and constants, and so many bytes of records
 abbrev pub sectionEnd : ℕ → ℕ → ℕ → ℕ
-sectionEnd functions constants bytes = headerSize + functionSize * functions + constantSize * constants + bytes
+sectionEnd functions constants bytes = headerSize + functionSize false * functions + constantSize * constants + bytes
 
 -- n records stand from `from` on, none with too many locations or live-outs
 pub record Ready (l : List ℕ) (from n : ℕ) : Type 0 where

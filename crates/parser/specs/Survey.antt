@@ -14,7 +14,7 @@ use Rattle.parser.specs.Count.{Tabled}
 
 -- the bytes of a record with n locations and m live-outs
 abbrev pub recordSize : ℕ → ℕ → ℕ
-recordSize n m = recordHeadSize + locationSize * n + locationsPadding n + liveOutsHeadSize + liveOutSize * m + liveOutsPadding m
+recordSize n m = recordHeadSize + locationSize false * n + locationsPadding false n + liveOutsHeadSize + liveOutSize * m + liveOutsPadding m
 
 module _ (l : List ℕ) where
   -- the records from the item at `at` on, and where they stop
@@ -32,7 +32,7 @@ module _ (l : List ℕ) where
     pub stops : stopFrom from ≡ stopFrom at
     pub checks : notTooMany (recordsFrom from) from ≡ notTooMany (recordsFrom at) at
     pub counted : length (recordsFrom from) ≡ records + length (recordsFrom at)
-    pub sized : size (all recordFields (recordsFrom from)) ≡ bytes + size (all recordFields (recordsFrom at))
+    pub sized : size (all (recordFields false) (recordsFrom from)) ≡ bytes + size (all (recordFields false) (recordsFrom at))
 
   -- what ends the pass: a record with too many items stands here, or none at all
   abbrev pub Ends : ℕ → Bool → Type 0
@@ -48,6 +48,6 @@ module _ (l : List ℕ) where
   pub record Planned (functions constants records bytes : ℕ) : Type 0 where
     pub tables : Tabled l functions constants
     pub counted : length (recordsFrom (recordsAfter functions constants)) ≡ records
-    pub sized : size (all recordFields (recordsFrom (recordsAfter functions constants))) ≡ bytes
+    pub sized : size (all (recordFields false) (recordsFrom (recordsAfter functions constants))) ≡ bytes
     pub few : records ≤ length l
     pub short : bytes ≤ 3 * length l

@@ -1,6 +1,7 @@
 -- Where a walk over the records of a listing stands among its functions, and what it relies on.
 use Prim.Native.Nat.{ℕ, _+_, _*_, _-_, _≤_, _<_}
 use mathlib.Core.Path.{_≡_}
+use mathlib.Core.Bool.{false}
 use mathlib.Core.List.{List, _++_}
 use lib.ListN.{length, replicate}
 use Rattle.stackmap.specs.Layout.{sectionMost}
@@ -36,7 +37,7 @@ module _ (l : List ℕ) where
     pub inside : from ≤ length l
     pub adds-up : counted (functionsOf n) ≡ records
     pub listed : length (recordsFrom l from) ≡ records
-    pub ends : place + size (all recordFields (recordsFrom l from)) ≡ end
+    pub ends : place + size (all (recordFields false) (recordsFrom l from)) ≡ end
     pub small : end ≤ sectionMost
 
 -- `left` records of the function before `next` are ahead, so there is such a function where any is left

@@ -1,5 +1,6 @@
 // The refusals that the built section would get, said of the listing's items: 6, 7 and 8. A place is one of the section.
 ghost use mathlib.Core.Path.{_≡_};
+ghost use mathlib.Core.Bool.{false};
 ghost use Prim.Native.Nat.{_+_, _*_, _≤_};
 ghost use lib.ListN.{length};
 ghost use Rattle.stackmap.specs.Layout.{locationSize, sectionMost};
@@ -18,8 +19,8 @@ use stackmap::layout;
 
 // The location item at `at`, in a listing of `constants` constants; it is to stand at `place`.
 fn location(l: &[u8], at: usize, place: usize, constants: usize) -> Verdict
-    requires { ⌜ (at + locationItemSize ≤ length (now l)) × (place + locationSize ≤ sectionMost) ⌝ }
-    ensures { λ r. ⌜ r ≡ locationFault constants (listedLocation (now (l .entry)) at) place ⌝ }
+    requires { ⌜ (at + locationItemSize ≤ length (now l)) × (place + locationSize false ≤ sectionMost) ⌝ }
+    ensures { λ r. ⌜ r ≡ locationFault false constants (listedLocation (now (l .entry)) at) place ⌝ }
 {
     let kind = l[at + numbers::LISTED_LOCATION_KIND_AT];
     if kind < layout::KIND_LEAST {
@@ -29,7 +30,7 @@ fn location(l: &[u8], at: usize, place: usize, constants: usize) -> Verdict
         return Verdict::Refused(6, place);
     }
     if kind != layout::KIND_CONST_INDEX {
-        return Verdict::Valid(place + layout::LOCATION_SIZE);
+        return Verdict::Valid(place + numbers::LOCATION_SIZE);
     }
     let index = wire::u32_at(l, at + numbers::LISTED_LOCATION_OFFSET_AT);
     if index >= layout::NEGATIVE_FROM {
@@ -38,13 +39,13 @@ fn location(l: &[u8], at: usize, place: usize, constants: usize) -> Verdict
     if index as usize >= constants {
         return Verdict::Refused(7, place);
     }
-    Verdict::Valid(place + layout::LOCATION_SIZE)
+    Verdict::Valid(place + numbers::LOCATION_SIZE)
 }
 
 // The `n` location items from `at`; the first is to stand at `place`.
 fn locations(l: &[u8], at: usize, n: usize, place: usize, constants: usize) -> Verdict
-    requires { ⌜ (at + locationItemSize * n ≤ length (now l)) × (place + locationSize * n ≤ sectionMost) ⌝ }
-    ensures { λ r. ⌜ r ≡ locationsFault constants (many listedLocation locationItemSize n (now (l .entry)) at) place ⌝ }
+    requires { ⌜ (at + locationItemSize * n ≤ length (now l)) × (place + locationSize false * n ≤ sectionMost) ⌝ }
+    ensures { λ r. ⌜ r ≡ locationsFault false constants (many listedLocation locationItemSize n (now (l .entry)) at) place ⌝ }
 {
     let mut p = at;
     let mut q = place;
@@ -54,7 +55,7 @@ fn locations(l: &[u8], at: usize, n: usize, place: usize, constants: usize) -> V
             return Verdict::Refused(number, refused);
         }
         p += numbers::LOCATION_ITEM_SIZE;
-        q += layout::LOCATION_SIZE;
+        q += numbers::LOCATION_SIZE;
         left -= 1;
     }
     Verdict::Valid(q)
@@ -70,7 +71,7 @@ pub fn entry(
     constants: usize,
 ) -> Verdict
     requires { ⌜ Shaped (now l) at (shape .locations) (shape .outs) (shape .stop) × (functionItemSize * function + functionItemSize ≤ length (now l)) × (length (now l) ≤ listingMost) × (place + recordSize (shape .locations) (shape .outs) ≤ sectionMost) ⌝ }
-    ensures { λ r. ⌜ r ≡ shift place (entryFault constants (entryAt (now (l .entry)) function at place)) ⌝ }
+    ensures { λ r. ⌜ r ≡ shift place (entryFault false constants (entryAt (now (l .entry)) function at place)) ⌝ }
 {
     let address = wire::u64_at(
         l,

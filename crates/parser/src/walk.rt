@@ -1,5 +1,6 @@
 // The refusals that the built section would get, over the whole listing: 1, 5, and those of each record.
 ghost use mathlib.Core.Path.{_≡_};
+ghost use mathlib.Core.Bool.{false};
 ghost use Prim.Native.Nat.{_*_, _≤_, _<_};
 ghost use lib.ListN.{length};
 ghost use lib.Dec.{eqb};
@@ -62,7 +63,7 @@ fn owner(l: &[u8], functions: usize, turn: Turn) -> Turn
 // The records from the item at `from` on; the first is to stand at `place`, and the section ends at `end`.
 fn records(l: &[u8], plan: Plan, from: usize, place: usize, end: usize) -> Verdict
     requires { ⌜ Walkable (now l) (plan .functions) from (plan .records) place end × (length (now l) ≤ listingMost) ⌝ }
-    ensures { λ r. ⌜ r ≡ entriesFault (plan .constants) (entriesFrom 0 place (owners 0 (functionsOf (now (l .entry)) (plan .functions))) (recordsFrom (now (l .entry)) from)) end ⌝ }
+    ensures { λ r. ⌜ r ≡ entriesFault false (plan .constants) (entriesFrom false 0 place (owners 0 (functionsOf (now (l .entry)) (plan .functions))) (recordsFrom (now (l .entry)) from)) end ⌝ }
 {
     let functions = plan.functions;
     let constants = plan.constants;

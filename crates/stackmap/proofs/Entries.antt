@@ -86,7 +86,7 @@ owner-at (suc n) i at s o m =
     record { low = omega arith; high = omega arith; is = rw z at (r .is) })
     (List·Memᴰ·append-cases (replicate (f .count) (record { number = i; function = f })) m)
 
-old-of : (s : List ℕ) → readSection s .old ≡ isOld s
+pub old-of : (s : List ℕ) → readSection s .old ≡ isOld s
 unfolding readSection
 old-of s = refl
 

@@ -3,19 +3,19 @@ use Prim.Native.Nat.{ℕ, zero, suc, _+_, _*_, _/_, _^_, _<_}
 use mathlib.Core.Path.{_≡_, refl, sym, _∙_, ap}
 use mathlib.Core.List.{List, [], _∷_, _++_, List·Memᴰ, List·Memᴰ·head, List·Memᴰ·tail, List·Memᴰ·not-nil, List·Memᴰ·cases-cons}
 use mathlib.Core.Logic.{_⊎_, inl, inr, ⊎-elim}
-use mathlib.Core.Bool.{Bool, true, false}
+use mathlib.Core.Bool.{Bool, true, false, true≢false}
 use native.Mathlib.Omega.{arith}
 use borrow.Author.Tests.{lt-ltb, le-leb, eq-eqb, eqb-true, leb-true, ltb-true}
 use lib.ListN.{length, getD}
 use lib.Dec.{ltb, eqb}
 use Rattle.wire.specs.Word.{Bytes, bytes}
 use Rattle.stackmap.specs.declared.Verdict.the-variants.{Valid}
-use Rattle.stackmap.specs.Layout.{functionSize, locationSize}
+use Rattle.stackmap.specs.Layout.{versionNumber, functionSize, locationSize}
 use Rattle.stackmap.specs.Verdict.{must, chain, pick, shift}
 use Rattle.stackmap.specs.Fields.{Field, bytesOf, size, many}
-use Rattle.stackmap.specs.Section.{Function, Location, Section, numFunctions, readFunction, readFunctions, recordFields, sectionFields, encodeSection, Encodable, readSection, Entry, entriesOf}
+use Rattle.stackmap.specs.Section.{Function, Location, Section, numFunctions, isOld, readFunction, readFunctions, recordFields, sectionFields, encodeSection, Encodable, readSection, Entry, entriesOf}
 use Rattle.stackmap.specs.Record.{poolCheck}
-use Rattle.stackmap.specs.Check.{sectionCheck}
+use Rattle.stackmap.specs.Check.{versionRight, headerCheck, sectionCheck}
 use Rattle.stackmap.specs.Fault.{locationFault, locationsFault, entryFault, entriesFault, sectionFault, GoodLocation, GoodEntry, WellFormed}
 use Rattle.stackmap.specs.Laws.{OneToOne, BuiltRefusal}
 use Rattle.stackmap.proofs.Verdicts.{must-held, must-rest, chain-first, chain-rest, shift-valid}
@@ -107,6 +107,22 @@ valid-well t n f none h =
       no-counts = none;
       entries-good = valid-entries _ _ _ _ n (must-rest _ _ _ _ _ h₂);
     }
+
+-- what is accepted is of version 3
+
+new-right : (old : Bool) → versionRight (versionNumber old) ≡ true → old ≡ false
+new-right true h = absurd (true≢false (sym h))
+new-right false h = refl
+
+pub well-new : (t : Section) → WellFormed t → t .old ≡ false
+well-new t w = new-right (t .old) (w .version-right)
+
+pub accepted-new : (s : List ℕ) (e : ℕ) → sectionCheck s ≡ Valid e → isOld s ≡ false
+unfolding sectionCheck headerCheck
+accepted-new s e k =
+    let h = must-rest _ _ _ _ _ (must-rest _ _ _ _ _ (chain-first _ _ _ k .1)) in
+    let v : getD s 0 0 ≡ 3 = eqb-true _ _ (must-held _ _ _ _ _ h) in
+    rw v
 
 -- the functions that are read of version 1 have no record counts
 no-count : (n : ℕ) (s : List ℕ) (at : ℕ) (f : Function) → List·Memᴰ f (many (readFunction true) (functionSize true) n s at) → f .count ≡ 0

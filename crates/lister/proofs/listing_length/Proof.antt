@@ -48,7 +48,8 @@ returns c =
     let t = c .before .before .before .section-tables .ensures in
     let f = t .functions-are in
     let k = t .constants-are in
-    omega (arith, listing-length (c .before .before .before .before .before .args .s .now), rw (t .records-are, t .first-is) at (c .before .before .records-length .ensures))
+    let l = laid _ (c .before .before .before .before .before .pre) in
+    omega (arith, listing-length (c .before .before .before .before .before .args .s .now) (l .new), rw (t .records-are, t .first-is) at (c .before .before .records-length .ensures))
 
 pub listing-length-spec : {M : Type 1} → statement M
 listing-length-spec =

@@ -48,6 +48,7 @@ returns c =
     let k = r .before .before .before .before in
     let f = k .before .before .before .before in
     listing-join _ (f .before .before .section-tables .ensures) (f .put-functions .ensures) (k .put-constants .ensures) (r .put-records .ensures)
+    (laid _ (f .before .before .before .before .before .pre .0) .new)
 
 same-length : tie.Need-same-length
 same-length c = put-long (returns c)

@@ -1,5 +1,6 @@
 use borrow.Author.Needs.{needs}
 use native.Mathlib.Omega.{arith}
+use mathlib.Core.Bool.{false}
 use Rattle.stackmap.specs.Section.{locationFields}
 use Rattle.stackmap.proofs.Items.{location-size}
 use Rattle.listing.specs.Listing.{listedLocation}
@@ -8,7 +9,7 @@ use Rattle.builder.proofs.put.locations.Statement.{statement}
 use Rattle.builder.proofs.put.locations.Tie as tie
 
 abbrev Inv-loop : tie.InvT-loop
-Inv-loop l at n out₀ to p₀ q₀ left₀ out p q left = Putting locationFields listedLocation 12 10 l at n out₀ to out p q left
+Inv-loop l at n out₀ to p₀ q₀ left₀ out p q left = Putting (locationFields false) listedLocation 12 10 l at n out₀ to out p q left
 
 abbrev μ-loop : tie.MeasureT-loop
 μ-loop l at n out₀ to p₀ q₀ left₀ out p q left = left
@@ -32,7 +33,7 @@ loop-less : tie.Need-loop-less Inv-loop μ-loop
 loop-less c = search needs
 
 loop-again : tie.Need-loop-again Inv-loop μ-loop
-loop-again c = put-on (c .before .before .location .last .1 .1 .0) location-size (c .before .before .before .before .before .loop .inv) (c .before .before .before .before .loop-test .taken) (c .before .before .location .ensures)
+loop-again c = put-on (c .before .before .location .last .1 .1 .0) (location-size false) (c .before .before .before .before .before .loop .inv) (c .before .before .before .before .loop-test .taken) (c .before .before .location .ensures)
 
 same-length : tie.Need-same-length Inv-loop μ-loop
 same-length c = search needs

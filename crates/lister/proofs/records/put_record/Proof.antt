@@ -1,5 +1,6 @@
 -- The item of the record, its locations and its live-outs, each with room after those before it.
 use native.Mathlib.Omega.{arith}
+use mathlib.Core.Bool.{false}
 use Rattle.stackmap.specs.Section.{readLocation, readRecord}
 use Rattle.listing.specs.Listing.{locationItem}
 use Rattle.lister.proofs.Puts.{put-long}
@@ -27,7 +28,7 @@ put-locations-requires c κs =
     let b = p .before .before .before .before .before in
     let e = p .put-record-item .ensures .ends in (
       shaped-inside _ w (b .pre .0) .0,
-      omega (arith, shaped-size _ w, put-long (p .put-record-item .ensures), record-item-size (readRecord (b .args .s .now))),
+      omega (arith, shaped-size _ w, put-long (p .put-record-item .ensures), record-item-size (readRecord false (b .args .s .now))),
     )
 
 put-live-outs-requires : tie.Need-put-live-outs-requires
@@ -44,8 +45,8 @@ put-live-outs-requires c κs =
         shaped-size _ w,
         put-long (p .put-record-item .ensures),
         put-long (q .put-locations .ensures),
-        record-item-size (readRecord (b .args .s .now)),
-        size-many locationItem readLocation 12 10 location-item-size (p .before .before .record-shape .result .locations) (b .args .s .now) 16,
+        record-item-size (readRecord false (b .args .s .now)),
+        size-many locationItem (readLocation false) 12 10 location-item-size (p .before .before .record-shape .result .locations) (b .args .s .now) 16,
       ),
     )
 

@@ -1,6 +1,7 @@
 -- What is left to be written gives what the whole gives.
 use borrow.Author.Needs.{needs}
 use native.Mathlib.Omega.{arith}
+use mathlib.Core.Bool.{false}
 use Rattle.stackmap.specs.Fields.{all, many}
 use Rattle.stackmap.specs.Section.{readFunction}
 use Rattle.listing.specs.Listing.{functionItem}
@@ -11,7 +12,7 @@ use Rattle.lister.proofs.runs.put_functions.Statement.{statement}
 use Rattle.lister.proofs.runs.put_functions.Tie as tie
 
 abbrev Inv-loop : tie.InvT-loop
-Inv-loop s at count out₀ to p₀ functions₀ t₀ out p functions t = Running functionItem readFunction 24 25 s out₀ to (all functionItem (many readFunction 24 count s at)) out p functions t
+Inv-loop s at count out₀ to p₀ functions₀ t₀ out p functions t = Running functionItem (readFunction false) 24 25 s out₀ to (all functionItem (many (readFunction false) 24 count s at)) out p functions t
 
 abbrev μ-loop : tie.MeasureT-loop
 μ-loop s at count out₀ to p₀ functions₀ t₀ out p functions t = functions

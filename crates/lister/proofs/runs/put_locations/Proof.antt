@@ -1,6 +1,7 @@
 -- What is left to be written gives what the whole gives.
 use borrow.Author.Needs.{needs}
 use native.Mathlib.Omega.{arith}
+use mathlib.Core.Bool.{false}
 use Rattle.stackmap.specs.Fields.{all, many}
 use Rattle.stackmap.specs.Section.{readLocation}
 use Rattle.listing.specs.Listing.{locationItem}
@@ -11,7 +12,7 @@ use Rattle.lister.proofs.runs.put_locations.Statement.{statement}
 use Rattle.lister.proofs.runs.put_locations.Tie as tie
 
 abbrev Inv-loop : tie.InvT-loop
-Inv-loop s at count out₀ to p₀ locations₀ t₀ out p locations t = Running locationItem readLocation 12 10 s out₀ to (all locationItem (many readLocation 12 count s at)) out p locations t
+Inv-loop s at count out₀ to p₀ locations₀ t₀ out p locations t = Running locationItem (readLocation false) 12 10 s out₀ to (all locationItem (many (readLocation false) 12 count s at)) out p locations t
 
 abbrev μ-loop : tie.MeasureT-loop
 μ-loop s at count out₀ to p₀ locations₀ t₀ out p locations t = locations

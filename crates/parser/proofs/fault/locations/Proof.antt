@@ -2,6 +2,7 @@ use borrow.Author.Needs.{needs}
 use native.Mathlib.Omega.{arith}
 use Prim.Native.Nat.{_+_, _*_, _≤_}
 use mathlib.Core.Path.{_≡_}
+use mathlib.Core.Bool.{false}
 use lib.ListN.{length}
 use Rattle.stackmap.specs.Layout.{sectionMost}
 use Rattle.stackmap.specs.Verdict.{chain}
@@ -15,7 +16,7 @@ use Rattle.parser.proofs.fault.locations.Tie as tie
 abbrev Inv-loop : tie.InvT-loop
 Inv-loop l at n place constants p₀ q₀ left₀ p q left =
     (p + 10 * left ≤ length l) × (q + 12 * left ≤ sectionMost)
-    × (locationsFault constants (many listedLocation 10 n l at) place ≡ locationsFault constants (many listedLocation 10 left l p) q)
+    × (locationsFault false constants (many listedLocation 10 n l at) place ≡ locationsFault false constants (many listedLocation 10 left l p) q)
 
 abbrev μ-loop : tie.MeasureT-loop
 μ-loop l at n place constants p₀ q₀ left₀ p q left = left
