@@ -1,14 +1,14 @@
 -- A reordered section is accepted, and its entries are like the first one's.
 use Prim.Native.Nat.{ℕ, suc, _+_, _-_, _*_, _%_, _≤_, _<_}
 use mathlib.Core.Path.{_≡_, refl, sym, ap, _∙_}
-use mathlib.Core.Bool.{true}
+use mathlib.Core.Bool.{Bool, true}
 use mathlib.Core.Logic.{_⊎_, inl, inr, ⊎-elim}
 use mathlib.Core.List.{List, [], _∷_, _++_, List·Memᴰ, List·Memᴰ·head, List·Memᴰ·tail, List·Memᴰ·not-nil, List·Memᴰ·cases-cons, List·Memᴰ·append-cases, Memᴰ·append-left, Memᴰ·append-right, List·Permᴰ, Permᴰ·refl, Permᴰ·symm}
 use native.Mathlib.Omega.{arith}
 use lib.ListN.{length, getD, take, drop, length-append, length-drop, take-append-drop, List·getD-append}
 use lib.Seq.{length-take-le, drop-at, getD-take}
 use Rattle.stackmap.specs.Fields.{Field, size, Fit, all}
-use Rattle.stackmap.specs.Section.{Location, Record, Section, functionFields, constantFields, locationFields, liveOutFields, recordHead, recordMiddle, recordEnd, recordFields, header, sectionFields, Encodable, Owner, Entry, address, owners, entriesFrom, entriesOf}
+use Rattle.stackmap.specs.Section.{Location, Record, Section, functionFields, constantFields, locationFields, liveOutFields, recordHead, recordMiddle, recordEnd, recordFields, header, sectionFields, Encodable, Owner, recordOwners, Entry, address, entriesFrom, entriesOf}
 use Rattle.stackmap.specs.Fault.{GoodEntry, WellFormed}
 use Rattle.stackmap.proofs.Fields.{size-append, fit-join, fit-first, fit-second, fit-each, each-fit}
 use Rattle.stackmap.proofs.Back.{record-size, section-size}
@@ -50,18 +50,18 @@ unpair-mem (p ∷ ps) qs h l m =
     in-derived qs (List·Memᴰ·head e) = List·Memᴰ·tail (List·Memᴰ·head (ap (λ (q : Pair). q .derived) e))
     in-derived qs (List·Memᴰ·tail {xs = xs} n) = List·Memᴰ·tail (List·Memᴰ·tail (in-derived xs n))
 
--- what a reordered record keeps
+-- what a reordered record keeps, in the bytes of either version
 pub record Like (r r′ : Record) : Type 0 where
   pub offset-same : r′ .offset ≡ r .offset
-  pub size-same : size (recordFields r′) ≡ size (recordFields r)
-  pub fit-keeps : Fit (recordFields r) → Fit (recordFields r′)
+  pub size-same : (old : Bool) → size (recordFields old r′) ≡ size (recordFields old r)
+  pub fit-keeps : (old : Bool) → Fit (recordFields old r) → Fit (recordFields old r′)
   pub locations-from : (l : Location) → List·Memᴰ l (r′ .locations) → List·Memᴰ l (r .locations)
   pub statepoint-same : isStatepoint r′ ≡ isStatepoint r
   pub pairs-perm : List·Permᴰ (pairs r) (pairs r′)
 
 same-like : (r r′ : Record) → r′ ≡ r → Like r r′
 same-like r r′ e =
-    rw e (record { offset-same = refl; size-same = refl; fit-keeps = λ h. h; locations-from = λ l m. m; statepoint-same = refl; pairs-perm = Permᴰ·refl (pairs r) })
+    rw e (record { offset-same = refl; size-same = λ old. refl; fit-keeps = λ old h. h; locations-from = λ l m. m; statepoint-same = refl; pairs-perm = Permᴰ·refl (pairs r) })
 
 module _ (r : Record) (ps : List Pair) (sp : isStatepoint r ≡ true) (perm : List·Permᴰ (pairs r) ps) where
   abbrev n : ℕ
@@ -115,39 +115,43 @@ module _ (r : Record) (ps : List Pair) (sp : isStatepoint r ≡ true) (perm : Li
       (λ b. Memᴰ·append-right (take n ls) (unpair-mem ps (pairs r) (λ p q. perm-mem (Permᴰ·symm perm) q) l b))
       (List·Memᴰ·append-cases (take n ls) m))
 
-  abbrev A : List Field
-  A = recordHead r
+  module _ (old : Bool) where
+    abbrev A : List Field
+    A = recordHead r
 
-  abbrev B : List Field
-  B = all locationFields ls
+    abbrev B : List Field
+    B = all (locationFields old) ls
 
-  abbrev B′ : List Field
-  B′ = all locationFields (take n ls ++ unpair ps)
+    abbrev B′ : List Field
+    B′ = all (locationFields old) (take n ls ++ unpair ps)
 
-  abbrev C : List Field
-  C = recordMiddle r
+    abbrev C : List Field
+    C = recordMiddle old r
 
-  abbrev D : List Field
-  D = all liveOutFields (r .liveOuts)
+    abbrev D : List Field
+    D = all liveOutFields (r .liveOuts)
 
-  abbrev E : List Field
-  E = recordEnd r
+    abbrev E : List Field
+    E = recordEnd r
 
-  fits : Fit (recordFields r) → Fit (recordFields r′)
-  unfolding recordFields
-  fits h =
-      let h₄ = fit-first (A ++ B ++ C ++ D) E h in
-      let h₃ = fit-first (A ++ B ++ C) D h₄ in
-      let h₂ = fit-first (A ++ B) C h₃ in
-      let b : Fit B′ = fit-each locationFields (take n ls ++ unpair ps) (λ l q. each-fit locationFields (fit-second A B h₂) (from l q)) in
-      rw length-same
-      (fit-join (A ++ B′ ++ C ++ D) E (fit-join (A ++ B′ ++ C) D (fit-join (A ++ B′) C (fit-join A B′ (fit-first A B h₂) b) (fit-second (A ++ B) C h₃)) (fit-second (A ++ B ++ C) D h₄)) (fit-second (A ++ B ++ C ++ D) E h))
+    sizes : size (recordFields old r′) ≡ size (recordFields old r)
+    sizes = rw (record-size old r′, record-size old r, length-same)
+
+    fits : Fit (recordFields old r) → Fit (recordFields old r′)
+    unfolding recordFields
+    fits h =
+        let h₄ = fit-first (A ++ B ++ C ++ D) E h in
+        let h₃ = fit-first (A ++ B ++ C) D h₄ in
+        let h₂ = fit-first (A ++ B) C h₃ in
+        let b : Fit B′ = fit-each (locationFields old) (take n ls ++ unpair ps) (λ l q. each-fit (locationFields old) (fit-second A B h₂) (from l q)) in
+        rw length-same
+        (fit-join (A ++ B′ ++ C ++ D) E (fit-join (A ++ B′ ++ C) D (fit-join (A ++ B′) C (fit-join A B′ (fit-first A B h₂) b) (fit-second (A ++ B) C h₃)) (fit-second (A ++ B ++ C) D h₄)) (fit-second (A ++ B ++ C ++ D) E h))
 
   reordered-like : Like r r′
   reordered-like =
       record {
         offset-same = refl;
-        size-same = rw (record-size r′, record-size r, length-same);
+        size-same = sizes;
         fit-keeps = fits;
         locations-from = from;
         statepoint-same = statepoint-is;
@@ -160,23 +164,23 @@ like r r′ (inr o) = rw (o .nothing-else) (reordered-like r (o .order) (o .stat
 
 -- lists
 
-records-same : (rs rs′ : List Record) → EachReordered rs rs′ → (length rs′ ≡ length rs) × (size (all recordFields rs′) ≡ size (all recordFields rs))
+records-same : (old : Bool) (rs rs′ : List Record) → EachReordered rs rs′ → (length rs′ ≡ length rs) × (size (all (recordFields old) rs′) ≡ size (all (recordFields old) rs))
 unfolding all size
-records-same [] [] e = (refl, refl)
-records-same [] (r′ ∷ rs′) e = absurd e
-records-same (r ∷ rs) [] e = absurd e
-records-same (r ∷ rs) (r′ ∷ rs′) e =
-    let h = records-same rs rs′ (e .1) in
-    (ap suc (h .0), rw (size-append, size-append, like r r′ (e .0) .size-same, h .1))
+records-same old [] [] e = (refl, refl)
+records-same old [] (r′ ∷ rs′) e = absurd e
+records-same old (r ∷ rs) [] e = absurd e
+records-same old (r ∷ rs) (r′ ∷ rs′) e =
+    let h = records-same old rs rs′ (e .1) in
+    (ap suc (h .0), rw (size-append, size-append, like r r′ (e .0) .size-same old, h .1))
 
-records-fit : (rs rs′ : List Record) → EachReordered rs rs′ → Fit (all recordFields rs) → Fit (all recordFields rs′)
+records-fit : (old : Bool) (rs rs′ : List Record) → EachReordered rs rs′ → Fit (all (recordFields old) rs) → Fit (all (recordFields old) rs′)
 unfolding all
-records-fit [] [] e h = tt
-records-fit [] (r′ ∷ rs′) e h = absurd e
-records-fit (r ∷ rs) [] e h = absurd e
-records-fit (r ∷ rs) (r′ ∷ rs′) e h =
-    fit-join (recordFields r′) (all recordFields rs′) (like r r′ (e .0) .fit-keeps (fit-first (recordFields r) (all recordFields rs) h))
-    (records-fit rs rs′ (e .1) (fit-second (recordFields r) (all recordFields rs) h))
+records-fit old [] [] e h = tt
+records-fit old [] (r′ ∷ rs′) e h = absurd e
+records-fit old (r ∷ rs) [] e h = absurd e
+records-fit old (r ∷ rs) (r′ ∷ rs′) e h =
+    fit-join (recordFields old r′) (all (recordFields old) rs′) (like r r′ (e .0) .fit-keeps old (fit-first (recordFields old r) (all (recordFields old) rs) h))
+    (records-fit old rs rs′ (e .1) (fit-second (recordFields old r) (all (recordFields old) rs) h))
 
 pub record EntryLike (e e′ : Entry) : Type 0 where
   pub owner-same : e′ .owner ≡ e .owner
@@ -188,15 +192,15 @@ EntriesLike [] (e ∷ es) = ⊥
 EntriesLike (e ∷ es) [] = ⊥
 EntriesLike (e ∷ es) (e′ ∷ es′) = EntryLike e e′ × EntriesLike es es′
 
-entries-like : (k at : ℕ) (os : List Owner) (rs rs′ : List Record) → EachReordered rs rs′ → EntriesLike (entriesFrom k at os rs) (entriesFrom k at os rs′)
+entries-like : (old : Bool) (k at : ℕ) (os : List Owner) (rs rs′ : List Record) → EachReordered rs rs′ → EntriesLike (entriesFrom old k at os rs) (entriesFrom old k at os rs′)
 unfolding entriesFrom
-entries-like k at [] rs rs′ e = tt
-entries-like k at (o ∷ os) [] [] e = tt
-entries-like k at (o ∷ os) [] (r′ ∷ rs′) e = absurd e
-entries-like k at (o ∷ os) (r ∷ rs) [] e = absurd e
-entries-like k at (o ∷ os) (r ∷ rs) (r′ ∷ rs′) e =
+entries-like old k at [] rs rs′ e = tt
+entries-like old k at (o ∷ os) [] [] e = tt
+entries-like old k at (o ∷ os) [] (r′ ∷ rs′) e = absurd e
+entries-like old k at (o ∷ os) (r ∷ rs) [] e = absurd e
+entries-like old k at (o ∷ os) (r ∷ rs) (r′ ∷ rs′) e =
     let l = like r r′ (e .0) in
-    (record { owner-same = refl; body-like = l }, rw (l .size-same) (entries-like (suc k) (at + size (recordFields r)) os rs rs′ (e .1)))
+    (record { owner-same = refl; body-like = l }, rw (l .size-same old) (entries-like old (suc k) (at + size (recordFields old r)) os rs rs′ (e .1)))
 
 pub like-address : (e e′ : Entry) → EntryLike e e′ → address e′ ≡ address e
 unfolding address
@@ -217,13 +221,13 @@ like-mem (x ∷ xs) {e′ = e′} l (List·Memᴰ·tail m) = let r = like-mem xs
 
 module _ (t : Section) (rs′ : List Record) (each : EachReordered (t .records) rs′) where
   abbrev t′ : Section
-  t′ = record { functions = t .functions; constants = t .constants; records = rs′ }
+  t′ = record { old = t .old; functions = t .functions; constants = t .constants; records = rs′ }
 
   abbrev H : List Field
   H = header t
 
   abbrev F : List Field
-  F = all functionFields (t .functions)
+  F = all (functionFields (t .old)) (t .functions)
 
   abbrev K : List Field
   K = all constantFields (t .constants)
@@ -231,23 +235,27 @@ module _ (t : Section) (rs′ : List Record) (each : EachReordered (t .records) 
   still-fits : Encodable t → Encodable t′
   unfolding sectionFields
   still-fits h =
-      rw (records-same (t .records) rs′ each .0)
-      (fit-join (H ++ F ++ K) (all recordFields rs′) (fit-first (H ++ F ++ K) (all recordFields (t .records)) h)
-      (records-fit (t .records) rs′ each (fit-second (H ++ F ++ K) (all recordFields (t .records)) h)))
+      rw (records-same (t .old) (t .records) rs′ each .0)
+      (fit-join (H ++ F ++ K) (all (recordFields (t .old)) rs′) (fit-first (H ++ F ++ K) (all (recordFields (t .old)) (t .records)) h)
+      (records-fit (t .old) (t .records) rs′ each (fit-second (H ++ F ++ K) (all (recordFields (t .old)) (t .records)) h)))
 
   pub section-like : EntriesLike (entriesOf t) (entriesOf t′)
   unfolding entriesOf
-  section-like = entries-like 0 _ (owners 0 (t .functions)) (t .records) rs′ each
+  section-like =
+      rw (records-same (t .old) (t .records) rs′ each .0)
+      (entries-like (t .old) 0 _ (recordOwners (t .old) (length (t .records)) (t .functions)) (t .records) rs′ each)
 
   pub still-well : WellFormed t → WellFormed t′
   still-well w =
-      let h = records-same (t .records) rs′ each in
+      let h = records-same (t .old) (t .records) rs′ each in
       let f = still-fits (w .fits) in
       let z₁ = section-size t in
       let z₂ = section-size t′ in
       record {
         fits = f;
         small = omega (arith, w .small, h .1);
-        adds-up = w .adds-up ∙ sym (h .0);
+        version-right = w .version-right;
+        adds-up = rw (h .0) (w .adds-up);
+        no-counts = w .no-counts;
         entries-good = λ e′ m. let r = like-mem (entriesOf t) section-like m in like-good _ (r .0) e′ (r .2) (w .entries-good (r .0) (r .1));
       }

@@ -115,7 +115,7 @@ module _ (s s′ : List ℕ) (w : Bytes s) (o : OtherOrder s s′) where
   t = readSection s
 
   abbrev t′ : Section
-  t′ = record { functions = t .functions; constants = t .constants; records = o .records }
+  t′ = record { old = t .old; functions = t .functions; constants = t .constants; records = o .records }
 
   well : WellFormed t′
   well = still-well t (o .records) (o .reordered) (accepted-well-formed s (length s) w (o .accepted) .0)

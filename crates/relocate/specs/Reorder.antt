@@ -37,7 +37,7 @@ pub record OtherOrder (s s′ : List ℕ) : Type 0 where
   pub accepted : Accepted s
   pub records : List Record
   pub reordered : EachReordered (readSection s .records) records
-  pub encoded : s′ ≡ encodeSection (record { functions = readSection s .functions; constants = readSection s .constants; records = records })
+  pub encoded : s′ ≡ encodeSection (record { old = readSection s .old; functions = readSection s .functions; constants = readSection s .constants; records = records })
 
 -- s′ is accepted; a move's number, its count and the image it leaves stay the same; only the place of 18 to 21 may differ
 pub record SameMoves (s s′ : List ℕ) : Type 0 where
