@@ -15,6 +15,7 @@ use Rattle.stackmap.specs.Section.{numFunctions, constantsAt, readFunction, Ent
 use Rattle.stackmap.specs.Check.{sectionCheck, Accepted}
 use Rattle.stackmap.proofs.Numbers.{Numbered, section-numbered}
 use Rattle.stackmap.proofs.Forth.{accepted-length}
+use Rattle.stackmap.proofs.WellFormed.{accepted-new}
 use Rattle.stackmap.proofs.Entries.{entry-body, entry-inside, entry-owner}
 use Rattle.questions.specs.declared.Found.{Found}
 use Rattle.questions.specs.Questions.{ask, withAddress, notFound, firstOf, byAddress}
@@ -114,11 +115,11 @@ module _ (s : List ℕ) (a : ℕ) (k : Accepted s) (w : Bytes s) (e : Entry) (on
   body-is = entry-body s e member
 
   pub owner-number : e .owner .number < numFunctions s
-  owner-number = entry-owner s e member .0
+  owner-number = entry-owner s (accepted-new s (length s) k) e member .0
 
   pub size-is : stackSize e ≡ word 8 s (16 + 24 * e .owner .number + 8)
   unfolding readFunction
-  size-is = rw (entry-owner s e member .1)
+  size-is = rw (entry-owner s (accepted-new s (length s) k) e member .1)
 
 -- where what was found stands
 module _ (s : List ℕ) (a : ℕ) (k : Accepted s) (w : Bytes s) (r : Found) (e : r ≡ firstOf (withAddress a (entries s))) (z : r .number ≡ 0) (one : r .sharing ≡ 1) where
@@ -129,7 +130,7 @@ module _ (s : List ℕ) (a : ℕ) (k : Accepted s) (w : Bytes s) (r : Found) (e 
   found-stands = rw (found .first-is) (stands s a k w (found .entry) (found .alone))
 
   -- its function is one of the section's, whose functions are inside
-  pub found-function : (constantsAt s ≤ length s) × (r .function < numFunctions s)
+  pub found-function : (16 + 24 * numFunctions s ≤ length s) × (r .function < numFunctions s)
   found-function =
-      let t = tables-inside s (length s) k in
+      let t = rw (accepted-new s (length s) k) at (tables-inside s (length s) k) in
       (omega arith, rw (found .function-is) (owner-number s a k w (found .entry) (found .alone)))

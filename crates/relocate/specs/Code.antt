@@ -7,7 +7,7 @@ use mathlib.Core.List.{List}
 use lib.Dec.{eqb, leb, ltb}
 use lib.ListN.{length, getD, drop}
 use Rattle.stackmap.specs.Layout.{kindConstIndex, negativeFrom}
-use Rattle.stackmap.specs.Section.{Location, Record, recordsAt, numLocations, recordLength, readRecord, readSection}
+use Rattle.stackmap.specs.Section.{Location, Record, isOld, recordsAt, numLocations, recordLength, readRecord, readSection}
 use Rattle.questions.specs.declared.Found.{Found}
 use Rattle.questions.specs.declared.LocationAnswer.{LocationAnswer}
 use Rattle.moves.specs.Limits.{pointerSize}
@@ -20,7 +20,7 @@ use Rattle.relocate.specs.Statepoint.{locationAt, pairsAt, Pair, pairs, 
 -- The record at a place of the section, and the section's constants.
 
 abbrev pub recordOf : List ℕ → ℕ → Record
-recordOf s at = readRecord (drop at s)
+recordOf s at = readRecord (isOld s) (drop at s)
 
 abbrev pub poolOf : List ℕ → List ℕ
 poolOf s = readSection s .constants
@@ -28,7 +28,7 @@ poolOf s = readSection s .constants
 -- a record stands there: the tables are inside, and all of it is
 pub record Stands (s : List ℕ) (at : ℕ) : Type 0 where
   pub tables : recordsAt s ≤ length s
-  pub inside : at + recordLength (drop at s) ≤ length s
+  pub inside : at + recordLength (isOld s) (drop at s) ≤ length s
 
 -- the pair whose base is location number j, and the pair number p
 abbrev pub pairFrom : Record → ℕ → Pair

@@ -1,11 +1,11 @@
 // A move after the question by address, one stage of the plan a function. Where `write` is false the frame is only judged.
 ghost use mathlib.Core.Path.{_≡_};
-ghost use mathlib.Core.Bool.{true};
+ghost use mathlib.Core.Bool.{true, false};
 ghost use Prim.Native.Nat.{_+_, _≤_, _<_};
 ghost use lib.ListN.{length};
 ghost use Rattle.wire.specs.Word.{word};
 ghost use Rattle.stackmap.specs.Layout.{stackSizeAt};
-ghost use Rattle.stackmap.specs.Section.{numFunctions, constantsAt, entries};
+ghost use Rattle.stackmap.specs.Section.{numFunctions, entries};
 ghost use Rattle.stackmap.specs.Check.{Accepted};
 ghost use Rattle.stackmap.specs.Walk.{functionAt};
 ghost use Rattle.questions.specs.Questions.{withAddress, firstOf};
@@ -124,10 +124,10 @@ fn move_record(
     refused(12, 0)
 }
 
-// The stack size of a function.
+// The stack size of a function of version 3.
 pub fn stack_size(s: &[u8], function: usize) -> u64
-    requires { ⌜ (constantsAt (now s) ≤ length (now s)) × (function < numFunctions (now s)) ⌝ }
-    ensures { λ r. ⌜ r ≡ word 8 (now (s .entry)) (functionAt function + stackSizeAt) ⌝ }
+    requires { ⌜ (functionAt false (numFunctions (now s)) ≤ length (now s)) × (function < numFunctions (now s)) ⌝ }
+    ensures { λ r. ⌜ r ≡ word 8 (now (s .entry)) (functionAt false function + stackSizeAt) ⌝ }
 {
     wire::u64_at(
         s,

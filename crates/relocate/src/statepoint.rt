@@ -9,6 +9,7 @@ ghost use Rattle.relocate.specs.Statepoint.{constantHead, pairedRest, is
 ghost use Rattle.relocate.specs.Code.{recordOf, Stands, Paired};
 use crate::reader;
 use stackmap::layout;
+use stackmap::tables;
 
 // The locations at a statepoint's head; the last of them holds the deopt count.
 const HEAD_LOCATIONS: usize = 3;
@@ -49,7 +50,9 @@ fn paired_rest(s: &[u8], at: usize, count: usize) -> bool
     if (count - start) % 2 != 0 {
         return false;
     }
-    let end = at + layout::RECORD_HEAD_SIZE + layout::LOCATION_SIZE * count + count % 2 * 4;
+    let old = tables::is_old(s);
+    let pad = at + layout::RECORD_HEAD_SIZE + layout::location_size(old) * count;
+    let end = pad + layout::locations_padding(old, count);
     wire::u16_at(s, end + layout::LIVE_OUTS_HEAD_ZEROS) == 0
 }
 
