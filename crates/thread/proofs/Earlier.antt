@@ -1,5 +1,5 @@
 -- Extents, each against those of the frames before it.
-use Prim.Native.Nat.{ℕ, zero, suc, _+_, _-_, _^_, _≤_, _<_}
+use Prim.Native.Nat.{ℕ, zero, suc, _+_, _*_, _-_, _^_, _≤_, _<_}
 use mathlib.Core.Path.{_≡_, refl, sym, ap, _∙_}
 use mathlib.Core.Bool.{Bool, true, false, cond, _||_}
 use mathlib.Core.List.{List, [], _∷_, map}
@@ -8,11 +8,12 @@ use borrow.Author.Tests.{lt-ltb, le-ltb, leb-true, ne-eqb}
 use lib.Dec.{ltb, leb}
 use lib.ListN.{length}
 use Rattle.wire.specs.Word.{Bytes, word}
-use Rattle.stackmap.specs.Section.{numFunctions, constantsAt, entries}
+use Rattle.stackmap.specs.Section.{numFunctions, entries}
 use Rattle.stackmap.specs.Check.{Accepted}
 use Rattle.stackmap.specs.Walk.{functionAt}
 use Rattle.questions.specs.declared.Found.{Found}
 use Rattle.questions.specs.Questions.{withAddress, firstOf}
+use Rattle.stackmap.proofs.WellFormed.{accepted-new}
 use Rattle.questions.proofs.Standing.{tables-inside}
 use Rattle.moves.specs.declared.Move.{Move}
 use Rattle.moves.specs.Settle.{refusedMove}
@@ -50,12 +51,12 @@ module _ (s : List ℕ) (f : Frame) (t : Sited s f) where
     here : r .function ≡ t .entry .owner .number
     here = rw (e, t .one)
 
-    pub sited-function : (constantsAt s ≤ length s) × (r .function < numFunctions s)
+    pub sited-function : (16 + 24 * numFunctions s ≤ length s) × (r .function < numFunctions s)
     sited-function =
-        let i = tables-inside s (length s) k in
+        let i = rw (accepted-new s (length s) k) at (tables-inside s (length s) k) in
         (omega arith, rw here (owner-number s (f .address) k w (t .entry) (t .one)))
 
-    pub sited-size : word 8 s (functionAt (r .function) + 8) ≡ stackSize (t .entry)
+    pub sited-size : word 8 s (functionAt false (r .function) + 8) ≡ stackSize (t .entry)
     sited-size = rw here (sym (size-is s (f .address) k w (t .entry) (t .one)))
 
 -- The extents that were kept.

@@ -13,7 +13,7 @@ use Rattle.wire.specs.Word.{word}
 use Rattle.stackmap.specs.declared.Verdict.{Verdict}
 use Rattle.stackmap.specs.declared.Verdict.the-variants.{Valid, Refused}
 use Rattle.stackmap.specs.Verdict.{must, chain, bind, shift}
-use Rattle.stackmap.specs.Section.{numConstants, recordsAt, readFunctions, owners, Entry, address, readRecord, entries}
+use Rattle.stackmap.specs.Section.{numConstants, numRecords, isOld, recordsAt, readFunctions, recordOwners, Entry, address, readRecord, entries}
 use Rattle.stackmap.specs.Record.{recordCheck}
 use Rattle.stackmap.specs.Check.{headerCheck, tablesCheck, recordsCheck, walkCheck, sectionCheck}
 use Rattle.stackmap.specs.Walk.{ownerAt, entryAt}
@@ -145,7 +145,7 @@ counted-stored before after i m h t l c = record { most = λ j. go j (decLt j i)
         rw z (omega arith)
 
 -- a valid record's address fits: refusal 8
-pub address-fits : (s : List ℕ) (c number function p q : ℕ) → shift p (recordCheck (drop p s) c (ownerAt s function .function .address)) ≡ Valid q
+pub address-fits : (s : List ℕ) (c number function p q : ℕ) → shift p (recordCheck (isOld s) (drop p s) c (ownerAt s function .function .address)) ≡ Valid q
     → address (entryAt s number function p) < 2 ^ 64
 unfolding recordCheck address readRecord
 address-fits s c number function p q v =
@@ -213,15 +213,15 @@ pub never-valid : {n p e : ℕ} {A : Type 0} → _≡_ {A = Verdict} (Refused n 
 never-valid h = never h
 
 module _ (s : List ℕ) (c : ℕ) (e : c ≡ numConstants s) where
-  pub walk-refused : (n q : ℕ) → recordsCheck (owners 0 (readFunctions s)) s c (recordsAt s) ≡ Refused n q → Refused n q ≡ walkCheck s
+  pub walk-refused : (n q : ℕ) → recordsCheck (isOld s) (recordOwners (isOld s) (numRecords s) (readFunctions s)) s c (recordsAt s) ≡ Refused n q → Refused n q ≡ walkCheck s
   unfolding walkCheck bind
   walk-refused n q h = rw (rw e at h)
 
-  pub walk-after : (p : ℕ) → recordsCheck (owners 0 (readFunctions s)) s c (recordsAt s) ≡ Valid p → (p ≡ length s → ⊥) → Refused 9 p ≡ walkCheck s
+  pub walk-after : (p : ℕ) → recordsCheck (isOld s) (recordOwners (isOld s) (numRecords s) (readFunctions s)) s c (recordsAt s) ≡ Valid p → (p ≡ length s → ⊥) → Refused 9 p ≡ walkCheck s
   unfolding walkCheck bind must
   walk-after p h n = rw (rw e at h, ne-eqb _ _ n)
 
-  pub walk-whole : (p : ℕ) → recordsCheck (owners 0 (readFunctions s)) s c (recordsAt s) ≡ Valid p → p ≡ length s → Valid p ≡ walkCheck s
+  pub walk-whole : (p : ℕ) → recordsCheck (isOld s) (recordOwners (isOld s) (numRecords s) (readFunctions s)) s c (recordsAt s) ≡ Valid p → p ≡ length s → Valid p ≡ walkCheck s
   unfolding walkCheck bind must
   walk-whole p h n = rw (rw e at h, eq-eqb _ _ n)
 

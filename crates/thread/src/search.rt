@@ -5,9 +5,9 @@ ghost use Prim.Native.Nat.{ℕ, _+_, _*_, _^_, _≤_, _<_};
 ghost use mathlib.Core.List.{List};
 ghost use lib.ListN.{length};
 ghost use Rattle.stackmap.specs.declared.Verdict.the-variants.{Valid};
-ghost use Rattle.stackmap.specs.Section.{numFunctions, constantsAt, recordsAt, address, entries};
+ghost use Rattle.stackmap.specs.Section.{recordsAt, address, entries};
 ghost use Rattle.stackmap.specs.Check.{walkCheck, sectionCheck};
-ghost use Rattle.stackmap.specs.Walk.{entryAt, Walkable};
+ghost use Rattle.stackmap.specs.Walk.{ownerAt, entryAt, Walkable};
 ghost use Rattle.questions.specs.declared.Hits as hitsType;
 ghost use Rattle.questions.specs.Kept.{noHits};
 ghost use Rattle.questions.specs.Questions.{withAddress, firstOf};
@@ -54,9 +54,11 @@ fn store(hits: &mut [usize], i: usize, h: Hits)
     hits[p + 3] = h.first;
 }
 
-// Notes the record `index` at `at`, of function number `function`, if its address is one of those looked for.
+// Notes the record `index` at `at`, of function number `function`, which starts at `start`, if its address is one of those
+// looked for.
 fn mark(
     s: &[u8],
+    start: u64,
     index: usize,
     function: usize,
     at: usize,
@@ -64,13 +66,12 @@ fn mark(
     count: usize,
     hits: &mut [usize; HITS_LENGTH],
 )
-    requires { ⌜ (constantsAt (now s) ≤ length (now s)) × (function < numFunctions (now s)) × (at + 16 ≤ length (now s)) × (index < 2 ^ 32)
+    requires { ⌜ (start ≡ ownerAt (now s) function .function .address) × (at + 16 ≤ length (now s)) × (index < 2 ^ 32)
         × (address (entryAt (now s) index function at) < 2 ^ 64) × (count ≤ framesMost) × Sorted (now keys) count × Counted (now hits) index ⌝ }
     ensures { λ r. ⌜ ((h : ℕ → hitsType.Hits) → Holding (now (keys .entry)) count (now (hits .entry)) h
         → Holding (now (keys .entry)) count (now (hits .exit)) (notedAll (entryAt (now (s .entry)) index function at) h))
         × Counted (now (hits .exit)) (index + 1) ⌝ }
 {
-    let start = wire::u64_at(s, layout::HEADER_SIZE + layout::FUNCTION_SIZE * function);
     let offset = wire::u32_at(s, at + layout::INSTRUCTION_OFFSET_AT) as u64;
     let key = start + offset;
     if count == 0 {
@@ -86,7 +87,7 @@ fn mark(
     if i < count {
         if keys[i] == key {
             let before = hits_at(hits, i);
-            let after = find::note(s, key, index, function, at, before);
+            let after = find::note(s, start, key, index, function, at, before);
             store(hits, i, after);
         }
     }
@@ -107,15 +108,17 @@ fn walk_all(
     let constants = wire::u32_at(s, layout::NUM_CONSTANTS_AT);
     let mut remaining = wire::u32_at(s, layout::NUM_RECORDS_AT);
     let mut index: usize = 0;
-    let mut turn = Turn { next: 0, left: 0 };
+    let old = tables::is_old(s);
+    let mut turn = walk::start(s, old);
     let mut p = at;
     while remaining > 0 {
         let t = walk::owner(s, turn);
         let next = t.next;
-        match walk::record_at(s, constants, next - 1, p) {
+        match walk::record_at(s, old, constants, next - 1, p) {
             Verdict::Refused(n, q) => return Verdict::Refused(n, q),
             Verdict::Valid(end) => {
-                mark(s, index, next - 1, p, keys, count, hits);
+                let start = walk::owner_address(s, old, next - 1);
+                mark(s, start, index, next - 1, p, keys, count, hits);
                 p = end;
             }
         }

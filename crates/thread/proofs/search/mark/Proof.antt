@@ -11,15 +11,6 @@ use borrow.Author.Needs.{needs}
 use Rattle.thread.proofs.search.mark.Statement.{statement}
 use Rattle.thread.proofs.search.mark.Tie as tie
 
-mul-u64-at : tie.Need-mul-u64-at
-mul-u64-at c = search needs
-
-add-u64-at : tie.Need-add-u64-at
-add-u64-at c = search needs
-
-u64-at-requires : tie.Need-u64-at-requires
-u64-at-requires c κs = search needs
-
 add-u32-at : tie.Need-add-u32-at
 add-u32-at c = search needs
 
@@ -31,26 +22,28 @@ cast-offset c = search needs
 
 add-key : tie.Need-add-key
 add-key c =
-    let a = c .before .before .before .args in
-    let f = c .before .before .before .pre .4 in
+    let s = c .before .before in
+    let a = s .args in
+    let f = s .pre .3 in
     let h = here-address (a .s .now) (a .index) (a .function) (a .at) in
-    omega (arith, f, h, c .before .u64-at .ensures, c .u32-at .ensures)
+    omega (arith, f, h, s .pre .0, c .u32-at .ensures)
 
 returns : tie.Need-returns
 returns c =
-    let a = c .before .before .before .before .args in
-    (unlooked (a .keys .now) (a .count) (entryAt (a .s .now) (a .index) (a .function) (a .at)) _ (λ j m q. omega (arith, m, c .if1 .taken)), counted-more _ _ _ (omega arith) (c .before .before .before .before .pre .7))
+    let a = c .before .before .before .args in
+    (unlooked (a .keys .now) (a .count) (entryAt (a .s .now) (a .index) (a .function) (a .at)) _ (λ j m q. omega (arith, m, c .if1 .taken)), counted-more _ _ _ (omega arith) (c .before .before .before .pre .6))
 
 element-copy-out-if2 : tie.Need-element-copy-out-if2
 element-copy-out-if2 c = search needs
 
 returns-2 : tie.Need-returns-2
 returns-2 c =
-    let a = c .before .before .before .before .before .before .args in
+    let s = c .before .before .before .before .before in
+    let a = s .args in
     let e = entryAt (a .s .now) (a .index) (a .function) (a .at) in
-    let x : address e ≡ c .before .before .before .before .u64-at .result + c .before .before .before .u32-at .result =
-    here-address (a .s .now) (a .index) (a .function) (a .at) ∙ rw (c .before .before .before .before .u64-at .ensures, c .before .before .before .u32-at .ensures) in
-    (unlooked (a .keys .now) (a .count) e _ (not-below (a .keys .now) (a .count) (address e) (c .before .before .before .before .before .before .pre .6) (rw x (c .if2 .taken))), counted-more _ _ _ (omega arith) (c .before .before .before .before .before .before .pre .7))
+    let x : address e ≡ a .start + c .before .before .before .u32-at .result =
+    here-address (a .s .now) (a .index) (a .function) (a .at) ∙ rw (s .pre .0, c .before .before .before .u32-at .ensures) in
+    (unlooked (a .keys .now) (a .count) e _ (not-below (a .keys .now) (a .count) (address e) (s .pre .5) (rw x (c .if2 .taken))), counted-more _ _ _ (omega arith) (s .pre .6))
 
 sub-if3 : tie.Need-sub-if3
 sub-if3 c = search needs
@@ -63,11 +56,12 @@ element-copy-out-if3 c = search needs
 
 returns-3 : tie.Need-returns-3
 returns-3 c =
-    let a = c .before .before .before .before .before .before .before .before .args in
+    let s = c .before .before .before .before .before .before .before in
+    let a = s .args in
     let e = entryAt (a .s .now) (a .index) (a .function) (a .at) in
-    let x : address e ≡ c .before .before .before .before .before .before .u64-at .result + c .before .before .before .before .before .u32-at .result =
-    here-address (a .s .now) (a .index) (a .function) (a .at) ∙ rw (c .before .before .before .before .before .before .u64-at .ensures, c .before .before .before .before .before .u32-at .ensures) in
-    (unlooked (a .keys .now) (a .count) e _ (not-above (a .keys .now) (a .count) (address e) (c .before .before .before .before .before .before .before .before .pre .6) (rw x (c .if3 .taken))), counted-more _ _ _ (omega arith) (c .before .before .before .before .before .before .before .before .pre .7))
+    let x : address e ≡ a .start + c .before .before .before .before .before .u32-at .result =
+    here-address (a .s .now) (a .index) (a .function) (a .at) ∙ rw (s .pre .0, c .before .before .before .before .before .u32-at .ensures) in
+    (unlooked (a .keys .now) (a .count) e _ (not-above (a .keys .now) (a .count) (address e) (s .pre .5) (rw x (c .if3 .taken))), counted-more _ _ _ (omega arith) (s .pre .6))
 
 lower-bound-requires : tie.Need-lower-bound-requires
 lower-bound-requires c κs = search needs
@@ -83,49 +77,49 @@ hits-at-requires c κs = search needs
 
 note-requires : tie.Need-note-requires
 note-requires c κs =
-    let s = c .before .before .before .before .before .before .before .before .before .before .before .before .before .before .before in
-    (s .pre .0, s .pre .1, s .pre .2, rw (c .hits-at .ensures) (s .pre .7 .most _), s .pre .3)
+    let s = c .before .before .before .before .before .before .before .before .before .before .before .before .before .before in
+    (s .pre .0, s .pre .1, rw (c .hits-at .ensures) (s .pre .6 .most _), s .pre .2)
 
 store-requires : tie.Need-store-requires
 store-requires c κs = search needs
 
 returns-4 : tie.Need-returns-4
 returns-4 c =
-    let a = c .before .before .before .before .before .before .before .before .before .before .before .before .before .before .before .before .before .before .args in
+    let s = c .before .before .before .before .before .before .before .before .before .before .before .before .before .before .before .before .before in
+    let a = s .args in
     let e = entryAt (a .s .now) (a .index) (a .function) (a .at) in
-    let x : address e ≡ c .before .before .before .before .before .before .before .before .before .before .before .before .before .before .before .before .u64-at .result + c .before .before .before .before .before .before .before .before .before .before .before .before .before .before .before .u32-at .result =
-    here-address (a .s .now) (a .index) (a .function) (a .at) ∙ rw (c .before .before .before .before .before .before .before .before .before .before .before .before .before .before .before .before .u64-at .ensures, c .before .before .before .before .before .before .before .before .before .before .before .before .before .before .before .u32-at .ensures) in
+    let x : address e ≡ a .start + c .before .before .before .before .before .before .before .before .before .before .before .before .before .before .before .u32-at .result =
+    here-address (a .s .now) (a .index) (a .function) (a .at) ∙ rw (s .pre .0, c .before .before .before .before .before .before .before .before .before .before .before .before .before .before .before .u32-at .ensures) in
     let l : LowerBound (a .keys .now) (a .count) (address e) (c .before .before .before .before .before .before .before .before .lower-bound .result) = rw x (c .before .before .before .before .before .before .before .before .lower-bound .ensures) in (
       marked (a .keys .now) (a .count) e _ l _ _ (c .before .before .before .before .before .before .before .if4 .taken) (c .before .before .before .before .before .if5 .taken ∙ sym x)
           (rw (x, ← c .before .before .before .hits-at .ensures, ← c .before .before .note .ensures .0) (c .store .ensures)),
-      counted-stored _ _ _ _ _ (c .store .ensures) (c .before .before .note .ensures .1) (c .before .before .before .before .before .before .before .before .before .before .before .before .before .before .before .before .before .before .pre .7),
+      counted-stored _ _ _ _ _ (c .store .ensures) (c .before .before .note .ensures .1) (s .pre .6),
     )
 
 returns-5 : tie.Need-returns-5
 returns-5 c =
-    let a = c .before .before .before .before .before .before .before .before .before .before .before .before .before .args in
+    let s = c .before .before .before .before .before .before .before .before .before .before .before .before in
+    let a = s .args in
     let e = entryAt (a .s .now) (a .index) (a .function) (a .at) in
-    let x : address e ≡ c .before .before .before .before .before .before .before .before .before .before .before .u64-at .result + c .before .before .before .before .before .before .before .before .before .before .u32-at .result =
-    here-address (a .s .now) (a .index) (a .function) (a .at) ∙ rw (c .before .before .before .before .before .before .before .before .before .before .before .u64-at .ensures, c .before .before .before .before .before .before .before .before .before .before .u32-at .ensures) in
+    let x : address e ≡ a .start + c .before .before .before .before .before .before .before .before .before .before .u32-at .result =
+    here-address (a .s .now) (a .index) (a .function) (a .at) ∙ rw (s .pre .0, c .before .before .before .before .before .before .before .before .before .before .u32-at .ensures) in
     let l : LowerBound (a .keys .now) (a .count) (address e) (c .before .before .before .lower-bound .result) = rw x (c .before .before .before .lower-bound .ensures) in
-    (unmarked (a .keys .now) (a .count) e _ l _ (λ m q. c .if5 .left (q ∙ x)), counted-more _ _ _ (omega arith) (c .before .before .before .before .before .before .before .before .before .before .before .before .before .pre .7))
+    (unmarked (a .keys .now) (a .count) e _ l _ (λ m q. c .if5 .left (q ∙ x)), counted-more _ _ _ (omega arith) (s .pre .6))
 
 returns-6 : tie.Need-returns-6
 returns-6 c =
-    let a = c .before .before .before .before .before .before .before .before .before .before .before .args in
+    let s = c .before .before .before .before .before .before .before .before .before .before in
+    let a = s .args in
     let e = entryAt (a .s .now) (a .index) (a .function) (a .at) in
-    let x : address e ≡ c .before .before .before .before .before .before .before .before .before .u64-at .result + c .before .before .before .before .before .before .before .before .u32-at .result =
-    here-address (a .s .now) (a .index) (a .function) (a .at) ∙ rw (c .before .before .before .before .before .before .before .before .before .u64-at .ensures, c .before .before .before .before .before .before .before .before .u32-at .ensures) in
+    let x : address e ≡ a .start + c .before .before .before .before .before .before .before .before .u32-at .result =
+    here-address (a .s .now) (a .index) (a .function) (a .at) ∙ rw (s .pre .0, c .before .before .before .before .before .before .before .before .u32-at .ensures) in
     let l : LowerBound (a .keys .now) (a .count) (address e) (c .before .lower-bound .result) = rw x (c .before .lower-bound .ensures) in
-    (unmarked (a .keys .now) (a .count) e _ l _ (λ m q. omega (arith, c .if4 .left)), counted-more _ _ _ (omega arith) (c .before .before .before .before .before .before .before .before .before .before .before .pre .7))
+    (unmarked (a .keys .now) (a .count) e _ l _ (λ m q. omega (arith, c .if4 .left)), counted-more _ _ _ (omega arith) (s .pre .6))
 
 pub mark-spec : {M : Type 1} → statement M
 mark-spec =
     tie.close
     (tie.spec
-    mul-u64-at
-    add-u64-at
-    u64-at-requires
     add-u32-at
     u32-at-requires
     cast-offset
