@@ -1,6 +1,7 @@
 -- Document 01's worked table: what is asked, and what is answered.
 use Prim.Native.Nat.{ℕ, zero, suc}
 use mathlib.Core.Path.{_≡_}
+use mathlib.Core.Bool.{false}
 use mathlib.Core.List.{List, [], _∷_, _++_, map}
 use lib.ListN.{replicate}
 use Rattle.wire.specs.Word.{bytes}
@@ -70,6 +71,7 @@ atRSP o = record { kind = 3; size = 8; register = 7; offset = o }
 abbrev pub withPairs : List Location → Section
 withPairs ls =
     record {
+      old = false;
       functions = record { address = 0x1000; stackSize = 24; count = 1 } ∷ [];
       constants = [];
       records = record { id = 7; offset = 0x20; locations = zeroConstant ∷ zeroConstant ∷ zeroConstant ∷ ls; liveOuts = [] } ∷ [];
