@@ -22,7 +22,7 @@ use Rattle.listing.proofs.Items.{function-item-size, constant-item-size}
 use Rattle.listing.proofs.Listing.{listing-length as encoded-listing}
 use Rattle.listing.proofs.Writes.{give-short, give-all}
 use Rattle.lister.specs.Put.{Put}
-use Rattle.lister.specs.Shape.{poolAt, firstAt, Tabled}
+use Rattle.lister.specs.Shape.{firstAt, Tabled}
 use Rattle.lister.proofs.Puts.{put-join, put-long}
 use Rattle.lister.proofs.Passes.{inSection, inListing, records-shorter}
 
