@@ -86,7 +86,7 @@ unfolding splice
 splice-mid im a n v w e = rw (e, drop-drop n a im)
 
 -- a part that is left as it was leaves the image
-splice-same : (im : List ℕ) (a n : ℕ) → splice im a n (part im a n) ≡ im
+pub splice-same : (im : List ℕ) (a n : ℕ) → splice im a n (part im a n) ≡ im
 unfolding splice
 splice-same im a n = rw (← drop-drop n a im, take-append-drop n (drop a im), take-append-drop a im)
 

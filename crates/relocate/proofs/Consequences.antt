@@ -25,12 +25,13 @@ use Rattle.relocate.specs.Plan.{plan, stackSize}
 use Rattle.relocate.specs.Relocation.{answer, moved, OneRecord, Lists, newStart, newContent}
 use Rattle.relocate.specs.Consequences.{Untouched, Counts, KeepsDistance, AgreeOnSlots, OnlySlotsCount}
 use Rattle.relocate.proofs.Planned.{Planned, planned, window-pair, from-slots}
-use Rattle.relocate.proofs.Demand.{splice-back, demand3, accepts}
+use Rattle.moves.proofs.Splice.{splice-same}
+use Rattle.relocate.proofs.Demand.{demand3, accepts}
 
 untouched-plan : (table : ℕ → Option ℕ) (im : List ℕ) (p : Plan) → (says table im p .number ≡ 0 → ⊥) → leaves table im p ≡ im
 untouched-plan table im (refuse n q) h = refl
 untouched-plan table im (window off size ps) h =
-    rw (settle-refused table ps (part im off size) h) (splice-back im off size)
+    rw (settle-refused table ps (part im off size) h) (splice-same im off size)
 
 pub untouched : Untouched
 unfolding answer moved

@@ -5,20 +5,21 @@ use mathlib.Core.Logic.{_⊎_, inl, inr, ⊎-elim}
 use mathlib.Core.Option.{Option}
 use mathlib.Core.List.{List, [], _∷_, map, List·Memᴰ, Memᴰ·map, List·Memᴰ·head, List·Memᴰ·tail, List·Memᴰ·cases-cons, List·Permᴰ, List·Permᴰ·nil, List·Permᴰ·cons, List·Permᴰ·swap, List·Permᴰ·trans, Permᴰ·symm}
 use native.Mathlib.Omega.{arith}
-use lib.ListN.{length, getD, drop, take-append-drop}
-use lib.Seq.{drop-drop, ext-getD}
+use lib.ListN.{length, getD}
+use lib.Seq.{ext-getD}
 use Rattle.wire.specs.Word.{bytes}
 use Rattle.stackmap.specs.declared.Verdict.the-variants.{Valid}
 use Rattle.stackmap.specs.Section.{readSection}
 use Rattle.stackmap.specs.Check.{sectionCheck}
 use Rattle.moves.specs.declared.Move.{Move}
-use Rattle.moves.specs.Window.{In, part, splice}
+use Rattle.moves.specs.Window.{In, part}
 use Rattle.moves.specs.Table.{lookUp}
 use Rattle.moves.specs.Pointers.{Pointer, slots, newDerived}
 use Rattle.moves.specs.Pointers.{newContent as windowContent}
 use Rattle.moves.specs.Settle.{settled}
 use Rattle.moves.specs.Plan.{Plan, refuse, window, says, leaves}
 use Rattle.moves.proofs.Searches.{perm-mem}
+use Rattle.moves.proofs.Splice.{splice-same}
 use Rattle.moves.proofs.Words.{word-part}
 use Rattle.moves.proofs.Tasks.{Task, answerIn, after, runAnswers, runLeft, Separate, after-length, run-hit, run-miss}
 use Rattle.moves.proofs.Lists.{taskOf, windowTask, refusedTask, Sound, InWindow, task-good, separate, find, final-slot, final-rest}
@@ -41,11 +42,6 @@ content-part : (table : ℕ → Option ℕ) (im : List ℕ) (off n b d : ℕ) �
 unfolding windowContent
 content-part table im off n b d h k = rw (word-part 8 im off n b h, word-part 8 im off n d k)
 
--- a part put back where it was
-pub splice-back : (im : List ℕ) (a n : ℕ) → splice im a n (part im a n) ≡ im
-unfolding splice
-splice-back im a n = rw (← drop-drop n a im, take-append-drop n (drop a im)) (take-append-drop a im)
-
 -- a plan as a task of moves
 says-task : (table : ℕ → Option ℕ) (im : List ℕ) (p : Plan) → says table im p ≡ answerIn im (taskOf table p)
 unfolding windowTask refusedTask
@@ -54,7 +50,7 @@ says-task table im (window off size ps) = refl
 
 leaves-task : (table : ℕ → Option ℕ) (im : List ℕ) (p : Plan) → leaves table im p ≡ after im (taskOf table p)
 unfolding windowTask refusedTask after
-leaves-task table im (refuse n q) = sym (splice-back im 0 0)
+leaves-task table im (refuse n q) = sym (splice-same im 0 0)
 leaves-task table im (window off size ps) = refl
 
 module _ (s olds news : List ℕ) (first : ℕ) (e : ℕ) (k : sectionCheck s ≡ Valid e) where

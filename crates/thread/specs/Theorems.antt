@@ -2,7 +2,7 @@
 use Prim.Native.Nat.{ℕ, _+_}
 use mathlib.Core.Path.{_≡_}
 use mathlib.Core.Bool.{true}
-use mathlib.Core.List.{List, [], _∷_, map, List·Memᴰ, List·Permᴰ}
+use mathlib.Core.List.{List, [], _∷_, List·Memᴰ, List·Permᴰ}
 use lib.ListN.{length}
 use Rattle.stackmap.specs.Check.{Accepted}
 use Rattle.moves.specs.declared.Move.{Move}
@@ -28,7 +28,7 @@ abbrev pub total : List Move → ℕ
 total [] = 0
 total (m ∷ ms) = m .count + total ms
 
--- 1. A call is accepted exactly if its frames are movable.
+-- 1. A call is accepted only if its frames are movable; that it is then, is 2.
 abbrev pub AcceptedOnly : Type 0
 AcceptedOnly =
     (s olds news : List ℕ) (first : ℕ) (im ns : List ℕ)
