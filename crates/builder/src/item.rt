@@ -58,9 +58,9 @@ pub fn location(l: &[u8], at: usize, out: &mut [u8], to: usize)
     let size_and_register = wire::u32_at(l, at + numbers::LISTED_LOCATION_SIZE_AT);
     let offset = wire::u32_at(l, at + numbers::LISTED_LOCATION_OFFSET_AT);
     wire::put_u16(out, to, kind);
-    wire::put_u32(out, to + numbers::LOCATION_SIZE_AT, size_and_register);
-    wire::put_u16(out, to + numbers::LOCATION_ZEROS_AT, 0);
-    wire::put_u32(out, to + numbers::LOCATION_OFFSET_AT, offset);
+    wire::put_u32(out, to + layout::LOCATION_SIZE_AT, size_and_register);
+    wire::put_u16(out, to + layout::LOCATION_ZEROS_AT, 0);
+    wire::put_u32(out, to + layout::LOCATION_OFFSET_AT, offset);
 }
 
 // The live-out item at `at`: register, a zero, size.

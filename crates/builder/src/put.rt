@@ -67,7 +67,7 @@ fn locations(l: &[u8], at: usize, n: usize, out: &mut [u8], to: usize)
     while left > 0 {
         item::location(l, p, out, q);
         p += numbers::LOCATION_ITEM_SIZE;
-        q += numbers::LOCATION_SIZE;
+        q += layout::LOCATION_SIZE;
         left -= 1;
     }
 }
@@ -110,7 +110,7 @@ fn whole_record(l: &[u8], at: usize, shape: shape::Shape, out: &mut [u8], to: us
     let m = shape.outs;
     let first = at + numbers::RECORD_ITEM_SIZE;
     let next = first + numbers::LOCATION_ITEM_SIZE * n;
-    let pad = to + layout::RECORD_HEAD_SIZE + numbers::LOCATION_SIZE * n;
+    let pad = to + layout::RECORD_HEAD_SIZE + layout::LOCATION_SIZE * n;
     let end = pad + n % 2 * 4;
     let outs = end + layout::LIVE_OUTS_HEAD_SIZE;
     head(l, at, n, out, to);

@@ -1,4 +1,6 @@
 // One item of a listing, written from what stands in the section. Each function answers where the next item begins.
+// No entry point: each function requires that what it reads and writes is inside, as `to_listing` has shown before the first
+// write.
 ghost use mathlib.Core.Bool.{false};
 ghost use Prim.Native.Nat.{_+_, _≤_};
 ghost use lib.ListN.{length};
@@ -50,16 +52,16 @@ pub fn put_location(s: &[u8], at: usize, out: &mut [u8], to: usize) -> usize
 {
     out[to] = numbers::LOCATION_KIND;
     out[to + 1] = s[at];
-    wire::put_u16(out, to + 2, wire::u16_at(s, at + numbers::LOCATION_SIZE_AT));
+    wire::put_u16(out, to + 2, wire::u16_at(s, at + layout::LOCATION_SIZE_AT));
     wire::put_u16(
         out,
         to + 4,
-        wire::u16_at(s, at + numbers::LOCATION_REGISTER_AT),
+        wire::u16_at(s, at + layout::LOCATION_REGISTER_AT),
     );
     wire::put_u32(
         out,
         to + 6,
-        wire::u32_at(s, at + numbers::LOCATION_OFFSET_AT),
+        wire::u32_at(s, at + layout::LOCATION_OFFSET_AT),
     );
     to + numbers::LOCATION_ITEM_SIZE
 }

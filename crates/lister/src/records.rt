@@ -1,4 +1,5 @@
 // The records, each read from its own stretch of the section: how long they are in the listing, and their items.
+// No entry point: the section is accepted and the output long enough before these are called.
 ghost use mathlib.Core.Path.{_≡_};
 ghost use mathlib.Core.Bool.{false};
 ghost use Prim.Native.Nat.{_+_, _≤_};
@@ -30,7 +31,7 @@ fn record_shape(s: &[u8]) -> Shape
 {
     let locations = wire::u16_at(s, layout::NUM_LOCATIONS_AT) as usize;
     let end = layout::RECORD_HEAD_SIZE
-        + numbers::LOCATION_SIZE * locations
+        + layout::LOCATION_SIZE * locations
         + locations % 2 * PADDING_SIZE;
     let outs = wire::u16_at(s, end + layout::LIVE_OUTS_HEAD_ZEROS) as usize;
     let begin = end + layout::LIVE_OUTS_HEAD_SIZE;

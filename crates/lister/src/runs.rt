@@ -1,4 +1,6 @@
 // Runs of items of one kind. Each function answers where the next item begins.
+// No entry point: each function requires that what it reads and writes is inside, as `to_listing` has shown before the first
+// write.
 ghost use mathlib.Core.Bool.{false};
 ghost use Prim.Native.Nat.{_+_, _*_, _≤_};
 ghost use lib.ListN.{length};
@@ -9,7 +11,6 @@ ghost use Rattle.listing.specs.Layout.{functionItemSize, constantItemSize, loca
 ghost use Rattle.listing.specs.Listing.{functionItem, constantItem, locationItem, liveOutItem};
 ghost use Rattle.lister.specs.Put.{Put};
 use crate::items;
-use listing::numbers;
 use stackmap::layout;
 
 // The `count` functions from `at`.
@@ -54,7 +55,7 @@ pub fn put_locations(s: &[u8], at: usize, count: usize, out: &mut [u8], to: usiz
     let mut t = to;
     while locations > 0 {
         t = items::put_location(s, p, out, t);
-        p += numbers::LOCATION_SIZE;
+        p += layout::LOCATION_SIZE;
         locations -= 1;
     }
     t

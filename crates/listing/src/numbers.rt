@@ -49,17 +49,6 @@ pub const LISTED_LIVE_OUT_REGISTER_AT: usize = 1;
 
 pub const LISTED_LIVE_OUT_SIZE_AT: usize = 3;
 
-// A location in a section of version 3: its length, and where a field stands.
-pub const LOCATION_SIZE: usize = 12;
-
-pub const LOCATION_SIZE_AT: usize = 2;
-
-pub const LOCATION_REGISTER_AT: usize = 4;
-
-pub const LOCATION_ZEROS_AT: usize = 6;
-
-pub const LOCATION_OFFSET_AT: usize = 8;
-
 // The longest listing, and the most locations or live-outs in a record.
 pub const LISTING_MOST: usize = 33554432;
 

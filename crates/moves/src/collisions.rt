@@ -1,4 +1,5 @@
 // Refusal 20.
+// No entry point: the arrays hold so many pairs, and their slots are inside the window, as the caller has shown.
 ghost use mathlib.Core.Path.{_≡_};
 ghost use Prim.Native.Nat.{_+_, _≤_, _<_, _^_};
 ghost use Rattle.moves.specs.Limits.{pointerSize, pairsMost};

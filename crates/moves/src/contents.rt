@@ -1,4 +1,5 @@
 // Old bases looked up (refusal 21), and new contents.
+// No entry point: it requires a table that has passed 14, which is tested once for all pairs.
 ghost use mathlib.Core.Path.{_≡_};
 ghost use mathlib.Core.Bool.{true};
 ghost use Prim.Native.Nat.{_+_, _≤_, _<_};

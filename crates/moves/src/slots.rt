@@ -1,4 +1,5 @@
 // The slots of a window, read and written.
+// No entry point: it requires slots inside the window, which 19 has tested.
 ghost use mathlib.Core.Path.{_≡_};
 ghost use Prim.Native.Nat.{ℕ, _+_, _≤_, _<_};
 ghost use lib.ListN.{length, getD};

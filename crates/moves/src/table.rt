@@ -1,4 +1,5 @@
 // The move table: two lent lists of 64-bit numbers, old starts and new starts.
+// `look_up` is no entry point: it requires what `table_right` has tested once, so that it can search by halving.
 ghost use mathlib.Core.Path.{_≡_};
 ghost use mathlib.Core.Bool.{true};
 ghost use Rattle.moves.specs.Table.{rising, noZero, tableRight, lookUp};

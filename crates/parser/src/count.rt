@@ -1,4 +1,5 @@
 // How many items of each kind a listing has.
+// No entry point: `parse` calls it at places inside the listing, whose length 1 has tested.
 ghost use Prim.Native.Nat.{_≤_};
 ghost use lib.ListN.{length};
 ghost use Rattle.listing.specs.Layout.{listingMost};

@@ -1,4 +1,5 @@
 // The refusals that the built section would get, said of the listing's items: 6, 7 and 8. A place is one of the section.
+// No entry point: it requires a listing whose grammar 22 has passed.
 ghost use mathlib.Core.Path.{_≡_};
 ghost use mathlib.Core.Bool.{false};
 ghost use Prim.Native.Nat.{_+_, _*_, _≤_};
@@ -30,7 +31,7 @@ fn location(l: &[u8], at: usize, place: usize, constants: usize) -> Verdict
         return Verdict::Refused(6, place);
     }
     if kind != layout::KIND_CONST_INDEX {
-        return Verdict::Valid(place + numbers::LOCATION_SIZE);
+        return Verdict::Valid(place + layout::LOCATION_SIZE);
     }
     let index = wire::u32_at(l, at + numbers::LISTED_LOCATION_OFFSET_AT);
     if index >= layout::NEGATIVE_FROM {
@@ -39,7 +40,7 @@ fn location(l: &[u8], at: usize, place: usize, constants: usize) -> Verdict
     if index as usize >= constants {
         return Verdict::Refused(7, place);
     }
-    Verdict::Valid(place + numbers::LOCATION_SIZE)
+    Verdict::Valid(place + layout::LOCATION_SIZE)
 }
 
 // The `n` location items from `at`; the first is to stand at `place`.
@@ -55,7 +56,7 @@ fn locations(l: &[u8], at: usize, n: usize, place: usize, constants: usize) -> V
             return Verdict::Refused(number, refused);
         }
         p += numbers::LOCATION_ITEM_SIZE;
-        q += numbers::LOCATION_SIZE;
+        q += layout::LOCATION_SIZE;
         left -= 1;
     }
     Verdict::Valid(q)

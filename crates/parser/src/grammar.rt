@@ -1,4 +1,5 @@
 // The grammar of a listing: refusals 22 and 23.
+// No entry point: it requires the counts that the survey has made of this listing.
 ghost use mathlib.Core.Path.{_≡_};
 ghost use Prim.Native.Nat.{_≤_};
 ghost use lib.ListN.{length};

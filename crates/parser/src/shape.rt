@@ -46,6 +46,6 @@ pub fn record_size(shape: Shape) -> usize
 {
     let locations = shape.locations;
     let outs = shape.outs;
-    let end = layout::RECORD_HEAD_SIZE + numbers::LOCATION_SIZE * locations + locations % 2 * 4;
+    let end = layout::RECORD_HEAD_SIZE + layout::LOCATION_SIZE * locations + locations % 2 * 4;
     end + layout::LIVE_OUTS_HEAD_SIZE + layout::LIVE_OUT_SIZE * outs + (outs + 1) % 2 * 4
 }

@@ -1,4 +1,5 @@
 // The refusals that the built section would get, over the whole listing: 1, 5, and those of each record.
+// No entry point: it requires the plan that was made of this listing.
 ghost use mathlib.Core.Path.{_≡_};
 ghost use mathlib.Core.Bool.{false};
 ghost use Prim.Native.Nat.{_*_, _≤_, _<_};

@@ -1,4 +1,5 @@
 // The question by address.
+// `note` is no entry point: it serves the walks, which have checked the record that it reads.
 ghost use mathlib.Core.Path.{_≡_};
 ghost use Prim.Native.Nat.{_+_, _^_, _≤_, _<_};
 ghost use lib.ListN.{length};

@@ -1,4 +1,5 @@
 // The questions by record and location or live-out number.
+// `location_in` is no entry point: it requires a record that stands there, for callers that have found it.
 ghost use mathlib.Core.Path.{_≡_};
 ghost use Prim.Native.Nat.{ℕ, _+_, _≤_};
 ghost use lib.ListN.{length, drop, getElem?};
@@ -76,16 +77,16 @@ fn location_fields(s: &[u8], old: bool, at: usize) -> LocationWords
     if old {
         return LocationWords {
             kind: s[at],
-            size: wide(s[at + 1]),
-            register: wire::u16_at(s, at + 2),
-            offset: wire::u32_at(s, at + 4),
+            size: wide(s[at + layout::OLD_LOCATION_SIZE_AT]),
+            register: wire::u16_at(s, at + layout::OLD_LOCATION_REGISTER_AT),
+            offset: wire::u32_at(s, at + layout::OLD_LOCATION_OFFSET_AT),
         };
     }
     LocationWords {
         kind: s[at],
-        size: wire::u16_at(s, at + 2),
-        register: wire::u16_at(s, at + 4),
-        offset: wire::u32_at(s, at + 8),
+        size: wire::u16_at(s, at + layout::LOCATION_SIZE_AT),
+        register: wire::u16_at(s, at + layout::LOCATION_REGISTER_AT),
+        offset: wire::u32_at(s, at + layout::LOCATION_OFFSET_AT),
     }
 }
 

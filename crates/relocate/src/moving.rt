@@ -1,4 +1,5 @@
 // A move after the question by address, one stage of the plan a function. Where `write` is false the frame is only judged.
+// No entry point: each stage requires what the stages before it have tested.
 ghost use mathlib.Core.Path.{_≡_};
 ghost use mathlib.Core.Bool.{true, false};
 ghost use Prim.Native.Nat.{_+_, _≤_, _<_};

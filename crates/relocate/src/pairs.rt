@@ -1,5 +1,6 @@
 // The pairs of a statepoint: their form (refusal 18), their slots (refusal 19), and the arrays that a move takes. The record
 // stands at `at`, and a pair is given by its base's location number j; the first pair's is `start`.
+// No entry point: it requires a statepoint that stands there.
 ghost use mathlib.Core.Path.{_≡_};
 ghost use mathlib.Core.Bool.{true, not};
 ghost use Prim.Native.Nat.{ℕ, _+_, _*_, _≤_, _<_};

@@ -1,4 +1,5 @@
 // One location of a record, as the questions on a section answer it, for a record whose place is known.
+// No entry point: it requires a record that stands there.
 ghost use mathlib.Core.Path.{_≡_};
 ghost use Prim.Native.Nat.{_<_};
 ghost use lib.ListN.{drop};

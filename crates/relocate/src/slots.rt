@@ -1,4 +1,5 @@
 // One location as a constant or a slot.
+// No entry point: it requires an extent inside the image, which 16 has tested.
 ghost use mathlib.Core.Path.{_≡_};
 ghost use Prim.Native.Nat.{_≤_};
 ghost use Rattle.relocate.specs.Limits.{imageMost};

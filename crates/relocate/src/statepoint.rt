@@ -1,4 +1,5 @@
 // Statepoints (refusal 12), and where their pairs stand. The record stands at `at`.
+// No entry point: it requires a record that stands there.
 ghost use mathlib.Core.Path.{_≡_};
 ghost use mathlib.Core.Bool.{true};
 ghost use Prim.Native.Nat.{_≤_};

@@ -12,8 +12,10 @@ pub const NUM_CONSTANTS_AT: usize = 8;
 
 pub const NUM_RECORDS_AT: usize = 12;
 
-// Version 3's; that of version 1 has no record count.
+// A function; that of version 1 has no record count.
 pub const FUNCTION_SIZE: usize = 24;
+
+pub const OLD_FUNCTION_SIZE: usize = 16;
 
 pub const STACK_SIZE_AT: usize = 8;
 
@@ -22,6 +24,8 @@ pub const RECORD_COUNT_AT: usize = 16;
 pub const CONSTANT_SIZE: usize = 8;
 
 pub const VERSION: u8 = 3;
+
+pub const OLD_VERSION: u8 = 1;
 
 pub const SECTION_MOST: usize = 16777216;
 
@@ -39,6 +43,25 @@ pub const NUM_LOCATIONS_AT: usize = 14;
 pub const LIVE_OUTS_HEAD_ZEROS: usize = 2;
 
 pub const LIVE_OUTS_HEAD_SIZE: usize = 4;
+
+// A location, and that of version 1.
+pub const LOCATION_SIZE: usize = 12;
+
+pub const LOCATION_SIZE_AT: usize = 2;
+
+pub const LOCATION_REGISTER_AT: usize = 4;
+
+pub const LOCATION_ZEROS_AT: usize = 6;
+
+pub const LOCATION_OFFSET_AT: usize = 8;
+
+pub const OLD_LOCATION_SIZE: usize = 8;
+
+pub const OLD_LOCATION_SIZE_AT: usize = 1;
+
+pub const OLD_LOCATION_REGISTER_AT: usize = 2;
+
+pub const OLD_LOCATION_OFFSET_AT: usize = 4;
 
 pub const LIVE_OUT_SIZE: usize = 4;
 
@@ -62,18 +85,18 @@ pub fn function_size(old: bool) -> usize
     ensures { λ r. ⌜ (r ≡ functionSize old) × (r ≤ 24) ⌝ }
 {
     if old {
-        return 16;
+        return OLD_FUNCTION_SIZE;
     }
-    24
+    FUNCTION_SIZE
 }
 
 pub fn location_size(old: bool) -> usize
     ensures { λ r. ⌜ (r ≡ locationSize old) × (r ≤ 12) ⌝ }
 {
     if old {
-        return 8;
+        return OLD_LOCATION_SIZE;
     }
-    12
+    LOCATION_SIZE
 }
 
 // The padding after `count` locations.

@@ -1,4 +1,5 @@
 // The check of one record, which stands at the start of the slice.
+// `zero_bytes` is no entry point: it requires that its bytes are inside, which 1 or 4 has tested.
 ghost use mathlib.Core.Path.{_≡_};
 ghost use Prim.Native.Nat.{_+_, _*_, _≤_};
 ghost use lib.ListN.{length};
@@ -57,7 +58,14 @@ fn location(s: &[u8], old: bool, at: usize, constants: u32) -> Verdict
         return Verdict::Refused(6, at);
     }
     if old {
-        return pool(s, kind, at + 4, constants, at, at + 8);
+        return pool(
+            s,
+            kind,
+            at + layout::OLD_LOCATION_OFFSET_AT,
+            constants,
+            at,
+            at + layout::OLD_LOCATION_SIZE,
+        );
     }
     if s[at + 1] != 0 {
         return Verdict::Refused(3, at + 1);
@@ -68,7 +76,14 @@ fn location(s: &[u8], old: bool, at: usize, constants: u32) -> Verdict
     if s[at + 7] != 0 {
         return Verdict::Refused(3, at + 7);
     }
-    pool(s, kind, at + 8, constants, at, at + 12)
+    pool(
+        s,
+        kind,
+        at + layout::LOCATION_OFFSET_AT,
+        constants,
+        at,
+        at + layout::LOCATION_SIZE,
+    )
 }
 
 // The `count` locations from `at`.

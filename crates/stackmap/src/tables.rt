@@ -1,4 +1,5 @@
 // The header, the functions and the constants.
+// `is_old` is no entry point: it requires the header, which 1 has tested.
 ghost use mathlib.Core.Path.{_≡_};
 ghost use mathlib.Core.Bool.{false};
 ghost use Prim.Native.Nat.{_+_, _*_, _≤_};
@@ -53,7 +54,7 @@ pub fn is_old(s: &[u8]) -> bool
     requires { ⌜ headerSize ≤ length (now s) ⌝ }
     ensures { λ r. ⌜ r ≡ isOld (now (s .entry)) ⌝ }
 {
-    s[0] == 1
+    s[0] == layout::OLD_VERSION
 }
 
 fn tables(s: &[u8]) -> Verdict

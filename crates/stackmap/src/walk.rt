@@ -1,4 +1,5 @@
 // The walk over the records, each read from its own stretch of the section.
+// No entry point: it requires the tables to be inside and their counts to add up, which `tables::begin` has tested.
 ghost use mathlib.Core.Path.{_≡_};
 ghost use mathlib.Core.Bool.{false};
 ghost use Prim.Native.Nat.{_≤_, _<_};

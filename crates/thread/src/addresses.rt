@@ -1,4 +1,5 @@
 // The addresses of a list's frames, in order, with equal ones side by side.
+// No entry point: it requires a list that holds so many frames, which `list::count` ensures.
 ghost use Prim.Native.Nat.{_*_, _≤_};
 ghost use lib.ListN.{length};
 ghost use Rattle.thread.specs.Thread.{framesMost, frameNumbers};

@@ -1,5 +1,6 @@
 // Refusal 26: the first frame whose extent shares a byte with an earlier one's. The extents that are apart are kept in order, so that
 // a new one is compared with its two neighbours and not with all.
+// No entry point: it requires that every frame was accepted, so that each has an extent.
 ghost use mathlib.Core.Path.{_≡_};
 ghost use mathlib.Core.Bool.{cond};
 ghost use mathlib.Core.List.{[], map};

@@ -1,4 +1,5 @@
 // The frames of the list, one after another: all are judged before any is moved.
+// No entry point: it requires that 1 to 9, 13 and 14 have passed and the frames' records are found.
 ghost use mathlib.Core.Path.{_≡_};
 ghost use Prim.Native.Nat.{_<_};
 ghost use lib.ListN.{length};

@@ -1,4 +1,5 @@
 // The list of frames: three numbers a frame, address, RBP and RSP.
+// `frame_at` is no entry point: it requires a position in the list.
 ghost use mathlib.Core.Path.{_≡_};
 ghost use mathlib.Core.Bool.{true};
 ghost use Prim.Native.Nat.{_+_, _*_, _/_, _≤_};

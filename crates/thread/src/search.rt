@@ -1,5 +1,6 @@
 // The records of all addresses that are looked for, found in one walk over the section. The addresses are in order; of equal ones the
 // first stands for all.
+// No entry point: it requires addresses in order, as `addresses::gather` leaves them.
 ghost use mathlib.Core.Path.{_≡_};
 ghost use Prim.Native.Nat.{ℕ, _+_, _*_, _^_, _≤_, _<_};
 ghost use mathlib.Core.List.{List};
