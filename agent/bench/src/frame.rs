@@ -2,7 +2,7 @@
 //! one with as many pairs and as many moved objects as there can be.
 
 use crate::measure::{measure, say, table, Row};
-use crate::section::statepoint_with_pairs;
+use crate::section::{statepoint_with_pairs, STATEPOINT};
 use std::hint::black_box;
 use treskibben::{Frame, MoveTable};
 
@@ -23,8 +23,7 @@ const OBJECTS: u64 = 65_536;
 /// Moves of the small frame in one measured action: one alone takes too little time.
 const TIMES: usize = 20;
 
-/// The address of the small section's statepoint, and that of the image.
-const ADDRESS: u64 = 0x40_0010;
+/// The address of the image.
 const STACK: u64 = 0x7fff_0000_0000;
 
 /// A stack image and the frame on it. It can be moved again and again: each new start is an old start too.
@@ -85,7 +84,7 @@ impl Stack {
             image.extend([base, base + 24].map(u64::to_le_bytes).concat());
         }
         let section = statepoint_with_pairs(pairs);
-        Stack { section, image, olds, news, frame: Frame { address: ADDRESS, rbp: 0, rsp: STACK } }
+        Stack { section, image, olds, news, frame: Frame { address: STATEPOINT, rbp: 0, rsp: STACK } }
     }
 
     fn by_library(&mut self) {

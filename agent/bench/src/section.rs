@@ -134,7 +134,10 @@ impl Parts {
     }
 }
 
-/// A section of one statepoint, at 0x40_0010, with so many pairs of slots: RSP + 16 n, which is its own base and that
+/// The address of the record of `statepoint_with_pairs`.
+pub const STATEPOINT: u64 = 0x40_0010;
+
+/// A section of one statepoint, at `STATEPOINT`, with so many pairs of slots: RSP + 16 n, which is its own base and that
 /// of the slot behind it, in turn.
 pub fn statepoint_with_pairs(pairs: usize) -> Vec<u8> {
     let mut parts = Parts::default();

@@ -13,6 +13,9 @@ const ONE: &str = "thread of one frame";
 const RISING: &str = "thread of 4,096 frames, addresses rising";
 const FALLING: &str = "thread of 4,096 frames, addresses falling";
 const MIXED: &str = "thread of 4,096 frames, in any order";
+const EXTENTS_RISING: &str = "4,096 frames at one address, rising";
+const EXTENTS_FALLING: &str = "4,096 frames at one address, falling";
+const EXTENTS_MIXED: &str = "4,096 frames at one address, in any order";
 
 /// The ratios to reach to the check of the same section, for one frame and for all.
 const MOST_FOR_ONE: f64 = 1.3;
@@ -41,6 +44,30 @@ struct Stack {
 pub fn rows(rounds: usize, large: &[u8], limit: usize) {
     on(rounds, "the large section", large);
     on(rounds, "the section of short records", &section::short_records(limit, FRAMES));
+    extents(rounds);
+}
+
+/// What it costs to compare extents: frames of one word at one record, so that only the order of the extents differs. In
+/// rising order each is put after all others; in falling order all others go up by one.
+fn extents(rounds: usize) {
+    let bytes = section::statepoint_with_pairs(1);
+    let stack = Stack::at_one_record();
+    let [_, rising, falling, mixed] = stack.lists();
+    let action = |list| {
+        let (stack, bytes, mut image) = (&stack, &bytes, stack.image.clone());
+        move || {
+            black_box(stack.moved(bytes, list, &mut image));
+        }
+    };
+    let rows = measure(
+        rounds,
+        &mut [
+            (EXTENTS_RISING, &mut action(&rising)),
+            (EXTENTS_FALLING, &mut action(&falling)),
+            (EXTENTS_MIXED, &mut action(&mixed)),
+        ],
+    );
+    println!("\none record; {FRAMES} frames with one pair each\n\n{}", table(&rows, &[EXTENTS_RISING]));
 }
 
 fn on(rounds: usize, name: &str, bytes: &[u8]) {
@@ -93,6 +120,16 @@ impl Stack {
             bytes += size;
             pairs += own;
         }
+        Stack::of(frames, bytes, pairs)
+    }
+
+    /// Frames of one word, all at the record of a section with one pair.
+    fn at_one_record() -> Stack {
+        let frame = |nth| Frame { address: section::STATEPOINT, rbp: 0, rsp: STACK + WORD * nth };
+        Stack::of((0..FRAMES as u64).map(frame).collect(), WORD * FRAMES as u64, FRAMES)
+    }
+
+    fn of(frames: Vec<Frame>, bytes: u64, pairs: usize) -> Stack {
         let objects: Vec<u64> = (1..=OBJECTS).map(|nth| 0x10_0000 + 64 * nth).collect();
         let base = objects[OBJECTS as usize / 3];
         let image = (0..bytes / WORD).flat_map(|_| base.to_le_bytes()).collect();
@@ -138,9 +175,12 @@ mod tests {
     #[test]
     fn all_frames_can_be_moved_again_and_again() {
         let sections = [section::build(crate::LIMIT), section::short_records(1_000_000, FRAMES)];
+        let mut all = vec![(section::statepoint_with_pairs(1), Stack::at_one_record())];
         for bytes in sections {
             let Ok(read) = reference::section::read(&bytes) else { panic!("the section is refused") };
-            let stack = Stack::new(&read);
+            all.push((bytes, Stack::new(&read)));
+        }
+        for (bytes, stack) in all {
             assert!(stack.pairs >= FRAMES && stack.image.len() <= 1_048_576);
             for list in stack.lists() {
                 let numbers: Vec<u64> = list.iter().flat_map(|frame| [frame.address, frame.rbp, frame.rsp]).collect();
