@@ -185,14 +185,17 @@ unfolding bind must
 at-end (Valid e) n h = rw (eq-eqb e n (h e refl))
 at-end (Refused q p) n h = refl
 
--- 1, 2 and then 5, and then what is left
-finish : (a d b : Bool) (q : ℕ) (x y : Verdict) → (b ≡ true → x ≡ y)
-    → chain (must a 1 0 (must d 2 0 (Valid 4))) (chain (must b 5 12 (Valid q)) x) ≡ must a 1 0 (must d 2 0 (must b 5 12 y))
+-- 1 and then 5, and then what is left
+finish : (a b : Bool) (q : ℕ) (x y : Verdict) → (b ≡ true → x ≡ y)
+    → chain (must a 1 0 (Valid 4)) (chain (must b 5 12 (Valid q)) x) ≡ must a 1 0 (must b 5 12 y)
 unfolding chain must
-finish true true true q x y h = h refl
-finish true true false q x y h = refl
-finish true false b q x y h = refl
-finish false d b q x y h = refl
+finish true true q x y h = h refl
+finish true false q x y h = refl
+finish false b q x y h = refl
+
+version-right : (old : Bool) → versionRight (versionNumber old) ≡ true
+version-right true = refl
+version-right false = refl
 
 -- What is read of the functions of version 1 has no record counts, and nothing else in version 1 reads them.
 
@@ -328,6 +331,7 @@ module _ (t : Section) where
     check-back =
         let w = whats in
         let v : getD s 0 0 ≡ versionNumber (t .old) = sym (byte-word s 0) ∙ w .version in
+        let r : versionRight (getD s 0 0) ≡ true = rw v (version-right (t .old)) in
         let z = section-size in
         let l : 16 ≤ size (sectionFields t) = omega arith in
         let l₁ : 16 + functionSize (t .old) * nf ≤ size (sectionFields t) = omega arith in
@@ -335,8 +339,8 @@ module _ (t : Section) where
         rw (
           encoded-length,
           le-leb 16 _ l,
+          r,
           old-is,
-          v,
           zeros-back 3 s 1 (w .reserved),
           w .functions-num,
           w .constants-num,
@@ -347,4 +351,4 @@ module _ (t : Section) where
           le-leb _ _ l₁,
           le-leb _ _ l₂,
         )
-        (finish (leb (size (sectionFields t)) 16777216) (versionRight (versionNumber (t .old))) (countsRight (t .old) (t .functions) (length (t .records))) _ _ _ (λ e. rw (walk e) (at-end _ _ (entries-valid _ _ _ _))))
+        (finish (leb (size (sectionFields t)) 16777216) (countsRight (t .old) (t .functions) (length (t .records))) _ _ _ (λ e. rw (walk e) (at-end _ _ (entries-valid _ _ _ _))))

@@ -2,6 +2,7 @@
 use Prim.Native.Nat.{ℕ, zero, suc, _+_, _*_, _%_, _≤_}
 use mathlib.Core.Path.{_≡_, refl, sym, _∙_, ap}
 use mathlib.Core.Bool.{Bool, true, false}
+use mathlib.Core.Logic.{⊎-elim}
 use mathlib.Core.List.{List, [], _∷_, _++_, append-nil}
 use native.Mathlib.Omega.{arith}
 use native.Mathlib.Nat.{add-zero, zero-add, add-assoc}
@@ -17,6 +18,7 @@ use Rattle.stackmap.specs.Section.{functionFields, constantFields, locat
 use Rattle.stackmap.specs.Record.{zeros, locationZeros, locationCheck, locations, liveOuts, recordBytes, recordCheck}
 use Rattle.stackmap.specs.Check.{versionRight, headerCheck, tablesCheck, recordsCheck, walkCheck, sectionCheck}
 use Rattle.stackmap.specs.Fault.{sectionFault}
+use Rattle.stackmap.proofs.Tests.{or-true}
 use Rattle.stackmap.proofs.Verdicts.{must-held, must-rest, chain-first, chain-rest, bind-first, shift-valid}
 use Rattle.stackmap.proofs.Fields.{Has, HasFrom, join, many-has, length-many, has-bytes, has-fit, size-append, size-many}
 use Rattle.stackmap.proofs.Items.{byte-word, function-size, constant-size, location-size, live-out-size}
@@ -41,8 +43,8 @@ zero-words s a b e h k = let z : getD s (a + 1) 0 ≡ 0 = rw (← e) k in omega 
 -- the version, as the header states it
 version : (s : List ℕ) → versionRight (getD s 0 0) ≡ true → word 1 s 0 ≡ versionNumber (isOld s)
 version s h =
-    let e : getD s 0 0 ≡ 3 = eqb-true _ _ h in
-    byte-word s 0 ∙ rw e
+    byte-word s 0
+    ∙ ⊎-elim (λ n. let e : getD s 0 0 ≡ 3 = eqb-true _ _ n in rw e) (λ o. let e : getD s 0 0 ≡ 1 = eqb-true _ _ o in rw e) (or-true _ _ h)
 
 -- Items.
 

@@ -15,7 +15,7 @@ use Rattle.stackmap.specs.Verdict.{must, chain, pick, shift}
 use Rattle.stackmap.specs.Fields.{Field, bytesOf, size, many}
 use Rattle.stackmap.specs.Section.{Function, Location, Section, numFunctions, isOld, readFunction, readFunctions, recordFields, sectionFields, encodeSection, Encodable, readSection, Entry, entriesOf}
 use Rattle.stackmap.specs.Record.{poolCheck}
-use Rattle.stackmap.specs.Check.{versionRight, headerCheck, sectionCheck}
+use Rattle.stackmap.specs.Check.{sectionCheck}
 use Rattle.stackmap.specs.Fault.{locationFault, locationsFault, entryFault, entriesFault, sectionFault, GoodLocation, GoodEntry, WellFormed}
 use Rattle.stackmap.specs.Laws.{OneToOne, BuiltRefusal}
 use Rattle.stackmap.proofs.Verdicts.{must-held, must-rest, chain-first, chain-rest, shift-valid}
@@ -91,38 +91,20 @@ module _ (old : Bool) (c : ℕ) where
 pub well-valid : (t : Section) → WellFormed t → sectionFault t ≡ Valid (size (sectionFields t))
 unfolding sectionFault must
 well-valid t w =
-    rw (le-leb _ _ (w .small), w .version-right, w .adds-up, good-entries (t .old) (length (t .constants)) (entriesOf t) (size (sectionFields t)) (w .entries-good))
+    rw (le-leb _ _ (w .small), w .adds-up, good-entries (t .old) (length (t .constants)) (entriesOf t) (size (sectionFields t)) (w .entries-good))
 
 pub valid-well : (t : Section) (n : ℕ) → Encodable t → (t .old ≡ true → (f : Function) → List·Memᴰ f (t .functions) → f .count ≡ 0)
     → sectionFault t ≡ Valid n → WellFormed t
 unfolding sectionFault
 valid-well t n f none h =
     let h₁ = must-rest _ _ _ _ _ h in
-    let h₂ = must-rest _ _ _ _ _ h₁ in
     record {
       fits = f;
       small = leb-true _ _ (must-held _ _ _ _ _ h);
-      version-right = must-held _ _ _ _ _ h₁;
-      adds-up = must-held _ _ _ _ _ h₂;
+      adds-up = must-held _ _ _ _ _ h₁;
       no-counts = none;
-      entries-good = valid-entries _ _ _ _ n (must-rest _ _ _ _ _ h₂);
+      entries-good = valid-entries _ _ _ _ n (must-rest _ _ _ _ _ h₁);
     }
-
--- what is accepted is of version 3
-
-new-right : (old : Bool) → versionRight (versionNumber old) ≡ true → old ≡ false
-new-right true h = absurd (true≢false (sym h))
-new-right false h = refl
-
-pub well-new : (t : Section) → WellFormed t → t .old ≡ false
-well-new t w = new-right (t .old) (w .version-right)
-
-pub accepted-new : (s : List ℕ) (e : ℕ) → sectionCheck s ≡ Valid e → isOld s ≡ false
-unfolding sectionCheck headerCheck
-accepted-new s e k =
-    let h = must-rest _ _ _ _ _ (must-rest _ _ _ _ _ (chain-first _ _ _ k .1)) in
-    let v : getD s 0 0 ≡ 3 = eqb-true _ _ (must-held _ _ _ _ _ h) in
-    rw v
 
 -- the functions that are read of version 1 have no record counts
 no-count : (n : ℕ) (s : List ℕ) (at : ℕ) (f : Function) → List·Memᴰ f (many (readFunction true) (functionSize true) n s at) → f .count ≡ 0

@@ -2,7 +2,7 @@
 -- record, and 9 last.
 use Prim.Native.Nat.{ℕ, _+_, _*_, _-_, _/_}
 use mathlib.Core.Path.{_≡_}
-use mathlib.Core.Bool.{Bool, true, false}
+use mathlib.Core.Bool.{Bool, true, false, _||_}
 use mathlib.Core.List.{List, [], _∷_}
 use lib.ListN.{length, getD, drop}
 use lib.Dec.{leb, eqb}
@@ -13,9 +13,9 @@ use Rattle.stackmap.specs.Verdict.{must, chain, bind, shift}
 use Rattle.stackmap.specs.Section.{Function, numConstants, numRecords, isOld, constantsAt, recordsAt, readFunctions, Owner, recordOwners, counted}
 use Rattle.stackmap.specs.Record.{zeros, recordCheck}
 
--- 2: the version is 3
+-- 2: the version is 3 or 1
 abbrev pub versionRight : ℕ → Bool
-versionRight b = eqb b (versionNumber false)
+versionRight b = eqb b (versionNumber false) || eqb b (versionNumber true)
 
 -- 1, 2, 3: the bytes of the header
 unfoldable pub headerCheck : List ℕ → Verdict

@@ -1,4 +1,4 @@
--- The refusal of a section's bytes, said of the section as data: 1, 2, 5, 8, 6 or 7, or its length. These are the refusals that
+-- The refusal of a section's bytes, said of the section as data: 1, 5, 8, 6 or 7, or its length. These are the refusals that
 -- bytes written from data can get. A place in a record is counted from the record's first byte.
 use Prim.Native.Nat.{ℕ, _+_, _≤_, _<_}
 use mathlib.Core.Path.{_≡_}
@@ -8,12 +8,12 @@ use lib.ListN.{length}
 use lib.Dec.{leb}
 use Rattle.stackmap.specs.declared.Verdict.{Verdict}
 use Rattle.stackmap.specs.declared.Verdict.the-variants.{Valid}
-use Rattle.stackmap.specs.Layout.{versionNumber, sectionMost, addressMost, negativeFrom, recordHeadSize, locationSize, kindLeast, kindMost, kindConstIndex, numRecordsAt}
+use Rattle.stackmap.specs.Layout.{sectionMost, addressMost, negativeFrom, recordHeadSize, locationSize, kindLeast, kindMost, kindConstIndex, numRecordsAt}
 use Rattle.stackmap.specs.Verdict.{must, chain, shift}
 use Rattle.stackmap.specs.Fields.{size}
 use Rattle.stackmap.specs.Section.{Function, Location, Section, recordFields, sectionFields, Encodable, Entry, address, entriesOf}
 use Rattle.stackmap.specs.Record.{poolCheck}
-use Rattle.stackmap.specs.Check.{versionRight, countsRight}
+use Rattle.stackmap.specs.Check.{countsRight}
 
 unfoldable pub locationFault : Bool → ℕ → Location → ℕ → Verdict
 locationFault old constants l at =
@@ -39,9 +39,8 @@ entriesFault old constants (e ∷ es) end =
 unfoldable pub sectionFault : Section → Verdict
 sectionFault t =
     must (leb (size (sectionFields t)) sectionMost) 1 0
-    (must (versionRight (versionNumber (t .old))) 2 0
     (must (countsRight (t .old) (t .functions) (length (t .records))) 5 numRecordsAt
-    (entriesFault (t .old) (length (t .constants)) (entriesOf t) (size (sectionFields t)))))
+    (entriesFault (t .old) (length (t .constants)) (entriesOf t) (size (sectionFields t))))
 
 -- What an accepted section's data is.
 
@@ -58,7 +57,6 @@ pub record GoodEntry (constants : ℕ) (e : Entry) : Type 0 where
 pub record WellFormed (t : Section) : Type 0 where
   pub fits : Encodable t
   pub small : size (sectionFields t) ≤ sectionMost
-  pub version-right : versionRight (versionNumber (t .old)) ≡ true
   pub adds-up : countsRight (t .old) (t .functions) (length (t .records)) ≡ true
   -- version 1 states no record counts
   pub no-counts : t .old ≡ true → (f : Function) → List·Memᴰ f (t .functions) → f .count ≡ 0

@@ -9,10 +9,20 @@ ghost use Rattle.stackmap.specs.Layout.{headerSize, functionSize};
 ghost use Rattle.stackmap.specs.Fields.{many};
 ghost use Rattle.stackmap.specs.Section.{isOld, readFunction, counted};
 ghost use Rattle.stackmap.specs.Verdict.{chain};
-ghost use Rattle.stackmap.specs.Check.{headerCheck, tablesCheck};
+ghost use Rattle.stackmap.specs.Check.{versionRight, headerCheck, tablesCheck};
 use crate::Verdict;
 use crate::layout;
 use crate::record;
+
+// The test of refusal 2.
+fn version_right(version: u8) -> bool
+    ensures { λ r. ⌜ r ≡ versionRight version ⌝ }
+{
+    if version == layout::VERSION {
+        return true;
+    }
+    version == layout::OLD_VERSION
+}
 
 fn header(s: &[u8]) -> Verdict
     ensures { λ r. ⌜ r ≡ headerCheck (now (s .entry)) ⌝ }
@@ -23,10 +33,10 @@ fn header(s: &[u8]) -> Verdict
     if s.len() > layout::SECTION_MOST {
         return Verdict::Refused(1, 0);
     }
-    if s[0] != layout::VERSION {
-        return Verdict::Refused(2, 0);
+    if version_right(s[0]) {
+        return record::zero_bytes(s, 1, 3);
     }
-    record::zero_bytes(s, 1, 3)
+    Verdict::Refused(2, 0)
 }
 
 // Whether the record counts of the first `functions` functions add up to `total`, exactly.
