@@ -1,4 +1,4 @@
-// Standard input, a section of at most 57,344 bytes, to its listing's raw bytes on standard output, or the line that
+// Standard input, a section of at most 40,960 bytes, to its listing's raw bytes on standard output, or the line that
 // says its refusal. All that matters is in the library `program`.
 fn main() {
     let mut input = io::large_buffer();

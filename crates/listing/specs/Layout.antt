@@ -43,6 +43,13 @@ endKind = 6
 abbrev pub endItemSize : ℕ
 endItemSize = 1
 
+-- 7 version (1): a listing of version 1 begins with it, and one of version 3 has none
+abbrev pub versionKind : ℕ
+versionKind = 7
+
+abbrev pub versionItemSize : ℕ
+versionItemSize = 2
+
 -- a listing's length
 abbrev pub listingMost : ℕ
 listingMost = 33554432
@@ -50,3 +57,7 @@ listingMost = 33554432
 -- locations or live-outs in a record
 abbrev pub itemsMost : ℕ
 itemsMost = 65535
+
+-- a location's size in version 1
+abbrev pub oldSizeMost : ℕ
+oldSizeMost = 255

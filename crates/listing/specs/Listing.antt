@@ -1,4 +1,5 @@
--- The listing, in the words and order of document 01, "The listing".
+-- The listing, in the words and order of document 01, "The listing", and of document 02, request 2. Where the versions differ, `old` is
+-- true for version 1.
 use Prim.Native.Nat.{ℕ, zero, suc, _+_, _*_}
 use mathlib.Core.List.{List, [], _∷_, _++_}
 use mathlib.Core.Bool.{Bool, true, false, _&&_}
@@ -7,9 +8,10 @@ use lib.Dec.{leb, eqb}
 use Rattle.wire.specs.Word.{word}
 use Rattle.stackmap.specs.Check.{sectionCheck}
 use Rattle.stackmap.specs.Fields.{size, Field, _of_, all, bytesOf, many}
-use Rattle.listing.specs.Layout.{listingMost, itemsMost, functionKind, constantKind, recordKind, locationKind, liveOutKind, endKind, functionItemSize, constantItemSize, recordItemSize, locationItemSize, liveOutItemSize, endItemSize}
+use Rattle.listing.specs.Layout.{listingMost, itemsMost, oldSizeMost, versionKind, versionItemSize, functionKind, constantKind, recordKind, locationKind, liveOutKind, endKind, functionItemSize, constantItemSize, recordItemSize, locationItemSize, liveOutItemSize, endItemSize}
 use Rattle.stackmap.specs.Section.{Function, LiveOut, Location, Record, Section, encodeSection, readSection}
-use Rattle.stackmap.specs.Verdict.{chain, must}
+use Rattle.stackmap.specs.Layout.{versionNumber}
+use Rattle.stackmap.specs.Verdict.{chain, must, shift}
 use Rattle.stackmap.specs.declared.Verdict.{Verdict}
 use Rattle.stackmap.specs.declared.Verdict.the-variants.{Valid, Refused}
 
@@ -42,10 +44,18 @@ endItem = (1 of endKind) ∷ []
 unfoldable pub recordItems : Record → List Field
 recordItems r = recordItem r ++ (all locationItem (r .locations) ++ all liveOutItem (r .liveOuts))
 
+-- 7 version (1): a listing of version 1 begins with it
+unfoldable pub versionItem : Bool → List Field
+versionItem true = (1 of versionKind) ∷ (1 of versionNumber true) ∷ []
+versionItem false = []
+
 -- functions, then constants, then each record with its locations and then its live-outs, then one end and nothing after it
-unfoldable pub listingFields : Section → List Field
-listingFields t =
+unfoldable pub itemFields : Section → List Field
+itemFields t =
     all functionItem (t .functions) ++ (all constantItem (t .constants) ++ (all recordItems (t .records) ++ endItem))
+
+unfoldable pub listingFields : Section → List Field
+listingFields t = versionItem (t .old) ++ itemFields t
 
 unfoldable pub encodeListing : Section → List ℕ
 encodeListing t = bytesOf (listingFields t)
@@ -74,8 +84,9 @@ listedLocation l at =
 unfoldable pub listedLiveOut : List ℕ → ℕ → LiveOut
 listedLiveOut l at = record { register = word 2 l (at + 1); size = word 1 l (at + 3) }
 
--- the record item at `at`, with the locations and the live-outs after it
+-- The items after the version's.
 module _ (l : List ℕ) where
+  -- the record item at `at`, with the locations and the live-outs after it
   abbrev pub listedLocations : ℕ → ℕ
   listedLocations at = run locationKind locationItemSize (length l) l (at + recordItemSize)
 
@@ -115,11 +126,10 @@ module _ (l : List ℕ) where
   abbrev pub recordsBegin : ℕ
   recordsBegin = functionItemSize * functionsListed + constantItemSize * constantsListed
 
-  -- a section of version 3
-  unfoldable pub readListing : Section
-  readListing =
+  unfoldable pub readItems : Bool → Section
+  readItems old =
       record {
-        old = false;
+        old = old;
         functions = many listedFunction functionItemSize functionsListed l 0;
         constants = many listedConstant constantItemSize constantsListed l (functionItemSize * functionsListed);
         records = listedRecords (length l) recordsBegin;
@@ -129,18 +139,59 @@ module _ (l : List ℕ) where
   unfoldable pub itemsStop : ℕ
   itemsStop = recordsStop (length l) recordsBegin
 
+-- whether a listing begins with the item of version 1; any other item 7 breaks the grammar, as no rule lets it stand
+unfoldable pub listedOld : List ℕ → Bool
+listedOld l = stands versionKind versionItemSize l 0 && eqb (getD l 1 0) (versionNumber true)
+
+-- the bytes of the version's item
+abbrev pub versionLength : Bool → ℕ
+versionLength true = versionItemSize
+versionLength false = 0
+
+-- the items after it
+abbrev pub itemsOf : List ℕ → List ℕ
+itemsOf l = drop (versionLength (listedOld l)) l
+
+unfoldable pub readListing : List ℕ → Section
+readListing l = readItems (itemsOf l) (listedOld l)
+
 -- 23, at the record item
 unfoldable pub notTooMany : List Record → ℕ → Verdict
 notTooMany [] at = Valid at
 notTooMany (r ∷ rs) at =
     must (leb (length (r .locations)) itemsMost && leb (length (r .liveOuts)) itemsMost) 23 at (notTooMany rs (at + size (recordItems r)))
 
+-- 28 in version 1, at the item: record counts must be 0, and sizes at most 255
+
+unfoldable pub noCounts : List Function → ℕ → Verdict
+noCounts [] at = Valid at
+noCounts (f ∷ fs) at = must (eqb (f .count) 0) 28 at (noCounts fs (at + functionItemSize))
+
+unfoldable pub smallSizes : List Location → ℕ → Verdict
+smallSizes [] at = Valid at
+smallSizes (l ∷ ls) at = must (leb (l .size) oldSizeMost) 28 at (smallSizes ls (at + locationItemSize))
+
+unfoldable pub allSmallSizes : List Record → ℕ → Verdict
+allSmallSizes [] at = Valid at
+allSmallSizes (r ∷ rs) at = chain (smallSizes (r .locations) (at + recordItemSize)) (allSmallSizes rs (at + size (recordItems r)))
+
+unfoldable pub oldRight : Bool → List Function → List Record → ℕ → Verdict
+oldRight true fs rs at = chain (noCounts fs 0) (allSmallSizes rs at)
+oldRight false fs rs at = Valid at
+
+-- the items after the version's: 22, 23, 28
+unfoldable pub itemsCheck : Bool → List ℕ → Verdict
+itemsCheck old l =
+    must (stands endKind endItemSize l (itemsStop l)) 22 (itemsStop l)
+    (must (eqb (itemsStop l + endItemSize) (length l)) 22 (itemsStop l + endItemSize)
+    (chain (notTooMany (readItems l old .records) (recordsBegin l))
+    (chain (oldRight old (readItems l old .functions) (readItems l old .records) (recordsBegin l))
+    (Valid (length l)))))
+
+-- a place counts from the listing's first byte
 unfoldable pub listingCheck : List ℕ → Verdict
 listingCheck l =
-    must (leb (length l) listingMost) 1 0
-    (must (stands endKind endItemSize l (itemsStop l)) 22 (itemsStop l)
-    (must (eqb (itemsStop l + endItemSize) (length l)) 22 (itemsStop l + endItemSize)
-    (chain (notTooMany (readListing l .records) (recordsBegin l)) (Valid (length l)))))
+    must (leb (length l) listingMost) 1 0 (shift (versionLength (listedOld l)) (itemsCheck (listedOld l) (itemsOf l)))
 
 -- The conversions.
 
@@ -164,7 +215,7 @@ give (Valid e) result out =
 unfoldable pub toListing : List ℕ → List ℕ → Converted
 toListing s out = give (sectionCheck s) (encodeListing (readSection s)) out
 
--- 1, 22, 23, then the refusal the built section would get, at its place there, then 24
+-- 1, 22, 23, 28, then the refusal the built section would get, at its place there, then 24
 unfoldable pub toSection : List ℕ → List ℕ → Converted
 toSection l out =
     give (chain (listingCheck l) (sectionCheck (encodeSection (readListing l)))) (encodeSection (readListing l)) out

@@ -1,26 +1,30 @@
 -- Demand 2: section to listing to section, or listing to section to listing, gives the same bytes for all that is accepted.
 use Prim.Native.Nat.{ℕ, _≤_}
 use mathlib.Core.Path.{_≡_}
-use mathlib.Core.Bool.{false}
-use mathlib.Core.List.{List}
+use mathlib.Core.Bool.{true}
+use mathlib.Core.List.{List, List·Memᴰ}
 use lib.ListN.{length, take}
 use Rattle.stackmap.specs.declared.Verdict.the-variants.{Valid}
 use Rattle.wire.specs.Word.{Bytes}
 use Rattle.listing.specs.Layout.{listingMost}
-use Rattle.stackmap.specs.Section.{Encodable, Section}
+use Rattle.stackmap.specs.Section.{Encodable, Function, Section}
 use Rattle.listing.specs.Listing.{encodeListing, readListing, listingCheck, Converted, give, toListing, toSection}
 
--- accepted listings and sections of version 3 whose numbers fit correspond one to one
+-- version 1 states no record counts
+abbrev pub NoCounts : Section → Type 0
+NoCounts t = t .old ≡ true → (f : Function) → List·Memᴰ f (t .functions) → f .count ≡ 0
+
+-- accepted listings and sections whose numbers fit correspond one to one, over both versions
 abbrev pub AcceptedListing : List ℕ → Type 0
 AcceptedListing l = listingCheck l ≡ Valid (length l)
 
 pub record ListingOneToOne : Type 0 where
-  pub read-new : (l : List ℕ) → readListing l .old ≡ false
   pub read-fits : (l : List ℕ) → Bytes l → AcceptedListing l → Encodable (readListing l)
+  pub read-no-counts : (l : List ℕ) → AcceptedListing l → NoCounts (readListing l)
   pub encode-read : (l : List ℕ) → Bytes l → AcceptedListing l → encodeListing (readListing l) ≡ l
   pub encode-bytes : (t : Section) → Bytes (encodeListing t)
-  pub encode-accepted : (t : Section) → t .old ≡ false → Encodable t → length (encodeListing t) ≤ listingMost → AcceptedListing (encodeListing t)
-  pub read-encode : (t : Section) → t .old ≡ false → Encodable t → readListing (encodeListing t) ≡ t
+  pub encode-accepted : (t : Section) → Encodable t → NoCounts t → length (encodeListing t) ≤ listingMost → AcceptedListing (encodeListing t)
+  pub read-encode : (t : Section) → Encodable t → NoCounts t → readListing (encodeListing t) ≡ t
 
 -- the bytes that a conversion wrote
 unfoldable pub result : Converted → List ℕ

@@ -13,6 +13,8 @@ pub const LIVE_OUT_KIND: u8 = 5;
 
 pub const END_KIND: u8 = 6;
 
+pub const VERSION_KIND: u8 = 7;
+
 // The length of an item, with the byte of its kind.
 pub const FUNCTION_ITEM_SIZE: usize = 25;
 
@@ -25,6 +27,8 @@ pub const LOCATION_ITEM_SIZE: usize = 10;
 pub const LIVE_OUT_ITEM_SIZE: usize = 4;
 
 pub const END_ITEM_SIZE: usize = 1;
+
+pub const VERSION_ITEM_SIZE: usize = 2;
 
 // Where a field stands in its item.
 pub const LISTED_ADDRESS_AT: usize = 1;
@@ -53,3 +57,6 @@ pub const LISTED_LIVE_OUT_SIZE_AT: usize = 3;
 pub const LISTING_MOST: usize = 33554432;
 
 pub const ITEMS_MOST: usize = 65535;
+
+// The largest size of a location of version 1.
+pub const OLD_SIZE_MOST: u16 = 255;

@@ -13,7 +13,7 @@ use Rattle.program.specs.Line.{line}
 
 -- the longest section that it reads
 abbrev pub inputMost : ℕ
-inputMost = 57344
+inputMost = 40960
 
 -- room for any of its outputs
 abbrev pub outputRoom : ℕ

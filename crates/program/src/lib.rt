@@ -7,7 +7,7 @@ ghost use Rattle.program.specs.Line.{digits, line};
 ghost use Rattle.program.specs.Program.{written, outputRoom};
 
 // The longest section that the program reads.
-const INPUT_MOST: usize = 57344;
+const INPUT_MOST: usize = 40960;
 
 // Writes a text at a place, and gives the place after it.
 fn put_text(out: &mut [u8], at: usize, text: &[u8]) -> usize
