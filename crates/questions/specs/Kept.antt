@@ -1,11 +1,15 @@
--- What a walk keeps of the entries that it has passed, to answer a question in one pass.
+-- What a walk keeps of the entries that it has passed, to answer a question in one pass; and what one search tells in both versions.
 use Prim.Native.Nat.{ℕ, suc}
-use mathlib.Core.Bool.{Bool, cond}
+use mathlib.Core.Bool.{Bool, cond, not, _&&_}
+use mathlib.Core.List.{List}
 use lib.Dec.{eqb}
 use Rattle.stackmap.specs.Fields.{size}
-use Rattle.stackmap.specs.Section.{recordFields, Entry, address}
+use Rattle.stackmap.specs.Section.{recordFields, Entry, address, entries}
+use Rattle.stackmap.specs.Check.{sectionCheck}
+use Rattle.questions.specs.declared.Found.{Found}
 use Rattle.questions.specs.declared.Hits.{Hits}
 use Rattle.questions.specs.declared.Stretch.{Stretch}
+use Rattle.questions.specs.Questions.{ask, withAddress, notFound, firstOf}
 
 -- the first entry with the address, and how many there were
 abbrev pub noHits : Hits
@@ -18,6 +22,14 @@ hit e h =
 
 unfoldable pub noted : ℕ → Entry → Hits → Hits
 noted a e h = cond (eqb (address e) a) (hit e h) h
+
+-- what a search gives for an address in version 3, and for an offset in version 1
+unfoldable pub searched : List ℕ → ℕ → Found
+searched s a = ask notFound (firstOf (withAddress a (entries s))) (sectionCheck s)
+
+-- it is the section's own refusal: neither found nor 10
+unfoldable pub ofSection : Found → Bool
+ofSection r = not (eqb (r .number) 0) && not (eqb (r .number) 10)
 
 -- where the entry with the number stands; its length is 0 while it has not been passed, for no record is empty
 abbrev pub noStretch : Stretch

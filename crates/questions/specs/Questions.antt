@@ -1,6 +1,6 @@
 -- Questions on a section, in the words and order of document 01. Each is a short function of the list of entries.
 use Prim.Native.Nat.{ℕ, _+_, _-_, _^_}
-use mathlib.Core.Bool.{Bool, cond}
+use mathlib.Core.Bool.{Bool, true, false, cond}
 use mathlib.Core.Option.{Option, none, some}
 use mathlib.Core.List.{List, [], _∷_}
 use lib.ListN.{length, getD, take, drop, getElem?}
@@ -9,7 +9,7 @@ use Rattle.stackmap.specs.declared.Verdict.{Verdict}
 use Rattle.stackmap.specs.declared.Verdict.the-variants.{Valid, Refused}
 use Rattle.stackmap.specs.Layout.{negativeFrom}
 use Rattle.stackmap.specs.Fields.{size}
-use Rattle.stackmap.specs.Section.{Location, LiveOut, recordFields, isOld, readSection, Entry, address, entries}
+use Rattle.stackmap.specs.Section.{Function, Location, LiveOut, Owner, recordFields, isOld, readSection, Entry, address, entries}
 use Rattle.stackmap.specs.Check.{sectionCheck}
 use Rattle.questions.specs.declared.Found.{Found}
 use Rattle.questions.specs.declared.Located.{Located}
@@ -48,8 +48,29 @@ firstOf (e ∷ es) =
       first = e .first;
     }
 
+-- 27 on version 1, which does not say which function owns a record
 unfoldable pub byAddress : List ℕ → ℕ → Found
-byAddress s a = ask notFound (firstOf (withAddress a (entries s))) (sectionCheck s)
+byAddress s a = ask notFound (cond (isOld s) (notFound 27 0) (firstOf (withAddress a (entries s)))) (sectionCheck s)
+
+-- By function number and offset, of version 1: 10 if there is no such function or record; 27 on version 3.
+
+-- records, as those of one owner
+unfoldable pub ownedBy : Owner → List Entry → List Entry
+ownedBy o [] = []
+ownedBy o (e ∷ es) = record { number = e .number; first = e .first; owner = o; body = e .body } ∷ ownedBy o es
+
+-- Records that were found, with the function number g named beside them. In version 1 that function owns them, and there are none if
+-- there is no such function. In version 3 it isn't read.
+unfoldable pub namedIn : Bool → List Function → ℕ → List Entry → List Entry
+namedIn true fs g es = among [] (λ f. ownedBy (record { number = g; function = f }) es) (getElem? fs g)
+namedIn false fs g es = es
+
+-- the records with an address, or at an offset: a record of version 1 is nobody's, and its address is its offset
+unfoldable pub sought : List ℕ → ℕ → ℕ → List Entry
+sought s g a = namedIn (isOld s) (readSection s .functions) g (withAddress a (entries s))
+
+unfoldable pub byFunction : List ℕ → ℕ → ℕ → Found
+byFunction s g a = ask notFound (cond (isOld s) (firstOf (sought s g a)) (notFound 27 0)) (sectionCheck s)
 
 -- By record number: the record's bytes themselves, from the ID to the last padding byte; an empty part on any refusal, whose
 -- number and place are a question of their own.

@@ -1,13 +1,16 @@
-// The question by address.
-// `note` is no entry point: it serves the walks, which have checked the record that it reads.
+// The questions by address, and by function number and offset.
+// `note` is no entry point: it serves the walks, which have checked the record that it reads. Nor is `named`, which serves what has
+// searched an accepted section.
 ghost use mathlib.Core.Path.{_≡_};
 ghost use Prim.Native.Nat.{_+_, _^_, _≤_, _<_};
 ghost use lib.ListN.{length};
-ghost use Rattle.stackmap.specs.Section.{recordsAt, entries};
+ghost use Rattle.stackmap.specs.Section.{Entry, isOld, recordsAt, readSection, entries};
 ghost use Rattle.stackmap.specs.Check.{walkCheck};
 ghost use Rattle.stackmap.specs.Walk.{ownerAt, entryAt, Walkable};
-ghost use Rattle.questions.specs.Kept.{noted};
-ghost use Rattle.questions.specs.Questions.{ask, withAddress, notFound, firstOf, byAddress};
+ghost use mathlib.Core.List.{List};
+ghost use Rattle.stackmap.specs.Layout.{headerSize};
+ghost use Rattle.questions.specs.Kept.{noted, searched, ofSection};
+ghost use Rattle.questions.specs.Questions.{ask, withAddress, notFound, firstOf, namedIn, byAddress, byFunction};
 use crate::Found;
 use crate::Hits;
 use stackmap::Verdict;
@@ -15,6 +18,11 @@ use stackmap::layout;
 use stackmap::tables;
 use stackmap::walk;
 use stackmap::walk::Turn;
+
+// The refusals of these questions, beside the section's own.
+const NOT_FOUND: u8 = 10;
+
+const OTHER_VERSION: u8 = 27;
 
 // A refusal, with zeros in all other fields.
 fn refused(number: u8, place: usize) -> Found
@@ -106,7 +114,7 @@ fn search(s: &[u8], at: usize, address: u64) -> Found
         return refused(9, p);
     }
     if hits.sharing == 0 {
-        return refused(10, 0);
+        return refused(NOT_FOUND, 0);
     }
     Found {
         number: 0,
@@ -118,12 +126,79 @@ fn search(s: &[u8], at: usize, address: u64) -> Found
     }
 }
 
-// The first record with the address, or 10 exactly if there is none.
-pub fn find(s: &[u8], address: u64) -> Found
-    ensures { λ r. ⌜ r ≡ byAddress (now (s .entry)) address ⌝ }
+// The first record with the address, or at the offset in version 1; or 10 exactly if there is none.
+pub fn records(s: &[u8], address: u64) -> Found
+    ensures { λ r. ⌜ r ≡ searched (now (s .entry)) address ⌝ }
 {
     match tables::begin(s) {
         Verdict::Refused(n, p) => refused(n, p),
         Verdict::Valid(at) => search(s, at, address),
     }
+}
+
+// Whether an answer is the section's own refusal.
+pub fn of_section(found: Found) -> bool
+    ensures { λ r. ⌜ r ≡ ofSection found ⌝ }
+{
+    if found.number == 0 {
+        return false;
+    }
+    if found.number == NOT_FOUND {
+        return false;
+    }
+    true
+}
+
+// What was found, where the function with this number is named beside it: version 1 does not say which function owns a record.
+pub fn named(s: &[u8], found: Found, function: u64) -> Found
+    requires { ⌜ headerSize ≤ length (now s) ⌝ }
+    ensures { λ r. ⌜ ((es : List Entry) → found ≡ firstOf es → r ≡ firstOf (namedIn (isOld (now (s .entry))) (readSection (now (s .entry)) .functions) function es)) ⌝ }
+{
+    if tables::is_old(s) {
+        let functions = wire::u32_at(s, layout::NUM_FUNCTIONS_AT) as u64;
+        if function >= functions {
+            return refused(NOT_FOUND, 0);
+        }
+        if found.number != 0 {
+            return found;
+        }
+        return Found {
+            number: 0,
+            place: 0,
+            index: found.index,
+            function: function as usize,
+            sharing: found.sharing,
+            first: found.first,
+        };
+    }
+    found
+}
+
+// By address: the first record with the address, or 10 exactly if there is none; 27 on version 1.
+pub fn find(s: &[u8], address: u64) -> Found
+    ensures { λ r. ⌜ r ≡ byAddress (now (s .entry)) address ⌝ }
+{
+    let found = records(s, address);
+    if of_section(found) {
+        return refused(found.number, found.place);
+    }
+    if tables::is_old(s) {
+        return refused(OTHER_VERSION, 0);
+    }
+    found
+}
+
+// By function number and offset, of version 1: the first record at the offset, or 10 exactly if there is no such function or record; 27
+// on version 3.
+pub fn find_in_function(s: &[u8], function: u64, offset: u64) -> Found
+    ensures { λ r. ⌜ r ≡ byFunction (now (s .entry)) function offset ⌝ }
+{
+    let found = records(s, offset);
+    if of_section(found) {
+        return refused(found.number, found.place);
+    }
+    if tables::is_old(s) {
+        return named(s, found, function);
+    }
+    refused(OTHER_VERSION, 0)
 }
