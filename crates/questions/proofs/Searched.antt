@@ -2,23 +2,26 @@
 use Prim.Native.Nat.{ℕ, _*_, _≤_, _<_}
 use mathlib.Core.Path.{_≡_, refl, sym, ap, _∙_}
 use mathlib.Core.Bool.{Bool, true, false, not, _&&_, true≢false}
-use mathlib.Core.Option.{none, some}
-use mathlib.Core.List.{List, [], _∷_}
+use mathlib.Core.Logic.{⊎-elim}
+use mathlib.Core.Option.{Option, none, some}
+use mathlib.Core.List.{List, [], _∷_, List·Memᴰ, List·Memᴰ·head, List·Memᴰ·tail, List·Memᴰ·cases-cons}
 use native.Mathlib.Omega.{arith}
+use native.Mathlib.Decide.{decLt}
 use borrow.Author.Tests.{ne-eqb}
 use lib.Dec.{eqb}
 use lib.ListN.{length, getElem?}
 use Rattle.stackmap.specs.declared.Verdict.{Verdict}
 use Rattle.stackmap.specs.declared.Verdict.the-variants.{Valid, Refused}
 use Rattle.stackmap.specs.Layout.{functionSize}
-use Rattle.stackmap.specs.Section.{Function, Owner, Entry, numFunctions, isOld, readFunction, readFunctions, readSection, entries}
+use Rattle.stackmap.specs.Section.{Function, Owner, Entry, address, numFunctions, isOld, readFunction, readFunctions, readSection, entries}
 use Rattle.stackmap.specs.Check.{sectionCheck, Accepted}
 use Rattle.stackmap.specs.Walk.{functionAt}
 use Rattle.stackmap.proofs.Numbers.{Numbered, section-numbered}
 use Rattle.stackmap.proofs.Forth.{accepted-length}
+use Rattle.stackmap.proofs.Entries.{entry-owner}
 use Rattle.questions.specs.declared.Found.{Found}
 use Rattle.questions.specs.Kept.{searched, ofSection}
-use Rattle.questions.specs.Questions.{ask, withAddress, notFound, firstOf, ownedBy, namedIn}
+use Rattle.questions.specs.Questions.{ask, withAddress, notFound, firstOf, ownedBy, namedIn, sought}
 use Rattle.questions.proofs.Content.{many-some, many-none}
 
 never : _≡_ {A = Bool} true false → ⊥
@@ -90,3 +93,54 @@ pub owned-some : (o : Owner) (es : List Entry) (r : Found) → r ≡ firstOf es 
 unfolding ownedBy
 owned-some o [] r e h = absurd (let z : r .number ≡ 10 = ap (λ (f : Found). f .number) e in omega arith)
 owned-some o (x ∷ es) r e h = rw (e, length-owned o es)
+
+-- Where exactly one record is found: it is a record of the section, and its owner is a function of the section.
+
+pub record One (s : List ℕ) (e : Entry) : Type 0 where
+  pub entry : Entry
+  pub member : List·Memᴰ entry (entries s)
+  pub first-is : e .first ≡ entry .first
+  pub body-is : e .body ≡ entry .body
+  pub owner-there : e .owner .number < numFunctions s
+  pub function-is : e .owner .function ≡ readFunction (isOld s) s (functionAt (isOld s) (e .owner .number))
+
+from-entries : (a : ℕ) (es : List Entry) (e : Entry) → List·Memᴰ e (withAddress a es) → List·Memᴰ e es
+unfolding withAddress
+from-entries a [] e m = m
+from-entries a (x ∷ es) e m = go (from-entries a es e) (eqb (address x) a) refl
+  where
+    go : (List·Memᴰ e (withAddress a es) → List·Memᴰ e es) → (b : Bool) → eqb (address x) a ≡ b → List·Memᴰ e (x ∷ es)
+    go rest true q = ⊎-elim (λ h. List·Memᴰ·head h) (λ h. List·Memᴰ·tail (rest h)) (List·Memᴰ·cases-cons (rw q at m))
+    go rest false q = List·Memᴰ·tail (rest (rw q at m))
+
+owned-one : (o : Owner) (es : List Entry) (e : Entry) → ownedBy o es ≡ e ∷ []
+    → (x : Entry) × (es ≡ x ∷ []) × (e ≡ record { number = x .number; first = x .first; owner = o; body = x .body })
+unfolding ownedBy
+owned-one o [] e h = absurd (let z : _≡_ {A = ℕ} 0 1 = cc in omega arith)
+owned-one o (x ∷ []) e h = (x, refl, cc)
+owned-one o (x ∷ y ∷ es) e h = absurd (let z : _≡_ {A = ℕ} 0 1 = cc in omega arith)
+
+module _ (s : List ℕ) (g a : ℕ) (e : Entry) where
+  alone : (x : Entry) → withAddress a (entries s) ≡ x ∷ [] → List·Memᴰ x (entries s)
+  alone x h = from-entries a (entries s) x (rw h (List·Memᴰ·head refl))
+
+  one-new : isOld s ≡ false → withAddress a (entries s) ≡ e ∷ [] → One s e
+  one-new new h =
+      let m = alone e h in
+      let o = entry-owner s new e m in
+      record { entry = e; member = m; first-is = refl; body-is = refl; owner-there = o .0; function-is = rw new (o .1) }
+
+  one-old : (f : Function) → f ≡ readFunction (isOld s) s (functionAt (isOld s) g) → g < numFunctions s
+      → ownedBy (record { number = g; function = f }) (withAddress a (entries s)) ≡ e ∷ [] → One s e
+  one-old f q l h =
+      let o = owned-one _ (withAddress a (entries s)) e h in
+      rw (o .2) (record { entry = o .0; member = alone (o .0) (o .1); first-is = refl; body-is = refl; owner-there = l; function-is = q })
+
+  pub sought-one : sought s g a ≡ e ∷ [] → One s e
+  unfolding sought namedIn
+  sought-one h = go (isOld s) refl (decLt g (numFunctions s))
+    where
+      go : (old : Bool) → isOld s ≡ old → Dec (g < numFunctions s) → One s e
+      go false q d = one-new q (rw q at h)
+      go true q (yes l) = one-old _ refl l (rw (q, function-there s g l) at h)
+      go true q (no l) = absurd (let w : [] ≡ e ∷ [] = rw (q, function-absent s g (omega arith)) at h in let z : _≡_ {A = ℕ} 0 1 = cc in omega arith)

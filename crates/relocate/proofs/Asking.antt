@@ -1,65 +1,24 @@
--- What the question by address tells of a frame's plan.
+-- What the search for a frame's record tells of its plan.
 use Prim.Native.Nat.{ℕ, _+_, _*_, _≤_, _<_}
-use mathlib.Core.Path.{_≡_, refl, sym, ap, _∙_}
-use mathlib.Core.Bool.{Bool, true, false, not, _&&_, true≢false}
-use mathlib.Core.Logic.{⊎-elim}
-use mathlib.Core.List.{List, [], _∷_, List·Memᴰ, List·Memᴰ·head, List·Memᴰ·tail, List·Memᴰ·cases-cons}
+use mathlib.Core.Path.{_≡_, refl, ap, _∙_}
+use mathlib.Core.Bool.{Bool, true, false}
+use mathlib.Core.List.{List, [], _∷_}
 use native.Mathlib.Omega.{arith}
-use borrow.Author.Tests.{ne-eqb}
-use lib.Dec.{eqb}
 use lib.ListN.{length}
 use Rattle.wire.specs.Word.{Bytes, word}
-use Rattle.stackmap.specs.declared.Verdict.{Verdict}
-use Rattle.stackmap.specs.declared.Verdict.the-variants.{Valid, Refused}
-use Rattle.stackmap.specs.Section.{numFunctions, constantsAt, readFunction, Entry, address, entries}
-use Rattle.stackmap.specs.Check.{sectionCheck, Accepted}
-use Rattle.stackmap.proofs.Numbers.{Numbered, section-numbered}
-use Rattle.stackmap.proofs.Forth.{accepted-length}
-use Rattle.stackmap.proofs.WellFormed.{accepted-new}
-use Rattle.stackmap.proofs.Entries.{entry-body, entry-inside, entry-owner}
+use Rattle.stackmap.specs.Layout.{functionSize}
+use Rattle.stackmap.specs.Section.{numFunctions, isOld, constantsAt, readFunction, Entry}
+use Rattle.stackmap.specs.Check.{Accepted}
+use Rattle.stackmap.specs.Walk.{functionAt}
+use Rattle.stackmap.proofs.Entries.{entry-body, entry-inside}
 use Rattle.questions.specs.declared.Found.{Found}
-use Rattle.questions.specs.Questions.{ask, withAddress, notFound, firstOf, byAddress}
+use Rattle.questions.specs.Questions.{firstOf}
 use Rattle.questions.proofs.Standing.{tables-inside}
+use Rattle.questions.proofs.Searched as searched
 use Rattle.moves.specs.Plan.{Plan, refuse}
-use Rattle.relocate.specs.Plan.{only, stackSize}
-use Rattle.relocate.specs.Code.{recordOf, Stands, ofSection}
-
-never : _≡_ {A = Bool} true false → ⊥
-never h = true≢false h
-
--- the answer, by the section's verdict
-refused-by : (v : Verdict) (es : List Entry) (k : Plan) → ofSection (ask notFound (firstOf es) v) ≡ true
-    → ask refuse k v ≡ refuse (ask notFound (firstOf es) v .number) (ask notFound (firstOf es) v .place)
-unfolding ask ofSection
-refused-by (Refused n p) es k h = refl
-refused-by (Valid e) [] k h = absurd (never (sym h))
-refused-by (Valid e) (x ∷ es) k h = absurd (never (sym h))
-
-valid-by : (v : Verdict) (es : List Entry) → Numbered 9 v → ofSection (ask notFound (firstOf es) v) ≡ false
-    → (e : ℕ) × (v ≡ Valid e)
-unfolding ask ofSection
-valid-by (Refused n p) es a h =
-    let b = a .above in
-    let c = a .low in
-    let t : (not (eqb n 0) && not (eqb n 10)) ≡ true = rw (ne-eqb n 0 (λ q. omega arith), ne-eqb n 10 (λ q. omega arith)) in
-    absurd (never (sym t ∙ h))
-valid-by (Valid e) es a h = (e, refl)
-
-module _ (s : List ℕ) (a : ℕ) (r : Found) (e : r ≡ byAddress s a) where
-  pub section-refused : (k : Plan) → ofSection r ≡ true → ask refuse k (sectionCheck s) ≡ refuse (r .number) (r .place)
-  unfolding byAddress
-  section-refused k h = rw e (refused-by (sectionCheck s) (withAddress a (entries s)) k (rw e at h))
-
-  valid : ofSection r ≡ false → (n : ℕ) × (sectionCheck s ≡ Valid n)
-  unfolding byAddress
-  valid h = valid-by (sectionCheck s) (withAddress a (entries s)) (section-numbered s) (rw e at h)
-
-  pub section-accepted : ofSection r ≡ false → Accepted s
-  section-accepted h = let v = valid h in v .1 ∙ ap Valid (accepted-length s (v .0) (v .1) .0)
-
-  pub first-found : ofSection r ≡ false → r ≡ firstOf (withAddress a (entries s))
-  unfolding byAddress ask
-  first-found h = let v = valid h in e ∙ rw (v .1)
+use Rattle.relocate.specs.declared.Frame.{Frame}
+use Rattle.relocate.specs.Plan.{recordsOf, only, stackSize}
+use Rattle.relocate.specs.Code.{recordOf, Stands}
 
 -- one record, or none, or more
 module _ (r : Found) (k : Entry → Plan) where
@@ -94,43 +53,48 @@ module _ (r : Found) (k : Entry → Plan) where
       }
   one-found (x ∷ y ∷ es) e h n = absurd (let z = ap (λ (f : Found). f .sharing) e in omega arith)
 
-from-entries : (a : ℕ) (es : List Entry) (e : Entry) → List·Memᴰ e (withAddress a es) → List·Memᴰ e es
-unfolding withAddress
-from-entries a [] e m = m
-from-entries a (x ∷ es) e m = go (from-entries a es e) (eqb (address x) a) refl
-  where
-    go : (List·Memᴰ e (withAddress a es) → List·Memᴰ e es) → (b : Bool) → eqb (address x) a ≡ b → List·Memᴰ e (x ∷ es)
-    go rest true q = ⊎-elim (λ h. List·Memᴰ·head h) (λ h. List·Memᴰ·tail (rest h)) (List·Memᴰ·cases-cons (rw q at m))
-    go rest false q = List·Memᴰ·tail (rest (rw q at m))
+stack-size-read : (old : Bool) (s : List ℕ) (at : ℕ) → readFunction old s at .stackSize ≡ word 8 s (at + 8)
+unfolding readFunction
+stack-size-read true s at = refl
+stack-size-read false s at = refl
 
--- the one record of an accepted section at an address
-module _ (s : List ℕ) (a : ℕ) (k : Accepted s) (w : Bytes s) (e : Entry) (one : withAddress a (entries s) ≡ e ∷ []) where
-  member : List·Memᴰ e (entries s)
-  member = from-entries a (entries s) e (rw one (List·Memᴰ·head refl))
+-- the one record that a frame names in an accepted section
+module _ (s : List ℕ) (f : Frame) (k : Accepted s) (w : Bytes s) (e : Entry) (one : recordsOf s f ≡ e ∷ []) where
+  there : searched.One s e
+  unfolding recordsOf
+  there = searched.sought-one s (f .function) (f .address) e one
 
   pub stands : Stands s (e .first)
-  stands = record { tables = tables-inside s (length s) k; inside = entry-inside s (length s) k w e member .1 }
+  stands =
+      let o = there in
+      rw (o .first-is) (record { tables = tables-inside s (length s) k; inside = entry-inside s (length s) k w (o .entry) (o .member) .1 })
 
   pub body-is : e .body ≡ recordOf s (e .first)
-  body-is = entry-body s e member
+  body-is = let o = there in rw (o .first-is) (o .body-is ∙ entry-body s (o .entry) (o .member))
 
   pub owner-number : e .owner .number < numFunctions s
-  owner-number = entry-owner s (accepted-new s (length s) k) e member .0
+  owner-number = there .owner-there
 
-  pub size-is : stackSize e ≡ word 8 s (16 + 24 * e .owner .number + 8)
-  unfolding readFunction
-  size-is = rw (entry-owner s (accepted-new s (length s) k) e member .1)
+  pub size-is : stackSize e ≡ word 8 s (functionAt (isOld s) (e .owner .number) + 8)
+  size-is = rw (there .function-is) (stack-size-read (isOld s) s (functionAt (isOld s) (e .owner .number)))
+
+-- function number i of n, up to the end of its stack size
+pub function-in : (old : Bool) (i n : ℕ) → i < n → functionSize old * i + 16 ≤ functionSize old * n
+function-in true i n h = omega arith
+function-in false i n h = omega arith
+
+-- the functions of an accepted section are inside
+pub functions-inside : (s : List ℕ) → Accepted s → constantsAt s ≤ length s
+functions-inside s k = let t = tables-inside s (length s) k in omega arith
 
 -- where what was found stands
-module _ (s : List ℕ) (a : ℕ) (k : Accepted s) (w : Bytes s) (r : Found) (e : r ≡ firstOf (withAddress a (entries s))) (z : r .number ≡ 0) (one : r .sharing ≡ 1) where
-  found : One r (λ x. refuse 0 0) (withAddress a (entries s))
-  found = one-found r (λ x. refuse 0 0) (withAddress a (entries s)) e z one
+module _ (s : List ℕ) (f : Frame) (k : Accepted s) (w : Bytes s) (r : Found) (e : r ≡ firstOf (recordsOf s f)) (z : r .number ≡ 0) (one : r .sharing ≡ 1) where
+  found : One r (λ x. refuse 0 0) (recordsOf s f)
+  found = one-found r (λ x. refuse 0 0) (recordsOf s f) e z one
 
   pub found-stands : Stands s (r .first)
-  found-stands = rw (found .first-is) (stands s a k w (found .entry) (found .alone))
+  found-stands = rw (found .first-is) (stands s f k w (found .entry) (found .alone))
 
-  -- its function is one of the section's, whose functions are inside
-  pub found-function : (16 + 24 * numFunctions s ≤ length s) × (r .function < numFunctions s)
-  found-function =
-      let t = rw (accepted-new s (length s) k) at (tables-inside s (length s) k) in
-      (omega arith, rw (found .function-is) (owner-number s a k w (found .entry) (found .alone)))
+  -- its function is one of the section's
+  pub found-function : (constantsAt s ≤ length s) × (r .function < numFunctions s)
+  found-function = (functions-inside s k, rw (found .function-is) (owner-number s f k w (found .entry) (found .alone)))

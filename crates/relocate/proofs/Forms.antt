@@ -24,8 +24,8 @@ module _ (a : LocationAnswer) (pool : List ℕ) (l : Location) (e : a ≡ thisLo
   unfolding zeroSaid isZero
   zero-said = ap zeroSaid e
 
-  pub slot-said : isSlot (locationOf a) ≡ isSlot l
-  slot-said = ap (λ (x : LocationAnswer). isSlot (locationOf x)) e
+  pub slot-said : {old old′ : Bool} → old ≡ old′ → isSlot old (locationOf a) ≡ isSlot old′ l
+  slot-said h = rw (h, e)
 
   pub place-said : (f : Frame) (n : ℕ) → slotIn f n (locationOf a) ≡ slotIn f n l
   place-said f n = ap (λ (x : LocationAnswer). slotIn f n (locationOf x)) e

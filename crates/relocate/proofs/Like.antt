@@ -254,7 +254,6 @@ module _ (t : Section) (rs′ : List Record) (each : EachReordered (t .records) 
       record {
         fits = f;
         small = omega (arith, w .small, h .1);
-        version-right = w .version-right;
         adds-up = rw (h .0) (w .adds-up);
         no-counts = w .no-counts;
         entries-good = λ e′ m. let r = like-mem (entriesOf t) section-like m in like-good _ (r .0) e′ (r .2) (w .entries-good (r .0) (r .1));

@@ -8,16 +8,16 @@ use native.Mathlib.Omega.{arith}
 use borrow.Author.Tests.{eqb-false, leb-true}
 use Rattle.stackmap.specs.declared.Verdict.the-variants.{Valid}
 use Rattle.stackmap.specs.Layout.{stackSizeUnknown}
-use Rattle.stackmap.specs.Section.{Location, Entry, entries, readSection}
+use Rattle.stackmap.specs.Section.{Location, Entry, readSection}
 use Rattle.stackmap.specs.Check.{sectionCheck}
 use Rattle.stackmap.proofs.Tests.{and-true}
 use Rattle.moves.specs.Pointers.{Pointer, null, slots}
 use Rattle.moves.specs.Plan.{Plan, refuse, window}
 use Rattle.moves.proofs.Lists.{Sound}
 use Rattle.relocate.specs.declared.Frame.{Frame}
-use Rattle.questions.specs.Questions.{ask, withAddress}
+use Rattle.questions.specs.Questions.{ask}
 use Rattle.relocate.specs.Statepoint.{Pair, pairs, isNull, slotInside, slotAt, registerOf, excess, inside, pointerOf}
-use Rattle.relocate.specs.Plan.{need, only, every, stackSize, extentRight, planPairs, planRecord, plan}
+use Rattle.relocate.specs.Plan.{recordsOf, need, only, every, stackSize, extentRight, planPairs, planRecord, plan}
 
 not-true : (a : Bool) → not a ≡ true → a ≡ false
 not-true true h = absurd (let z : _≡_ {A = ℕ} 0 1 = cc in omega arith)
@@ -136,7 +136,7 @@ module _ (s olds news : List ℕ) (first n : ℕ) (f : Frame) where
 
   pub record Planned (off size : ℕ) (ws : List Pointer) : Type 0 where
     pub entry : Entry
-    pub one : withAddress (f .address) (entries s) ≡ entry ∷ []
+    pub one : recordsOf s f ≡ entry ∷ []
     pub known : stackSize entry ≡ stackSizeUnknown → ⊥
     pub low : first ≤ f .rsp
     pub high : f .rsp + stackSize entry ≤ first + n

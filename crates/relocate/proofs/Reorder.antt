@@ -3,16 +3,17 @@ use Prim.Native.Nat.{ℕ, suc, _≤_, _<_}
 use mathlib.Core.Path.{_≡_, refl, sym, ap, _∙_}
 use mathlib.Core.Bool.{Bool, true, false, cond}
 use mathlib.Core.Logic.{⊎-elim}
-use mathlib.Core.Option.{Option}
+use mathlib.Core.Option.{Option, none, some}
 use mathlib.Core.List.{List, [], _∷_, List·Memᴰ, List·Memᴰ·head, List·Memᴰ·tail, List·Memᴰ·not-nil, List·Memᴰ·cases-cons, List·Permᴰ, Permᴰ·symm, Permᴰ·map}
 use native.Mathlib.Omega.{arith}
 use lib.Dec.{eqb}
-use lib.ListN.{length}
+use lib.ListN.{length, getElem?}
 use Rattle.wire.specs.Word.{Bytes}
 use Rattle.stackmap.specs.declared.Verdict.the-variants.{Valid}
-use Rattle.stackmap.specs.Section.{Section, readSection, Entry, address, entries}
+use Rattle.stackmap.specs.Section.{Function, Section, isOld, readSection, Owner, Entry, address, entries}
 use Rattle.stackmap.specs.Check.{sectionCheck}
 use Rattle.stackmap.specs.Fault.{WellFormed}
+use Rattle.stackmap.proofs.Entries.{old-of}
 use Rattle.stackmap.proofs.WellFormed.{well-formed-accepted, accepted-well-formed}
 use Rattle.moves.specs.Window.{part, splice}
 use Rattle.moves.specs.Table.{lookUp}
@@ -23,9 +24,9 @@ use Rattle.moves.proofs.Splice.{part-length}
 use Rattle.moves.proofs.Order.{Alike, settle-perm}
 use Rattle.moves.proofs.Lists.{Sound}
 use Rattle.relocate.specs.declared.Frame.{Frame}
-use Rattle.questions.specs.Questions.{ask, withAddress}
+use Rattle.questions.specs.Questions.{ask, among, withAddress, ownedBy, namedIn, sought}
 use Rattle.relocate.specs.Statepoint.{Pair, pairs, rightForm, inside, pointerOf}
-use Rattle.relocate.specs.Plan.{need, only, every, stackSize, planPairs, planRecord, planEntry, plan}
+use Rattle.relocate.specs.Plan.{recordsOf, need, only, every, stackSize, planPairs, planRecord, planEntry, plan}
 use Rattle.relocate.specs.Relocation.{answer, moved}
 use Rattle.relocate.specs.Reorder.{OtherOrder, PairOrder}
 use Rattle.relocate.proofs.Planned.{every-yes, every-no, sound}
@@ -68,15 +69,15 @@ same-every good n i ps qs k k′ late perm h = go _ _ (tested good n i ps k) (te
     go x y (failed q j m b e) (passed a f) = absurd (clash q (a q (perm-mem perm m)) b)
     go x y (failed q j m b e) (failed q′ j′ m′ b′ f) = rw (e, f) (refusals {n = n} (λ l. absurd (omega arith)))
 
-same-entry : (pool : List ℕ) (first n : ℕ) (f : Frame) (e e′ : Entry) → EntryLike e e′ → SamePlan (planEntry pool first n f e) (planEntry pool first n f e′)
+same-entry : (old : Bool) (pool : List ℕ) (first n : ℕ) (f : Frame) (e e′ : Entry) → EntryLike e e′ → SamePlan (planEntry old pool first n f e) (planEntry old pool first n f e′)
 unfolding planRecord planPairs
-same-entry pool first n f e e′ l =
+same-entry old pool first n f e e′ l =
     let p = l .body-like .pairs-perm in
     let o = l .owner-same in
     let c : length (pairs (e′ .body)) ≡ length (pairs (e .body)) = sym (perm-length p) in
     rw (l .body-like .statepoint-same, o, c)
     (same-need _ 12 _ _ (same-need _ 16 _ _ (same-need _ 17 _ _
-    (same-every (rightForm pool) 18 0 _ _ _ _ (omega arith) p (same-every (inside pool f (stackSize e)) 19 0 _ _ _ _ (omega arith) p (windows (Permᴰ·map (pointerOf pool f) p)))))))
+    (same-every (rightForm old pool) 18 0 _ _ _ _ (omega arith) p (same-every (inside pool f (stackSize e)) 19 0 _ _ _ _ (omega arith) p (windows (Permᴰ·map (pointerOf pool f) p)))))))
 
 with-like : (a : ℕ) (es es′ : List Entry) → EntriesLike es es′ → EntriesLike (withAddress a es) (withAddress a es′)
 unfolding withAddress
@@ -89,6 +90,22 @@ with-like a (e ∷ es) (e′ ∷ es′) l = rw (like-address e e′ (l .0)) (go 
         → EntriesLike (cond b (e ∷ withAddress a es) (withAddress a es)) (cond b (e′ ∷ withAddress a es′) (withAddress a es′))
     go true h = (l .0, h)
     go false h = h
+
+owned-like : (o : Owner) (es es′ : List Entry) → EntriesLike es es′ → EntriesLike (ownedBy o es) (ownedBy o es′)
+unfolding ownedBy
+owned-like o [] [] l = tt
+owned-like o [] (e′ ∷ es′) l = absurd l
+owned-like o (e ∷ es) [] l = absurd l
+owned-like o (e ∷ es) (e′ ∷ es′) l = (record { owner-same = refl; body-like = l .0 .body-like }, owned-like o es es′ (l .1))
+
+named-like : (old : Bool) (fs : List Function) (g : ℕ) (es es′ : List Entry) → EntriesLike es es′ → EntriesLike (namedIn old fs g es) (namedIn old fs g es′)
+unfolding namedIn
+named-like true fs g es es′ l = go (getElem? fs g)
+  where
+    go : (x : Option Function) → EntriesLike (among [] (λ f. ownedBy (record { number = g; function = f }) es) x) (among [] (λ f. ownedBy (record { number = g; function = f }) es′) x)
+    go none = tt
+    go (some f) = owned-like (record { number = g; function = f }) es es′ l
+named-like false fs g es es′ l = l
 
 same-only : (es es′ : List Entry) (k : Entry → Plan) → EntriesLike es es′ → ((e e′ : Entry) → EntryLike e e′ → SamePlan (k e) (k e′)) → SamePlan (only es k) (only es′ k)
 unfolding only
@@ -126,13 +143,17 @@ module _ (s s′ : List ℕ) (w : Bytes s) (o : OtherOrder s s′) where
   now-read : readSection s′ ≡ t′
   now-read = rw (o .encoded) (well-formed-accepted t′ well .1)
 
+  old-same : isOld s′ ≡ isOld s
+  old-same = sym (old-of s′) ∙ ap (λ (x : Section). x .old) now-read ∙ old-of s
+
   module _ (olds news : List ℕ) (first : ℕ) (im : List ℕ) (f : Frame) where
     same-plan : SamePlan (plan s olds news first (length im) f) (plan s′ olds news first (length im) f)
-    unfolding plan entries ask
+    unfolding plan recordsOf sought entries ask
     same-plan =
-        rw (o .accepted, now-accepted, now-read)
+        rw (o .accepted, now-accepted, old-same, now-read)
         (same-need _ 13 _ _ (same-need _ 14 _ _
-        (same-only _ _ _ (with-like (f .address) _ _ (section-like t (o .records) (o .reordered))) (same-entry (t .constants) first (length im) f))))
+        (same-only _ _ _ (named-like (isOld s) (t .functions) (f .function) _ _ (with-like (f .address) _ _ (section-like t (o .records) (o .reordered))))
+        (same-entry (isOld s) (t .constants) first (length im) f))))
 
     both : Alike (answer s olds news first im f) (answer s′ olds news first im f) × (moved s′ olds news first im f ≡ moved s olds news first im f)
     unfolding answer moved

@@ -9,10 +9,13 @@ use borrow.Author.Tests.{leb-true, le-leb, lt-leb, eq-eqb, ne-eqb}
 use lib.Dec.{eqb, leb}
 use lib.ListN.{length}
 use Rattle.wire.specs.Word.{Bytes, word}
-use Rattle.stackmap.specs.Section.{Record, Entry, entries}
+use Rattle.stackmap.specs.Section.{Record, Entry, isOld}
 use Rattle.stackmap.specs.Check.{Accepted}
+use Rattle.stackmap.specs.Walk.{functionAt}
 use Rattle.questions.specs.declared.Found.{Found}
-use Rattle.questions.specs.Questions.{ask, withAddress, firstOf, byAddress}
+use Rattle.questions.specs.Kept.{searched, ofSection}
+use Rattle.questions.specs.Questions.{ask, firstOf}
+use Rattle.questions.proofs.Searched.{section-refused}
 use Rattle.stackmap.proofs.Tests.{and-true}
 use Rattle.moves.specs.declared.Move.{Move}
 use Rattle.moves.specs.Search.{lowest}
@@ -23,11 +26,11 @@ use Rattle.moves.specs.Arrays.{pointersOf}
 use Rattle.relocate.specs.declared.Frame.{Frame}
 use Rattle.relocate.specs.Limits.{imageMost}
 use Rattle.relocate.specs.Statepoint.{isStatepoint, pairs, rightForm, inside, pointerOf}
-use Rattle.relocate.specs.Plan.{need, only, stackSize, imageRight, extentRight, planPairs, planRecord, planEntry, plan}
+use Rattle.relocate.specs.Plan.{recordsOf, need, only, stackSize, imageRight, extentRight, planPairs, planRecord, planEntry, plan}
 use Rattle.relocate.specs.Relocation.{answer, moved, Relocates}
-use Rattle.relocate.specs.Code.{recordOf, poolOf, pairNumber, ofSection}
+use Rattle.relocate.specs.Code.{recordOf, poolOf, pairNumber}
 use Rattle.relocate.proofs.Following.{every-refused, every-passed}
-use Rattle.relocate.proofs.Asking.{section-refused, one-found, body-is, size-is}
+use Rattle.relocate.proofs.Asking.{one-found, body-is, size-is}
 
 -- a refusal follows a plan that is one
 pub refuses : (write : Bool) (r : Move) (table : ℕ → Option ℕ) (im : List ℕ) (p : Plan) (n i : ℕ) → r ≡ refusedMove n i → p ≡ refuse n i
@@ -83,60 +86,60 @@ module _ (first n rsp size : ℕ) where
 
 -- 18, 19
 
-module _ (pool : List ℕ) (f : Frame) (off size : ℕ) (r : Record) (count : ℕ) (c : count ≡ length (pairs r))
-    (wrong : ℕ) (w : wrong ≡ lowest (λ p. not (rightForm pool (pairNumber r p))) count) where
-  pub pairs-18 : wrong < count → planPairs pool f off size (pairs r) ≡ refuse 18 wrong
+module _ (old : Bool) (pool : List ℕ) (f : Frame) (off size : ℕ) (r : Record) (count : ℕ) (c : count ≡ length (pairs r))
+    (wrong : ℕ) (w : wrong ≡ lowest (λ p. not (rightForm old pool (pairNumber r p))) count) where
+  pub pairs-18 : wrong < count → planPairs old pool f off size (pairs r) ≡ refuse 18 wrong
   unfolding planPairs
-  pairs-18 h = every-refused (rightForm pool) 18 r _ count wrong c w h
+  pairs-18 h = every-refused (rightForm old pool) 18 r _ count wrong c w h
 
   module _ (right : count ≤ wrong) (out : ℕ) (o : out ≡ lowest (λ p. not (inside pool f size (pairNumber r p))) count) where
-    pub pairs-19 : out < count → planPairs pool f off size (pairs r) ≡ refuse 19 out
+    pub pairs-19 : out < count → planPairs old pool f off size (pairs r) ≡ refuse 19 out
     unfolding planPairs
-    pairs-19 h = every-passed (rightForm pool) 18 r _ count wrong c w right ∙ every-refused (inside pool f size) 19 r _ count out c o h
+    pairs-19 h = every-passed (rightForm old pool) 18 r _ count wrong c w right ∙ every-refused (inside pool f size) 19 r _ count out c o h
 
     pub pairs-on : count ≤ out → (live bases derived : List ℕ) → pointersOf count live bases derived ≡ map (pointerOf pool f) (pairs r)
-        → planPairs pool f off size (pairs r) ≡ window off (off + size - off) (pointersOf count live bases derived)
+        → planPairs old pool f off size (pairs r) ≡ window off (off + size - off) (pointersOf count live bases derived)
     unfolding planPairs
     pairs-on h live bases derived m =
         let z : off + size - off ≡ size = omega arith in
-        every-passed (rightForm pool) 18 r _ count wrong c w right ∙ every-passed (inside pool f size) 19 r _ count out c o h ∙ rw (m, z)
+        every-passed (rightForm old pool) 18 r _ count wrong c w right ∙ every-passed (inside pool f size) 19 r _ count out c o h ∙ rw (m, z)
 
 -- 12, 16, 17
 
-module _ (pool : List ℕ) (first n : ℕ) (f : Frame) (size : ℕ) (r : Record) where
-  pub record-12 : isStatepoint r ≡ false → planRecord pool first n f size r ≡ refuse 12 0
+module _ (old : Bool) (pool : List ℕ) (first n : ℕ) (f : Frame) (size : ℕ) (r : Record) where
+  pub record-12 : isStatepoint r ≡ false → planRecord old pool first n f size r ≡ refuse 12 0
   unfolding planRecord need
   record-12 h = rw h
 
   module _ (s : isStatepoint r ≡ true) where
-    pub record-16 : extentRight first n (f .rsp) size ≡ false → planRecord pool first n f size r ≡ refuse 16 0
+    pub record-16 : extentRight first n (f .rsp) size ≡ false → planRecord old pool first n f size r ≡ refuse 16 0
     unfolding planRecord need
     record-16 h = rw (s, h)
 
     module _ (e : extentRight first n (f .rsp) size ≡ true) (count : ℕ) (c : count ≡ length (pairs r)) where
-      pub record-17 : 256 < count → planRecord pool first n f size r ≡ refuse 17 0
+      pub record-17 : 256 < count → planRecord old pool first n f size r ≡ refuse 17 0
       unfolding planRecord need
       record-17 h = rw (s, e, ← c, lt-leb count 256 h)
 
-      pub record-on : count ≤ 256 → planRecord pool first n f size r ≡ planPairs pool f (f .rsp - first) size (pairs r)
+      pub record-on : count ≤ 256 → planRecord old pool first n f size r ≡ planPairs old pool f (f .rsp - first) size (pairs r)
       unfolding planRecord need
       record-on h = let q : leb (length (pairs r)) 256 ≡ true = le-leb (length (pairs r)) 256 (rw c at h) in rw (s, e, q)
 
 -- 10, 15
 
-same-record : (s pool : List ℕ) (first n : ℕ) (f : Frame) (size function at : ℕ) (x : Entry) → size ≡ word 8 s (16 + 24 * function + 8)
-    → function ≡ x .owner .number → at ≡ x .first → stackSize x ≡ word 8 s (16 + 24 * x .owner .number + 8) → x .body ≡ recordOf s (x .first)
-    → planEntry pool first n f x ≡ planRecord pool first n f size (recordOf s at)
+same-record : (s pool : List ℕ) (first n : ℕ) (f : Frame) (size function at : ℕ) (x : Entry) → size ≡ word 8 s (functionAt (isOld s) function + 8)
+    → function ≡ x .owner .number → at ≡ x .first → stackSize x ≡ word 8 s (functionAt (isOld s) (x .owner .number) + 8) → x .body ≡ recordOf s (x .first)
+    → planEntry (isOld s) pool first n f x ≡ planRecord (isOld s) pool first n f size (recordOf s at)
 same-record s pool first n f size function at x q g h i b = rw (q, g, h, i, b)
 
-pub entry-plan : (s : List ℕ) (a : ℕ) (pool : List ℕ) (first n : ℕ) (f : Frame) (r : Found) (size : ℕ) → Accepted s → Bytes s
-    → r ≡ firstOf (withAddress a (entries s)) → r .number ≡ 0 → r .sharing ≡ 1 → size ≡ word 8 s (16 + 24 * r .function + 8)
-    → only (withAddress a (entries s)) (planEntry pool first n f) ≡ planRecord pool first n f size (recordOf s (r .first))
-entry-plan s a pool first n f r size k w e z one q =
-    let o = one-found r (planEntry pool first n f) (withAddress a (entries s)) e z one in
+pub entry-plan : (s pool : List ℕ) (first n : ℕ) (f : Frame) (r : Found) (size : ℕ) → Accepted s → Bytes s
+    → r ≡ firstOf (recordsOf s f) → r .number ≡ 0 → r .sharing ≡ 1 → size ≡ word 8 s (functionAt (isOld s) (r .function) + 8)
+    → only (recordsOf s f) (planEntry (isOld s) pool first n f) ≡ planRecord (isOld s) pool first n f size (recordOf s (r .first))
+entry-plan s pool first n f r size k w e z one q =
+    let o = one-found r (planEntry (isOld s) pool first n f) (recordsOf s f) e z one in
     o .goes-on
     ∙ same-record s pool first n f size (r .function) (r .first) (o .entry) q (o .function-is) (o .first-is)
-    (size-is s a k w (o .entry) (o .alone)) (body-is s a k w (o .entry) (o .alone))
+    (size-is s f k w (o .entry) (o .alone)) (body-is s f k w (o .entry) (o .alone))
 
 -- 1 to 9, 13, 14
 
@@ -146,10 +149,10 @@ module _ (s olds news : List ℕ) (first : ℕ) (im : List ℕ) (f : Frame) wher
   unfolding answer moved
   relocates r after h = record { answer-is = h .answer; image-is = h .left }
 
-  pub plan-section : (r : Found) → r ≡ byAddress s (f .address) → ofSection r ≡ true
+  pub plan-section : (r : Found) → r ≡ searched s (f .address) → ofSection r ≡ true
       → plan s olds news first (length im) f ≡ refuse (r .number) (r .place)
   unfolding plan
-  plan-section r e h = section-refused s (f .address) r e _ h
+  plan-section r e h = section-refused s (f .address) r e refuse _ h
 
   module _ (k : Accepted s) where
     pub plan-13 : imageRight first (length im) ≡ false → plan s olds news first (length im) f ≡ refuse 13 0
@@ -162,6 +165,6 @@ module _ (s olds news : List ℕ) (first : ℕ) (im : List ℕ) (f : Frame) wher
       plan-14 h = rw (k, i, h)
 
       pub plan-on : tableRight olds news ≡ true
-          → plan s olds news first (length im) f ≡ only (withAddress (f .address) (entries s)) (planEntry (poolOf s) first (length im) f)
+          → plan s olds news first (length im) f ≡ only (recordsOf s f) (planEntry (isOld s) (poolOf s) first (length im) f)
       unfolding plan ask need
       plan-on h = rw (k, i, h)

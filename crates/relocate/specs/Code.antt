@@ -1,14 +1,13 @@
 -- What the code's steps rely on, and what their values mean.
 use Prim.Native.Nat.{ℕ, _+_, _*_, _-_, _≤_, _<_}
 use mathlib.Core.Path.{_≡_}
-use mathlib.Core.Bool.{Bool, not, cond, _&&_, _||_}
+use mathlib.Core.Bool.{Bool, cond, _&&_, _||_}
 use mathlib.Core.Option.{Option, none, some}
 use mathlib.Core.List.{List}
 use lib.Dec.{eqb, leb, ltb}
 use lib.ListN.{length, getD, drop}
 use Rattle.stackmap.specs.Layout.{kindConstIndex, negativeFrom}
 use Rattle.stackmap.specs.Section.{Location, Record, isOld, recordsAt, numLocations, recordLength, readRecord, readSection}
-use Rattle.questions.specs.declared.Found.{Found}
 use Rattle.questions.specs.declared.LocationAnswer.{LocationAnswer}
 use Rattle.moves.specs.Limits.{pointerSize}
 use Rattle.relocate.specs.declared.Frame.{Frame}
@@ -77,7 +76,3 @@ placeIn p n = cond (leb (p + pointerSize) n) (some p) none
 -- live is 0 exactly at the null pairs, of the first n
 pub record Lives (pool : List ℕ) (r : Record) (live : List ℕ) (n : ℕ) : Type 0 where
   pub at : (k : ℕ) → k < n → eqb (getD live k 0) 0 ≡ isNull pool (pairNumber r k)
-
--- the answer to the question by address is the section's own refusal: neither found nor 10
-unfoldable pub ofSection : Found → Bool
-ofSection r = not (eqb (r .number) 0) && not (eqb (r .number) 10)

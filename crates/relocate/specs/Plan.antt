@@ -6,20 +6,24 @@ use mathlib.Core.List.{List, [], _∷_, map}
 use lib.ListN.{length}
 use lib.Dec.{eqb, leb}
 use Rattle.stackmap.specs.Layout.{addressMost, stackSizeUnknown}
-use Rattle.stackmap.specs.Section.{Record, Entry, entries, readSection}
+use Rattle.stackmap.specs.Section.{Record, Entry, isOld, readSection}
 use Rattle.stackmap.specs.Check.{sectionCheck}
 use Rattle.moves.specs.Limits.{pairsMost}
 use Rattle.moves.specs.Table.{tableRight}
 use Rattle.moves.specs.Plan.{Plan, refuse, window}
 use Rattle.relocate.specs.declared.Frame.{Frame}
 use Rattle.relocate.specs.Limits.{imageMost}
-use Rattle.questions.specs.Questions.{ask, withAddress}
+use Rattle.questions.specs.Questions.{ask, sought}
 use Rattle.relocate.specs.Statepoint.{isStatepoint, Pair, pairs, rightForm, inside, pointerOf}
 
 -- go on where the test holds, and else this refusal, at place 0
 unfoldable pub need : Bool → ℕ → Plan → Plan
 need true n k = k
 need false n k = refuse n 0
+
+-- the records that a frame names: those with its address; in version 1 those at its offset, of its function, if that is there
+unfoldable pub recordsOf : List ℕ → Frame → List Entry
+recordsOf s f = sought s (f .function) (f .address)
 
 -- exactly one record: 10 if none, 15 if more
 unfoldable pub only : List Entry → (Entry → Plan) → Plan
@@ -45,22 +49,22 @@ extentRight first n rsp size =
     not (eqb size stackSizeUnknown) && (leb first rsp && leb (rsp + size) (first + n))
 
 -- 18, 19, of the pairs of a frame whose extent is known: `size` bytes of the image, from `off`
-unfoldable pub planPairs : List ℕ → Frame → ℕ → ℕ → List Pair → Plan
-planPairs pool f off size ps =
-    every (rightForm pool) 18 0 ps
+unfoldable pub planPairs : Bool → List ℕ → Frame → ℕ → ℕ → List Pair → Plan
+planPairs old pool f off size ps =
+    every (rightForm old pool) 18 0 ps
     (every (inside pool f size) 19 0 ps
     (window off size (map (pointerOf pool f) ps)))
 
 -- 12, 16, 17, 18, 19, of a frame whose one record is r, of a function with this stack size
-unfoldable pub planRecord : List ℕ → ℕ → ℕ → Frame → ℕ → Record → Plan
-planRecord pool first n f size r =
+unfoldable pub planRecord : Bool → List ℕ → ℕ → ℕ → Frame → ℕ → Record → Plan
+planRecord old pool first n f size r =
     need (isStatepoint r) 12
     (need (extentRight first n (f .rsp) size) 16
     (need (leb (length (pairs r)) pairsMost) 17
-    (planPairs pool f (f .rsp - first) size (pairs r))))
+    (planPairs old pool f (f .rsp - first) size (pairs r))))
 
-abbrev pub planEntry : List ℕ → ℕ → ℕ → Frame → Entry → Plan
-planEntry pool first n f e = planRecord pool first n f (stackSize e) (e .body)
+abbrev pub planEntry : Bool → List ℕ → ℕ → ℕ → Frame → Entry → Plan
+planEntry old pool first n f e = planRecord old pool first n f (stackSize e) (e .body)
 
 -- of a frame in an image of n bytes from `first`
 unfoldable pub plan : List ℕ → List ℕ → List ℕ → ℕ → ℕ → Frame → Plan
@@ -68,5 +72,5 @@ plan s olds news first n f =
     ask refuse
     (need (imageRight first n) 13
     (need (tableRight olds news) 14
-    (only (withAddress (f .address) (entries s)) (planEntry (readSection s .constants) first n f))))
+    (only (recordsOf s f) (planEntry (isOld s) (readSection s .constants) first n f))))
     (sectionCheck s)

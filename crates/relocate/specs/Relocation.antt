@@ -6,16 +6,15 @@ use mathlib.Core.List.{List, [], _∷_, List·Memᴰ}
 use lib.ListN.{length}
 use Rattle.wire.specs.Word.{word}
 use Rattle.stackmap.specs.Layout.{stackSizeUnknown}
-use Rattle.stackmap.specs.Section.{Entry, entries, readSection}
+use Rattle.stackmap.specs.Section.{Entry, readSection}
 use Rattle.moves.specs.declared.Move.{Move}
 use Rattle.moves.specs.Limits.{pointerSize}
 use Rattle.moves.specs.Table.{lookUp}
 use Rattle.moves.specs.Pointers.{orZero}
 use Rattle.moves.specs.Plan.{says, leaves}
 use Rattle.relocate.specs.declared.Frame.{Frame}
-use Rattle.questions.specs.Questions.{withAddress}
 use Rattle.relocate.specs.Statepoint.{Pair, pairs, isNull, registerOf, excess}
-use Rattle.relocate.specs.Plan.{plan, stackSize}
+use Rattle.relocate.specs.Plan.{plan, recordsOf, stackSize}
 
 -- section, table and first address stay the same throughout
 module _ (s olds news : List ℕ) (first : ℕ) where
@@ -32,9 +31,9 @@ module _ (s olds news : List ℕ) (first : ℕ) where
     pub answer-is : r ≡ answer im f
     pub image-is : after ≡ moved im f
 
--- the frame's address is that of exactly one record
+-- the frame names exactly one record
 abbrev pub OneRecord : List ℕ → Frame → Entry → Type 0
-OneRecord s f e = withAddress (f .address) (entries s) ≡ e ∷ []
+OneRecord s f e = recordsOf s f ≡ e ∷ []
 
 -- Its extent is the bytes from RSP up to, not including, RSP plus its function's stack size, without wrapping. A frame without
 -- exactly one record, or with stack size unknown, has no extent. The byte at the address a is in it:

@@ -1,6 +1,6 @@
 -- Statepoints and their pairs, in the words and order of document 01, "Statepoints and relocation".
 use Prim.Native.Nat.{ℕ, _+_, _-_, _*_, _%_}
-use mathlib.Core.Bool.{Bool, cond, _&&_, _||_}
+use mathlib.Core.Bool.{Bool, true, false, cond, _&&_, _||_}
 use mathlib.Core.List.{List, [], _∷_}
 use lib.ListN.{length, getD, drop}
 use lib.Dec.{eqb, ltb, leb}
@@ -67,13 +67,18 @@ isZero pool l = eqb (constantOf pool l) 0 && (eqb (l .kind) kindConstant || eqb 
 unfoldable pub isNull : List ℕ → Pair → Bool
 isNull pool p = isZero pool (p .base) && isZero pool (p .derived)
 
--- kind 3, size 8 and register 6 or 7
-unfoldable pub isSlot : Location → Bool
-isSlot l = eqb (l .kind) kindIndirect && (eqb (l .size) pointerSize && (eqb (l .register) RBP || eqb (l .register) RSP))
+-- size 8; in version 1, whose second byte of a location may hold any number, 0 or 8
+unfoldable pub sizeRight : Bool → ℕ → Bool
+sizeRight true n = eqb n pointerSize || eqb n 0
+sizeRight false n = eqb n pointerSize
+
+-- kind 3, the right size, and register 6 or 7; `old` is true for version 1
+unfoldable pub isSlot : Bool → Location → Bool
+isSlot old l = eqb (l .kind) kindIndirect && (sizeRight old (l .size) && (eqb (l .register) RBP || eqb (l .register) RSP))
 
 -- otherwise both must be slots
-unfoldable pub rightForm : List ℕ → Pair → Bool
-rightForm pool p = isNull pool p || (isSlot (p .base) && isSlot (p .derived))
+unfoldable pub rightForm : Bool → List ℕ → Pair → Bool
+rightForm old pool p = isNull pool p || (isSlot old (p .base) && isSlot old (p .derived))
 
 -- the register that a slot names
 unfoldable pub registerOf : Frame → Location → ℕ

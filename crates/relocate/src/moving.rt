@@ -1,22 +1,22 @@
-// A move after the question by address, one stage of the plan a function. Where `write` is false the frame is only judged.
+// A move after the search for its record, one stage of the plan a function. Where `write` is false the frame is only judged.
 // No entry point: each stage requires what the stages before it have tested.
 ghost use mathlib.Core.Path.{_≡_};
-ghost use mathlib.Core.Bool.{true, false};
+ghost use mathlib.Core.Bool.{true};
 ghost use Prim.Native.Nat.{_+_, _≤_, _<_};
 ghost use lib.ListN.{length};
 ghost use Rattle.wire.specs.Word.{word};
 ghost use Rattle.stackmap.specs.Layout.{stackSizeAt};
-ghost use Rattle.stackmap.specs.Section.{numFunctions, entries};
+ghost use Rattle.stackmap.specs.Section.{numFunctions, isOld, constantsAt};
 ghost use Rattle.stackmap.specs.Check.{Accepted};
 ghost use Rattle.stackmap.specs.Walk.{functionAt};
-ghost use Rattle.questions.specs.Questions.{withAddress, firstOf};
+ghost use Rattle.questions.specs.Questions.{firstOf};
 ghost use Rattle.moves.specs.Limits.{pairsMost};
 ghost use Rattle.moves.specs.Table.{tableRight, lookUp};
 ghost use Rattle.moves.specs.Settle.{refusedMove};
 ghost use Rattle.moves.specs.Plan.{Follows};
 ghost use Rattle.relocate.specs.Limits.{imageMost};
 ghost use Rattle.relocate.specs.Statepoint as spec;
-ghost use Rattle.relocate.specs.Plan.{imageRight, only, planPairs, planRecord, planEntry};
+ghost use Rattle.relocate.specs.Plan.{recordsOf, imageRight, only, planPairs, planRecord, planEntry};
 ghost use Rattle.relocate.specs.Code.{recordOf, poolOf, Stands, Paired};
 use crate::Frame;
 use crate::extent;
@@ -26,9 +26,7 @@ use moves::Move;
 use moves::PAIRS_MOST;
 use questions::Found;
 use stackmap::layout;
-
-// A function's stack size, after its address.
-const STACK_SIZE_AT: usize = 8;
+use stackmap::tables;
 
 // A refusal, with count 0.
 pub fn refused(number: u8, place: usize) -> Move
@@ -56,7 +54,7 @@ fn move_pairs(
     write: bool,
 ) -> Move
     requires { ⌜ Paired (now s) at start count × (count ≤ pairsMost) × (off + size ≤ length (now image)) × (size ≤ imageMost) × (tableRight (now olds) (now news) ≡ true) ⌝ }
-    ensures { λ r. ⌜ Follows write r (now (image .exit)) (lookUp (now (olds .entry)) (now (news .entry))) (now (image .entry)) (planPairs (poolOf (now (s .entry))) frame off size (spec.pairs (recordOf (now (s .entry)) at))) ⌝ }
+    ensures { λ r. ⌜ Follows write r (now (image .exit)) (lookUp (now (olds .entry)) (now (news .entry))) (now (image .entry)) (planPairs (isOld (now (s .entry))) (poolOf (now (s .entry))) frame off size (spec.pairs (recordOf (now (s .entry)) at))) ⌝ }
 {
     let wrong = pairs::wrong_form(s, at, start, count);
     if wrong < count {
@@ -96,7 +94,7 @@ fn move_record(
     write: bool,
 ) -> Move
     requires { ⌜ Stands (now s) at × (imageRight first (length (now image)) ≡ true) × (tableRight (now olds) (now news) ≡ true) ⌝ }
-    ensures { λ r. ⌜ Follows write r (now (image .exit)) (lookUp (now (olds .entry)) (now (news .entry))) (now (image .entry)) (planRecord (poolOf (now (s .entry))) first (length (now (image .entry))) frame size (recordOf (now (s .entry)) at)) ⌝ }
+    ensures { λ r. ⌜ Follows write r (now (image .exit)) (lookUp (now (olds .entry)) (now (news .entry))) (now (image .entry)) (planRecord (isOld (now (s .entry))) (poolOf (now (s .entry))) first (length (now (image .entry))) frame size (recordOf (now (s .entry)) at)) ⌝ }
 {
     if statepoint::is_statepoint(s, at) {
         if extent::extent_right(first, image.len(), frame.rsp, size) {
@@ -125,14 +123,15 @@ fn move_record(
     refused(12, 0)
 }
 
-// The stack size of a function of version 3.
+// The stack size of a function.
 pub fn stack_size(s: &[u8], function: usize) -> u64
-    requires { ⌜ (functionAt false (numFunctions (now s)) ≤ length (now s)) × (function < numFunctions (now s)) ⌝ }
-    ensures { λ r. ⌜ r ≡ word 8 (now (s .entry)) (functionAt false function + stackSizeAt) ⌝ }
+    requires { ⌜ (constantsAt (now s) ≤ length (now s)) × (function < numFunctions (now s)) ⌝ }
+    ensures { λ r. ⌜ r ≡ word 8 (now (s .entry)) (functionAt (isOld (now (s .entry))) function + stackSizeAt) ⌝ }
 {
+    let step = layout::function_size(tables::is_old(s));
     wire::u64_at(
         s,
-        layout::HEADER_SIZE + layout::FUNCTION_SIZE * function + STACK_SIZE_AT,
+        layout::HEADER_SIZE + step * function + layout::STACK_SIZE_AT,
     )
 }
 
@@ -147,8 +146,8 @@ pub fn move_found(
     frame: Frame,
     write: bool,
 ) -> Move
-    requires { ⌜ Accepted (now s) × (found ≡ firstOf (withAddress (frame .address) (entries (now s)))) × (imageRight first (length (now image)) ≡ true) × (tableRight (now olds) (now news) ≡ true) ⌝ }
-    ensures { λ r. ⌜ Follows write r (now (image .exit)) (lookUp (now (olds .entry)) (now (news .entry))) (now (image .entry)) (only (withAddress (frame .address) (entries (now (s .entry)))) (planEntry (poolOf (now (s .entry))) first (length (now (image .entry))) frame)) ⌝ }
+    requires { ⌜ Accepted (now s) × (found ≡ firstOf (recordsOf (now s) frame)) × (imageRight first (length (now image)) ≡ true) × (tableRight (now olds) (now news) ≡ true) ⌝ }
+    ensures { λ r. ⌜ Follows write r (now (image .exit)) (lookUp (now (olds .entry)) (now (news .entry))) (now (image .entry)) (only (recordsOf (now (s .entry)) frame) (planEntry (isOld (now (s .entry))) (poolOf (now (s .entry))) first (length (now (image .entry))) frame)) ⌝ }
 {
     if found.number != 0 {
         return refused(10, 0);

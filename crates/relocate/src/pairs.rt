@@ -5,7 +5,7 @@ ghost use mathlib.Core.Path.{_≡_};
 ghost use mathlib.Core.Bool.{true, not};
 ghost use Prim.Native.Nat.{ℕ, _+_, _*_, _≤_, _<_};
 ghost use lib.ListN.{drop, getD};
-ghost use Rattle.stackmap.specs.Section.{numLocations};
+ghost use Rattle.stackmap.specs.Section.{numLocations, isOld};
 ghost use Rattle.moves.specs.Limits.{pairsMost};
 ghost use Rattle.moves.specs.Search.{lowest};
 ghost use Rattle.moves.specs.Arrays.{Filled};
@@ -17,6 +17,7 @@ use crate::reader;
 use crate::slots;
 use crate::slots::Spot;
 use moves::PAIRS_MOST;
+use stackmap::tables;
 
 // Whether both locations are constants equal to 0.
 fn is_null(s: &[u8], at: usize, j: usize) -> bool
@@ -32,13 +33,14 @@ fn is_null(s: &[u8], at: usize, j: usize) -> bool
 // Whether a pair is null, or both its locations are slots.
 fn right_form(s: &[u8], at: usize, j: usize) -> bool
     requires { ⌜ Stands (now s) at × (j + 1 < numLocations (drop at (now s))) ⌝ }
-    ensures { λ r. ⌜ r ≡ rightForm (poolOf (now (s .entry))) (pairFrom (recordOf (now (s .entry)) at) j) ⌝ }
+    ensures { λ r. ⌜ r ≡ rightForm (isOld (now (s .entry))) (poolOf (now (s .entry))) (pairFrom (recordOf (now (s .entry)) at) j) ⌝ }
 {
     if is_null(s, at, j) {
         return true;
     }
-    if slots::is_slot(reader::location(s, at, j)) {
-        return slots::is_slot(reader::location(s, at, j + 1));
+    let old = tables::is_old(s);
+    if slots::is_slot(old, reader::location(s, at, j)) {
+        return slots::is_slot(old, reader::location(s, at, j + 1));
     }
     false
 }
@@ -71,7 +73,7 @@ fn is_inside(s: &[u8], at: usize, j: usize, frame: Frame, size: usize) -> bool
 // The lowest pair of wrong form; `count` if there is none.
 pub fn wrong_form(s: &[u8], at: usize, start: usize, count: usize) -> usize
     requires { ⌜ Paired (now s) at start count ⌝ }
-    ensures { λ r. ⌜ r ≡ lowest (λ p. not (rightForm (poolOf (now (s .entry))) (pairNumber (recordOf (now (s .entry)) at) p))) count ⌝ }
+    ensures { λ r. ⌜ r ≡ lowest (λ p. not (rightForm (isOld (now (s .entry))) (poolOf (now (s .entry))) (pairNumber (recordOf (now (s .entry)) at) p))) count ⌝ }
 {
     let mut p: usize = 0;
     while p < count {

@@ -3,7 +3,7 @@
 ghost use mathlib.Core.Path.{_≡_};
 ghost use Prim.Native.Nat.{_≤_};
 ghost use Rattle.relocate.specs.Limits.{imageMost};
-ghost use Rattle.relocate.specs.Statepoint.{isSlot};
+ghost use Rattle.relocate.specs.Statepoint.{sizeRight, isSlot};
 ghost use Rattle.relocate.specs.Code.{locationOf, zeroSaid, spotOf, slotIn, positionIn, excessOf, placeIn};
 use crate::Frame;
 use moves::POINTER_SIZE;
@@ -36,20 +36,33 @@ pub fn is_zero(l: LocationAnswer) -> bool
     l.kind == layout::KIND_CONST_INDEX
 }
 
-// Whether a location is a slot: kind 3, size 8 and register 6 or 7.
-pub fn is_slot(l: LocationAnswer) -> bool
-    ensures { λ r. ⌜ r ≡ isSlot (locationOf l) ⌝ }
+// Whether a slot's location may state this size: 8, and in version 1 also 0.
+fn size_right(old: bool, size: u16) -> bool
+    ensures { λ r. ⌜ r ≡ sizeRight old size ⌝ }
+{
+    if size == SLOT_SIZE {
+        return true;
+    }
+    if old {
+        return size == 0;
+    }
+    false
+}
+
+// Whether a location is a slot: kind 3, the right size, and register 6 or 7.
+pub fn is_slot(old: bool, l: LocationAnswer) -> bool
+    ensures { λ r. ⌜ r ≡ isSlot old (locationOf l) ⌝ }
 {
     if l.kind != KIND_INDIRECT {
         return false;
     }
-    if l.size != SLOT_SIZE {
-        return false;
+    if size_right(old, l.size) {
+        if l.register == RBP {
+            return true;
+        }
+        return l.register == RSP;
     }
-    if l.register == RBP {
-        return true;
-    }
-    l.register == RSP
+    false
 }
 
 // Where a slot starts, counted from RSP.

@@ -1,12 +1,18 @@
 use mathlib.Core.Path.{sym, _∙_}
-use Rattle.relocate.proofs.Asking.{section-accepted, first-found}
+use native.Mathlib.Omega.{arith}
+use lib.ListN.{length}
+use Rattle.stackmap.specs.Section.{entries}
+use Rattle.questions.specs.Questions.{withAddress, sought}
+use Rattle.questions.proofs.Standing.{tables-inside}
+use Rattle.questions.proofs.Searched.{section-accepted, first-found}
+use Rattle.relocate.specs.Plan.{recordsOf}
 use Rattle.relocate.proofs.Stages.{refuses, relocates, plan-section, plan-13, plan-14, plan-on}
 use borrow.Author.Needs.{needs}
 use Rattle.relocate.proofs.relocate.Statement.{statement}
 use Rattle.relocate.proofs.relocate.Tie as tie
 
-find-requires : tie.Need-find-requires
-find-requires c κs = search needs
+records-requires : tie.Need-records-requires
+records-requires c κs = search needs
 
 of-section-requires : tie.Need-of-section-requires
 of-section-requires c κs = search needs
@@ -16,10 +22,9 @@ refused-requires c κs = search needs
 
 returns : tie.Need-returns
 returns c =
-    let a = c .before .before .before .before .before .before .before .before .args in
-    relocates (a .section .now) (a .olds .now) (a .news .now) (a .first) (a .image .now) (a .frame) _ _
+    relocates (c .before .before .before .before .before .before .before .before .args .section .now) (c .before .before .before .before .before .before .before .before .args .olds .now) (c .before .before .before .before .before .before .before .before .args .news .now) (c .before .before .before .before .before .before .before .before .args .first) (c .before .before .before .before .before .before .before .before .args .image .now) (c .before .before .before .before .before .before .before .before .args .frame) _ _
     (refuses _ _ _ _ _ _ _ (c .refused .ensures)
-    (plan-section (a .section .now) (a .olds .now) (a .news .now) (a .first) (a .image .now) (a .frame) (c .before .before .before .find .result) (c .before .before .before .find .ensures) (sym (c .before .before .of-section .ensures) ∙ c .before .if1 .taken)))
+    (plan-section (c .before .before .before .before .before .before .before .before .args .section .now) (c .before .before .before .before .before .before .before .before .args .olds .now) (c .before .before .before .before .before .before .before .before .args .news .now) (c .before .before .before .before .before .before .before .before .args .first) (c .before .before .before .before .before .before .before .before .args .image .now) (c .before .before .before .before .before .before .before .before .args .frame) (c .before .before .before .records .result) (c .before .before .before .records .ensures) (sym (c .before .before .of-section .ensures) ∙ c .before .if1 .taken)))
 
 image-right-requires : tie.Need-image-right-requires
 image-right-requires c κs = search needs
@@ -27,25 +32,25 @@ image-right-requires c κs = search needs
 table-right-requires : tie.Need-table-right-requires
 table-right-requires c κs = search needs
 
+named-requires : tie.Need-named-requires
+named-requires c κs = let i = tables-inside (c .before .before .before .before .before .before .before .before .before .before .before .args .section .now) (length (c .before .before .before .before .before .before .before .before .before .before .before .args .section .now)) (section-accepted (c .before .before .before .before .before .before .before .before .before .before .before .args .section .now) (c .before .before .before .before .before .before .before .before .before .before .before .args .frame .address) (c .before .before .before .before .before .before .records .result) (c .before .before .before .before .before .before .records .ensures) (sym (c .before .before .before .before .before .of-section .ensures) ∙ c .before .before .before .before .if1 .left)) in omega arith
+
 move-found-requires : tie.Need-move-found-requires
-move-found-requires c κs =
-    let a = c .before .before .before .before .before .before .before .before .before .before .before .before .args in
-    let h = sym (c .before .before .before .before .before .before .of-section .ensures) ∙ c .before .before .before .before .before .if1 .left in (
-      section-accepted (a .section .now) (a .frame .address) (c .before .before .before .before .before .before .before .find .result) (c .before .before .before .before .before .before .before .find .ensures) h,
-      first-found (a .section .now) (a .frame .address) (c .before .before .before .before .before .before .before .find .result) (c .before .before .before .before .before .before .before .find .ensures) h,
-      sym (c .before .before .before .before .image-right .ensures) ∙ c .before .before .before .if2 .taken,
-      sym (c .before .before .table-right .ensures) ∙ c .before .if3 .taken,
-    )
+unfolding recordsOf sought
+move-found-requires c κs = (
+  (section-accepted (c .before .before .before .before .before .before .before .before .before .before .before .before .before .args .section .now) (c .before .before .before .before .before .before .before .before .before .before .before .before .before .args .frame .address) (c .before .before .before .before .before .before .before .before .records .result) (c .before .before .before .before .before .before .before .before .records .ensures) (sym (c .before .before .before .before .before .before .before .of-section .ensures) ∙ c .before .before .before .before .before .before .if1 .left)),
+  c .before .named .ensures (withAddress (c .before .before .before .before .before .before .before .before .before .before .before .before .before .args .frame .address) (entries (c .before .before .before .before .before .before .before .before .before .before .before .before .before .args .section .now))) (first-found (c .before .before .before .before .before .before .before .before .before .before .before .before .before .args .section .now) (c .before .before .before .before .before .before .before .before .before .before .before .before .before .args .frame .address) (c .before .before .before .before .before .before .before .before .records .result) (c .before .before .before .before .before .before .before .before .records .ensures) (sym (c .before .before .before .before .before .before .before .of-section .ensures) ∙ c .before .before .before .before .before .before .if1 .left)),
+  (sym (c .before .before .before .before .before .image-right .ensures) ∙ c .before .before .before .before .if2 .taken),
+  (sym (c .before .before .before .table-right .ensures) ∙ c .before .before .if3 .taken),
+)
 
 same-length : tie.Need-same-length
 same-length c = search needs
 
 returns-2 : tie.Need-returns-2
 returns-2 c =
-    let a = c .before .before .before .before .before .before .before .before .before .before .before .before .before .before .before .args in
-    let k = section-accepted (a .section .now) (a .frame .address) (c .before .before .before .before .before .before .before .before .before .before .find .result) (c .before .before .before .before .before .before .before .before .before .before .find .ensures) (sym (c .before .before .before .before .before .before .before .before .before .of-section .ensures) ∙ c .before .before .before .before .before .before .before .before .if1 .left) in
-    relocates (a .section .now) (a .olds .now) (a .news .now) (a .first) (a .image .now) (a .frame) _ _
-    (rw (plan-on (a .section .now) (a .olds .now) (a .news .now) (a .first) (a .image .now) (a .frame) k (sym (c .before .before .before .before .before .before .before .image-right .ensures) ∙ c .before .before .before .before .before .before .if2 .taken) (sym (c .before .before .before .before .before .table-right .ensures) ∙ c .before .before .before .before .if3 .taken))
+    relocates (c .before .before .before .before .before .before .before .before .before .before .before .before .before .before .before .before .args .section .now) (c .before .before .before .before .before .before .before .before .before .before .before .before .before .before .before .before .args .olds .now) (c .before .before .before .before .before .before .before .before .before .before .before .before .before .before .before .before .args .news .now) (c .before .before .before .before .before .before .before .before .before .before .before .before .before .before .before .before .args .first) (c .before .before .before .before .before .before .before .before .before .before .before .before .before .before .before .before .args .image .now) (c .before .before .before .before .before .before .before .before .before .before .before .before .before .before .before .before .args .frame) _ _
+    (rw (plan-on (c .before .before .before .before .before .before .before .before .before .before .before .before .before .before .before .before .args .section .now) (c .before .before .before .before .before .before .before .before .before .before .before .before .before .before .before .before .args .olds .now) (c .before .before .before .before .before .before .before .before .before .before .before .before .before .before .before .before .args .news .now) (c .before .before .before .before .before .before .before .before .before .before .before .before .before .before .before .before .args .first) (c .before .before .before .before .before .before .before .before .before .before .before .before .before .before .before .before .args .image .now) (c .before .before .before .before .before .before .before .before .before .before .before .before .before .before .before .before .args .frame) (section-accepted (c .before .before .before .before .before .before .before .before .before .before .before .before .before .before .before .before .args .section .now) (c .before .before .before .before .before .before .before .before .before .before .before .before .before .before .before .before .args .frame .address) (c .before .before .before .before .before .before .before .before .before .before .before .records .result) (c .before .before .before .before .before .before .before .before .before .before .before .records .ensures) (sym (c .before .before .before .before .before .before .before .before .before .before .of-section .ensures) ∙ c .before .before .before .before .before .before .before .before .before .if1 .left)) (sym (c .before .before .before .before .before .before .before .before .image-right .ensures) ∙ c .before .before .before .before .before .before .before .if2 .taken) (sym (c .before .before .before .before .before .before .table-right .ensures) ∙ c .before .before .before .before .before .if3 .taken))
     (c .before .before .move-found .ensures))
 
 refused-requires-2 : tie.Need-refused-requires-2
@@ -53,37 +58,18 @@ refused-requires-2 c κs = search needs
 
 returns-3 : tie.Need-returns-3
 returns-3 c =
-    let a = c .before .before .before .before .before .before .before .before .before .before .before .before .args in
-    let k = section-accepted (a .section .now) (a .frame .address) (c .before .before .before .before .before .before .before .find .result) (c .before .before .before .before .before .before .before .find .ensures) (sym (c .before .before .before .before .before .before .of-section .ensures) ∙ c .before .before .before .before .before .if1 .left) in
-    relocates (a .section .now) (a .olds .now) (a .news .now) (a .first) (a .image .now) (a .frame) _ _
+    relocates (c .before .before .before .before .before .before .before .before .before .before .before .before .args .section .now) (c .before .before .before .before .before .before .before .before .before .before .before .before .args .olds .now) (c .before .before .before .before .before .before .before .before .before .before .before .before .args .news .now) (c .before .before .before .before .before .before .before .before .before .before .before .before .args .first) (c .before .before .before .before .before .before .before .before .before .before .before .before .args .image .now) (c .before .before .before .before .before .before .before .before .before .before .before .before .args .frame) _ _
     (refuses _ _ _ _ _ 14 0 (c .refused2 .ensures)
-    (plan-14 (a .section .now) (a .olds .now) (a .news .now) (a .first) (a .image .now) (a .frame) k (sym (c .before .before .before .before .image-right .ensures) ∙ c .before .before .before .if2 .taken) (sym (c .before .before .table-right .ensures) ∙ c .before .if3 .left)))
+    (plan-14 (c .before .before .before .before .before .before .before .before .before .before .before .before .args .section .now) (c .before .before .before .before .before .before .before .before .before .before .before .before .args .olds .now) (c .before .before .before .before .before .before .before .before .before .before .before .before .args .news .now) (c .before .before .before .before .before .before .before .before .before .before .before .before .args .first) (c .before .before .before .before .before .before .before .before .before .before .before .before .args .image .now) (c .before .before .before .before .before .before .before .before .before .before .before .before .args .frame) (section-accepted (c .before .before .before .before .before .before .before .before .before .before .before .before .args .section .now) (c .before .before .before .before .before .before .before .before .before .before .before .before .args .frame .address) (c .before .before .before .before .before .before .before .records .result) (c .before .before .before .before .before .before .before .records .ensures) (sym (c .before .before .before .before .before .before .of-section .ensures) ∙ c .before .before .before .before .before .if1 .left)) (sym (c .before .before .before .before .image-right .ensures) ∙ c .before .before .before .if2 .taken) (sym (c .before .before .table-right .ensures) ∙ c .before .if3 .left)))
 
 refused-requires-3 : tie.Need-refused-requires-3
 refused-requires-3 c κs = search needs
 
 returns-4 : tie.Need-returns-4
 returns-4 c =
-    let a = c .before .before .before .before .before .before .before .before .before .before .args in
-    let k = section-accepted (a .section .now) (a .frame .address) (c .before .before .before .before .before .find .result) (c .before .before .before .before .before .find .ensures) (sym (c .before .before .before .before .of-section .ensures) ∙ c .before .before .before .if1 .left) in
-    relocates (a .section .now) (a .olds .now) (a .news .now) (a .first) (a .image .now) (a .frame) _ _
+    relocates (c .before .before .before .before .before .before .before .before .before .before .args .section .now) (c .before .before .before .before .before .before .before .before .before .before .args .olds .now) (c .before .before .before .before .before .before .before .before .before .before .args .news .now) (c .before .before .before .before .before .before .before .before .before .before .args .first) (c .before .before .before .before .before .before .before .before .before .before .args .image .now) (c .before .before .before .before .before .before .before .before .before .before .args .frame) _ _
     (refuses _ _ _ _ _ 13 0 (c .refused3 .ensures)
-    (plan-13 (a .section .now) (a .olds .now) (a .news .now) (a .first) (a .image .now) (a .frame) k (sym (c .before .before .image-right .ensures) ∙ c .before .if2 .left)))
+    (plan-13 (c .before .before .before .before .before .before .before .before .before .before .args .section .now) (c .before .before .before .before .before .before .before .before .before .before .args .olds .now) (c .before .before .before .before .before .before .before .before .before .before .args .news .now) (c .before .before .before .before .before .before .before .before .before .before .args .first) (c .before .before .before .before .before .before .before .before .before .before .args .image .now) (c .before .before .before .before .before .before .before .before .before .before .args .frame) (section-accepted (c .before .before .before .before .before .before .before .before .before .before .args .section .now) (c .before .before .before .before .before .before .before .before .before .before .args .frame .address) (c .before .before .before .before .before .records .result) (c .before .before .before .before .before .records .ensures) (sym (c .before .before .before .before .of-section .ensures) ∙ c .before .before .before .if1 .left)) (sym (c .before .before .image-right .ensures) ∙ c .before .if2 .left)))
 
 pub relocate-spec : {M : Type 1} → statement M
-relocate-spec =
-    tie.close
-    (tie.spec
-    find-requires
-    of-section-requires
-    refused-requires
-    returns
-    image-right-requires
-    table-right-requires
-    move-found-requires
-    same-length
-    returns-2
-    refused-requires-2
-    returns-3
-    refused-requires-3
-    returns-4)
+relocate-spec = tie.close (tie.spec records-requires of-section-requires refused-requires returns image-right-requires table-right-requires named-requires move-found-requires same-length returns-2 refused-requires-2 returns-3 refused-requires-3 returns-4)

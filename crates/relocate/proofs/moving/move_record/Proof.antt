@@ -1,6 +1,7 @@
 use mathlib.Core.Path.{sym, _∙_}
 use native.Mathlib.Omega.{arith}
 use lib.ListN.{length}
+use Rattle.stackmap.specs.Section.{isOld}
 use Rattle.relocate.specs.Code.{recordOf, poolOf}
 use Rattle.relocate.proofs.Stages.{refuses, image-most, extent-tells, record-12, record-16, record-17, record-on}
 use borrow.Author.Needs.{needs}
@@ -23,7 +24,7 @@ returns : tie.Need-returns
 returns c =
     let s = c .before .before .before .before .before .before .before .before .before .before .before in
     refuses _ _ _ _ _ 17 0 (c .refused .ensures)
-    (record-17 (poolOf (s .args .s .now)) (s .args .first) (length (s .args .image .now)) (s .args .frame) (s .args .size) (recordOf (s .args .s .now) (s .args .at))
+    (record-17 (isOld (s .args .s .now)) (poolOf (s .args .s .now)) (s .args .first) (length (s .args .image .now)) (s .args .frame) (s .args .size) (recordOf (s .args .s .now) (s .args .at))
     (sym (c .before .before .before .before .before .before .is-statepoint .ensures) ∙ c .before .before .before .before .before .if1 .taken) (sym (c .before .before .before .before .extent-right .ensures) ∙ c .before .before .before .if2 .taken) _ (c .before .before .pairs-of .ensures .counted) (c .before .if3 .taken))
 
 sub-off : tie.Need-sub-off
@@ -45,7 +46,7 @@ same-length c = search needs
 returns-2 : tie.Need-returns-2
 returns-2 c =
     let s = c .before .before .before .before .before .before .before .before .before .before .before .before .before .before .before in
-    rw (record-on (poolOf (s .args .s .now)) (s .args .first) (length (s .args .image .now)) (s .args .frame) (s .args .size) (recordOf (s .args .s .now) (s .args .at))
+    rw (record-on (isOld (s .args .s .now)) (poolOf (s .args .s .now)) (s .args .first) (length (s .args .image .now)) (s .args .frame) (s .args .size) (recordOf (s .args .s .now) (s .args .at))
     (sym (c .before .before .before .before .before .before .before .before .before .before .is-statepoint .ensures) ∙ c .before .before .before .before .before .before .before .before .before .if1 .taken) (sym (c .before .before .before .before .before .before .before .before .extent-right .ensures) ∙ c .before .before .before .before .before .before .before .if2 .taken) _ (c .before .before .before .before .before .before .pairs-of .ensures .counted) (c .before .before .before .before .before .if3 .left))
     (c .before .before .move-pairs .ensures)
 
@@ -56,7 +57,7 @@ returns-3 : tie.Need-returns-3
 returns-3 c =
     let s = c .before .before .before .before .before .before .before .before .before in
     refuses _ _ _ _ _ 16 0 (c .refused2 .ensures)
-    (record-16 (poolOf (s .args .s .now)) (s .args .first) (length (s .args .image .now)) (s .args .frame) (s .args .size) (recordOf (s .args .s .now) (s .args .at))
+    (record-16 (isOld (s .args .s .now)) (poolOf (s .args .s .now)) (s .args .first) (length (s .args .image .now)) (s .args .frame) (s .args .size) (recordOf (s .args .s .now) (s .args .at))
     (sym (c .before .before .before .before .is-statepoint .ensures) ∙ c .before .before .before .if1 .taken) (sym (c .before .before .extent-right .ensures) ∙ c .before .if2 .left))
 
 refused-requires-3 : tie.Need-refused-requires-3
@@ -66,7 +67,7 @@ returns-4 : tie.Need-returns-4
 returns-4 c =
     let s = c .before .before .before .before .before .before .before in
     refuses _ _ _ _ _ 12 0 (c .refused3 .ensures)
-    (record-12 (poolOf (s .args .s .now)) (s .args .first) (length (s .args .image .now)) (s .args .frame) (s .args .size) (recordOf (s .args .s .now) (s .args .at))
+    (record-12 (isOld (s .args .s .now)) (poolOf (s .args .s .now)) (s .args .first) (length (s .args .image .now)) (s .args .frame) (s .args .size) (recordOf (s .args .s .now) (s .args .at))
     (sym (c .before .before .is-statepoint .ensures) ∙ c .before .if1 .left))
 
 pub move-record-spec : {M : Type 1} → statement M

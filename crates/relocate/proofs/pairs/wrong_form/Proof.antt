@@ -2,6 +2,7 @@ use Prim.Native.Nat.{_-_}
 use mathlib.Core.Path.{sym, _∙_}
 use native.Mathlib.Omega.{arith}
 use borrow.Author.Needs.{needs}
+use Rattle.stackmap.specs.Section.{isOld}
 use Rattle.relocate.specs.Statepoint.{rightForm}
 use Rattle.relocate.specs.Code.{recordOf, poolOf}
 use Rattle.relocate.proofs.Records.{pair-inside}
@@ -10,7 +11,7 @@ use Rattle.relocate.proofs.pairs.wrong_form.Statement.{statement}
 use Rattle.relocate.proofs.pairs.wrong_form.Tie as tie
 
 abbrev Inv-loop : tie.InvT-loop
-Inv-loop s at start count p₀ p = Looking (rightForm (poolOf s)) (recordOf s at) count p
+Inv-loop s at start count p₀ p = Looking (rightForm (isOld s) (poolOf s)) (recordOf s at) count p
 
 abbrev μ-loop : tie.MeasureT-loop
 μ-loop s at start count p₀ p = count - p
