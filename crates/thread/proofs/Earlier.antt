@@ -8,21 +8,19 @@ use borrow.Author.Tests.{lt-ltb, le-ltb, leb-true, ne-eqb}
 use lib.Dec.{ltb, leb}
 use lib.ListN.{length}
 use Rattle.wire.specs.Word.{Bytes, word}
-use Rattle.stackmap.specs.Section.{numFunctions, entries}
+use Rattle.stackmap.specs.Section.{numFunctions, isOld, constantsAt}
 use Rattle.stackmap.specs.Check.{Accepted}
 use Rattle.stackmap.specs.Walk.{functionAt}
 use Rattle.questions.specs.declared.Found.{Found}
-use Rattle.questions.specs.Questions.{withAddress, firstOf}
-use Rattle.stackmap.proofs.WellFormed.{accepted-new}
-use Rattle.questions.proofs.Standing.{tables-inside}
+use Rattle.questions.specs.Questions.{firstOf}
 use Rattle.moves.specs.declared.Move.{Move}
 use Rattle.moves.specs.Settle.{refusedMove}
 use Rattle.relocate.specs.declared.Frame.{Frame}
-use Rattle.relocate.specs.Plan.{imageRight, stackSize}
+use Rattle.relocate.specs.Plan.{recordsOf, imageRight, stackSize}
 use Rattle.relocate.specs.Relocation.{answer}
 use Rattle.stackmap.proofs.Tests.{and-true}
 use Rattle.relocate.proofs.Planned.{planned}
-use Rattle.relocate.proofs.Asking.{owner-number, size-is}
+use Rattle.relocate.proofs.Asking.{functions-inside, owner-number, size-is}
 use Rattle.relocate.proofs.Demand.{accepts}
 use Rattle.thread.specs.Stretches.{share, sharesAny, Apart}
 use Rattle.thread.specs.Thread.{frameAt, framesFrom, Extent, extentOf, sharesOne, apart}
@@ -47,17 +45,15 @@ module _ (s : List ℕ) (f : Frame) (t : Sited s f) where
   unfolding extentOf
   extent-is = rw (t .one, ne-eqb _ _ (t .known)) (refl, refl)
 
-  module _ (k : Accepted s) (w : Bytes s) (r : Found) (e : r ≡ firstOf (withAddress (f .address) (entries s))) where
+  module _ (k : Accepted s) (w : Bytes s) (r : Found) (e : r ≡ firstOf (recordsOf s f)) where
     here : r .function ≡ t .entry .owner .number
     here = rw (e, t .one)
 
-    pub sited-function : (16 + 24 * numFunctions s ≤ length s) × (r .function < numFunctions s)
-    sited-function =
-        let i = rw (accepted-new s (length s) k) at (tables-inside s (length s) k) in
-        (omega arith, rw here (owner-number s (f .address) k w (t .entry) (t .one)))
+    pub sited-function : (constantsAt s ≤ length s) × (r .function < numFunctions s)
+    sited-function = (functions-inside s k, rw here (owner-number s f k w (t .entry) (t .one)))
 
-    pub sited-size : word 8 s (functionAt false (r .function) + 8) ≡ stackSize (t .entry)
-    sited-size = rw here (sym (size-is s (f .address) k w (t .entry) (t .one)))
+    pub sited-size : word 8 s (functionAt (isOld s) (r .function) + 8) ≡ stackSize (t .entry)
+    sited-size = rw here (sym (size-is s f k w (t .entry) (t .one)))
 
 -- The extents that were kept.
 

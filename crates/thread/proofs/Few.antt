@@ -10,16 +10,16 @@ use lib.Dec.{leb, ltb}
 use lib.ListN.{length, length-map}
 use Rattle.stackmap.specs.declared.Verdict.{Verdict}
 use Rattle.stackmap.specs.declared.Verdict.the-variants.{Valid, Refused}
-use Rattle.stackmap.specs.Section.{Record, Entry, entries, readSection}
+use Rattle.stackmap.specs.Section.{isOld, Record, Entry, readSection}
 use Rattle.stackmap.specs.Check.{sectionCheck}
-use Rattle.questions.specs.Questions.{ask, withAddress}
+use Rattle.questions.specs.Questions.{ask}
 use Rattle.moves.specs.Table.{tableRight, lookUp}
 use Rattle.moves.specs.Pointers.{Pointer}
 use Rattle.moves.specs.Settle.{answerBy, answerFor, first20, first21, settled}
 use Rattle.moves.specs.Plan.{Plan, refuse, window, says}
 use Rattle.relocate.specs.declared.Frame.{Frame}
 use Rattle.relocate.specs.Statepoint.{isStatepoint, Pair, pairs, rightForm, inside, pointerOf}
-use Rattle.relocate.specs.Plan.{need, only, every, imageRight, extentRight, stackSize, planPairs, planRecord, planEntry, plan}
+use Rattle.relocate.specs.Plan.{recordsOf, need, only, every, imageRight, extentRight, stackSize, planPairs, planRecord, planEntry, plan}
 use Rattle.relocate.specs.Relocation.{answer}
 
 -- a plan with so few pointers
@@ -52,23 +52,23 @@ unfolding ask
 ask-few (Valid e) k h = h
 ask-few (Refused n p) k h = tt
 
-pairs-few : (pool : List ℕ) (f : Frame) (off size : ℕ) (ps : List Pair) → length ps ≤ 256 → Few (planPairs pool f off size ps)
+pairs-few : (old : Bool) (pool : List ℕ) (f : Frame) (off size : ℕ) (ps : List Pair) → length ps ≤ 256 → Few (planPairs old pool f off size ps)
 unfolding planPairs
-pairs-few pool f off size ps h =
-    every-few (rightForm pool) 18 0 ps _
+pairs-few old pool f off size ps h =
+    every-few (rightForm old pool) 18 0 ps _
     (every-few (inside pool f size) 19 0 ps _ (rw (length-map ps (pointerOf pool f)) h))
 
-record-few : (pool : List ℕ) (first n : ℕ) (f : Frame) (size : ℕ) (r : Record) → Few (planRecord pool first n f size r)
+record-few : (old : Bool) (pool : List ℕ) (first n : ℕ) (f : Frame) (size : ℕ) (r : Record) → Few (planRecord old pool first n f size r)
 unfolding planRecord
-record-few pool first n f size r =
-    need-few _ 12 _ (λ a. need-few _ 16 _ (λ b. need-few _ 17 _ (λ c. pairs-few pool f _ size (pairs r) (leb-true (length (pairs r)) 256 c))))
+record-few old pool first n f size r =
+    need-few _ 12 _ (λ a. need-few _ 16 _ (λ b. need-few _ 17 _ (λ c. pairs-few old pool f _ size (pairs r) (leb-true (length (pairs r)) 256 c))))
 
 plan-few : (s olds news : List ℕ) (first n : ℕ) (f : Frame) → Few (plan s olds news first n f)
 unfolding plan
 plan-few s olds news first n f =
     ask-few (sectionCheck s) _
     (need-few _ 13 _ (λ a. need-few _ 14 _ (λ b.
-    only-few (withAddress (f .address) (entries s)) _ (λ e. record-few (readSection s .constants) first n f (stackSize e) (e .body)))))
+    only-few (recordsOf s f) _ (λ e. record-few (isOld s) (readSection s .constants) first n f (stackSize e) (e .body)))))
 
 says-few : (table : ℕ → Option ℕ) (im : List ℕ) (p : Plan) → Few p → says table im p .count ≤ 256
 unfolding settled answerFor

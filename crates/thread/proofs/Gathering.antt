@@ -30,11 +30,11 @@ gathered-on ns before after k x r g b i e =
         let z : j ≡ k = omega arith in
         rw (z, ← e) (new-there i (b .most))
 
-pub first-number : (ns : List ℕ) (k : ℕ) → getD ns (3 * k) 0 ≡ frameAt ns k .address
+pub first-number : (ns : List ℕ) (k : ℕ) → getD ns (4 * k) 0 ≡ frameAt ns k .address
 unfolding frameAt
 first-number ns k = refl
 
 -- a right list has so many frames
-pub right-most : (ns : List ℕ) → listRight ns ≡ true → length ns / 3 ≤ 4096
+pub right-most : (ns : List ℕ) → listRight ns ≡ true → length ns / 4 ≤ 4096
 unfolding listRight
-right-most ns h = leb-true _ _ (and-true (eqb (length ns % 3) 0) (leb (length ns / 3) 4096) h .1)
+right-most ns h = leb-true _ _ (and-true (eqb (length ns % 4) 0) (leb (length ns / 4) 4096) h .1)

@@ -6,15 +6,14 @@ use mathlib.Core.List.{List, [], _∷_}
 use native.Mathlib.Omega.{arith}
 use borrow.Author.Tests.{eq-eqb, ne-eqb}
 use lib.ListN.{length}
-use Rattle.stackmap.specs.Section.{entries}
+use Rattle.stackmap.specs.Section.{isOld}
 use Rattle.stackmap.specs.Check.{Accepted}
-use Rattle.questions.specs.Questions.{withAddress}
 use Rattle.moves.specs.declared.Move.{Move}
 use Rattle.moves.specs.Table.{tableRight, lookUp}
 use Rattle.moves.specs.Settle.{refusedMove, acceptedMove}
 use Rattle.moves.specs.Plan.{Follows}
 use Rattle.relocate.specs.declared.Frame.{Frame}
-use Rattle.relocate.specs.Plan.{imageRight, only, planEntry}
+use Rattle.relocate.specs.Plan.{recordsOf, imageRight, only, planEntry}
 use Rattle.relocate.specs.Relocation.{answer, moved}
 use Rattle.relocate.specs.Lists.{final}
 use Rattle.relocate.specs.Code.{poolOf}
@@ -28,7 +27,7 @@ use Rattle.thread.proofs.Few.{answer-few}
 module _ (s olds news : List ℕ) (first : ℕ) (im : List ℕ) (f : Frame) (k : Accepted s) (i : imageRight first (length im) ≡ true)
     (t : tableRight olds news ≡ true) where
   pub one-moved : (write : Bool) (r : Move) (after : List ℕ)
-      → Follows write r after (lookUp olds news) im (only (withAddress (f .address) (entries s)) (planEntry (poolOf s) first (length im) f))
+      → Follows write r after (lookUp olds news) im (only (recordsOf s f) (planEntry (isOld s) (poolOf s) first (length im) f))
       → (r ≡ answer s olds news first im f) × (after ≡ movedIf write s olds news first im f)
   unfolding answer moved
   one-moved true r after h = rw (plan-on s olds news first im f k i t) (h .answer, h .left)

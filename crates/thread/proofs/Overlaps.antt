@@ -8,13 +8,12 @@ use native.Mathlib.Omega.{arith}
 use borrow.Author.Tests.{ltb-true, eqb-false, lt-ltb, ne-eqb}
 use lib.Dec.{eqb}
 use Rattle.stackmap.specs.Layout.{stackSizeUnknown}
-use Rattle.stackmap.specs.Section.{Entry, entries}
-use Rattle.questions.specs.Questions.{withAddress}
+use Rattle.stackmap.specs.Section.{Entry}
 use Rattle.moves.specs.declared.Move.{Move}
 use Rattle.moves.specs.Settle.{refusedMove}
 use Rattle.moves.proofs.Searches.{or-no}
 use Rattle.relocate.specs.declared.Frame.{Frame}
-use Rattle.relocate.specs.Plan.{stackSize}
+use Rattle.relocate.specs.Plan.{recordsOf, stackSize}
 use Rattle.relocate.specs.Relocation.{InExtent}
 use Rattle.relocate.specs.Lists.{Disjoint}
 use Rattle.stackmap.proofs.Tests.{and-true}
@@ -59,14 +58,14 @@ in-stretch s f a i =
 
 pub of-stretch : (s : List ℕ) (f : Frame) (a : ℕ) → In (extentOf s f) a → InExtent s f a
 unfolding extentOf
-of-stretch s f a i = go (withAddress (f .address) (entries s)) refl i
+of-stretch s f a i = go (recordsOf s f) refl i
   where
-    size : (e : Entry) → withAddress (f .address) (entries s) ≡ e ∷ [] → (t : Bool) → eqb (stackSize e) stackSizeUnknown ≡ t
+    size : (e : Entry) → recordsOf s f ≡ e ∷ [] → (t : Bool) → eqb (stackSize e) stackSizeUnknown ≡ t
         → Within (f .rsp) (cond t (f .rsp) (f .rsp + stackSize e)) a → InExtent s f a
     size e q true h w = absurd (omega arith)
     size e q false h w = record { entry = e; one = q; known = eqb-false _ _ h; low = w .low; high = w .high }
 
-    go : (es : List Entry) → withAddress (f .address) (entries s) ≡ es → In (extentBy (f .rsp) es) a → InExtent s f a
+    go : (es : List Entry) → recordsOf s f ≡ es → In (extentBy (f .rsp) es) a → InExtent s f a
     go [] q w = absurd (omega arith)
     go (e ∷ []) q w = size e q (eqb (stackSize e) stackSizeUnknown) refl w
     go (e ∷ e′ ∷ es) q w = absurd (omega arith)

@@ -119,7 +119,7 @@ module _ (s olds news : List ℕ) (first : ℕ) (im : List ℕ) where
           unfolding threadAnswer ask demand
           thread-25 h = refused-threads 25 0 (λ z. omega arith) (rw (k, i, t, h))
 
-          pub thread-frames : (n : ℕ) (r : Move) (after : List ℕ) → listRight ns ≡ true → n ≡ length ns / 3
+          pub thread-frames : (n : ℕ) (r : Move) (after : List ℕ) → listRight ns ≡ true → n ≡ length ns / 4
               → (r ≡ framesAnswer s olds news first im (framesFrom ns n 0)) × (after ≡ framesImage s olds news first im (framesFrom ns n 0))
               → Threads s olds news first im ns r after
           unfolding threadAnswer threadImage framesAnswer framesImage framesOf ask demand

@@ -1,4 +1,4 @@
--- A whole thread in one call: document 02, request 1. All frames of the list move, or none does.
+-- A whole thread in one call: document 02, requests 1 and 2. All frames of the list move, or none does.
 use Prim.Native.Nat.{ℕ, zero, suc, _+_, _*_, _/_, _%_}
 use mathlib.Core.Path.{_≡_}
 use mathlib.Core.Bool.{Bool, cond, _&&_, _||_, false}
@@ -6,34 +6,40 @@ use mathlib.Core.List.{List, [], _∷_, map}
 use lib.Dec.{eqb, leb}
 use lib.ListN.{length, getD}
 use Rattle.stackmap.specs.Layout.{stackSizeUnknown}
-use Rattle.stackmap.specs.Section.{Entry, entries}
+use Rattle.stackmap.specs.Section.{Entry}
 use Rattle.stackmap.specs.Check.{sectionCheck}
-use Rattle.questions.specs.Questions.{ask, withAddress}
+use Rattle.questions.specs.Questions.{ask}
 use Rattle.moves.specs.declared.Move.{Move}
 use Rattle.moves.specs.Table.{tableRight}
 use Rattle.moves.specs.Settle.{refusedMove, acceptedMove}
 use Rattle.relocate.specs.declared.Frame.{Frame}
-use Rattle.relocate.specs.Plan.{imageRight, stackSize}
+use Rattle.relocate.specs.Plan.{recordsOf, imageRight, stackSize}
 use Rattle.relocate.specs.Relocation.{answer}
 use Rattle.relocate.specs.Lists.{final}
 use Rattle.thread.specs.Stretches.{share}
 
--- The list: three numbers a frame, address, RBP and RSP.
+-- The list: four numbers a frame, address, RBP, RSP and the function number. In version 1 the address is the offset in that function; in
+-- version 3 the function number isn't read.
 
 abbrev pub framesMost : ℕ
 framesMost = 4096
 
 abbrev pub frameNumbers : ℕ
-frameNumbers = 3
+frameNumbers = 4
 
--- 25: the list's length isn't a multiple of three, or it holds over 4,096 frames
+-- 25: the list's length isn't a multiple of four, or it holds over 4,096 frames
 unfoldable pub listRight : List ℕ → Bool
 listRight ns = eqb (length ns % frameNumbers) 0 && leb (length ns / frameNumbers) framesMost
 
 -- the frame at a position, counted from 0
 unfoldable pub frameAt : List ℕ → ℕ → Frame
 frameAt ns k =
-    record { address = getD ns (frameNumbers * k) 0; rbp = getD ns (frameNumbers * k + 1) 0; rsp = getD ns (frameNumbers * k + 2) 0 }
+    record {
+      address = getD ns (frameNumbers * k) 0;
+      rbp = getD ns (frameNumbers * k + 1) 0;
+      rsp = getD ns (frameNumbers * k + 2) 0;
+      function = getD ns (frameNumbers * k + 3) 0;
+    }
 
 -- n frames, from the position k on
 abbrev pub framesFrom : List ℕ → ℕ → ℕ → List Frame
@@ -57,7 +63,7 @@ extentBy rsp (e ∷ []) =
 extentBy rsp (e ∷ e′ ∷ es) = record { start = rsp; end = rsp }
 
 unfoldable pub extentOf : List ℕ → Frame → Extent
-extentOf s f = extentBy (f .rsp) (withAddress (f .address) (entries s))
+extentOf s f = extentBy (f .rsp) (recordsOf s f)
 
 -- it shares a byte with one of these
 abbrev pub sharesOne : Extent → List Extent → Bool

@@ -36,7 +36,7 @@ fn extent(
     ensures { λ r. ⌜ (r .start ≡ extentOf (now (s .entry)) (frameAt (now (frames .entry)) k) .start) × (r .end ≡ extentOf (now (s .entry)) (frameAt (now (frames .entry)) k) .end) ⌝ }
 {
     let frame = list::frame_at(frames, k);
-    let found = search::found(keys, count, hits, frame.address);
+    let found = search::of_frame(s, keys, count, hits, frame);
     let size = moving::stack_size(s, found.function);
     Stretch {
         start: frame.rsp,

@@ -34,7 +34,7 @@ fn one(
         × (now (image .exit) ≡ movedIf write (now (s .entry)) (now (olds .entry)) (now (news .entry)) first (now (image .entry)) (frameAt (now (frames .entry)) k)) ⌝ }
 {
     let frame = list::frame_at(frames, k);
-    let found = search::found(keys, count, hits, frame.address);
+    let found = search::of_frame(s, keys, count, hits, frame);
     moving::move_found(s, found, image, first, olds, news, frame, write)
 }
 

@@ -1,4 +1,4 @@
-// A whole thread in one call: document 02, request 1. All frames move, or none does. The definitions and theorems are in specs/.
+// A whole thread in one call: document 02, requests 1 and 2. All frames move, or none does. The definitions and theorems are in specs/.
 ghost use mathlib.Core.Path.{_≡_};
 ghost use mathlib.Core.Bool.{true};
 ghost use Prim.Native.Nat.{_/_};
@@ -21,8 +21,8 @@ mod stretches;
 // Frames of a list.
 pub const FRAMES_MOST: usize = 4096;
 
-// The numbers of a frame: address, RBP and RSP.
-pub const FRAME_NUMBERS: usize = 3;
+// The numbers of a frame: address, RBP, RSP and the function number.
+pub const FRAME_NUMBERS: usize = 4;
 
 // The frames of a right list: all are judged, then their extents are compared, then all are moved.
 fn move_frames(
@@ -79,7 +79,7 @@ fn of_section(
     moving::refused(13, 0)
 }
 
-// Relocates the frames of a list, three numbers each, in the stack image that starts at the address `first`: a refusal's number and
+// Relocates the frames of a list, four numbers each, in the stack image that starts at the address `first`: a refusal's number and
 // place, with the image as it was; or 0, 0 and the sum of the pairs, with each derived slot moved.
 pub fn relocate_thread(
     section: &[u8],

@@ -1,4 +1,4 @@
-// The list of frames: three numbers a frame, address, RBP and RSP.
+// The list of frames: four numbers a frame, address, RBP, RSP and the function number.
 // `frame_at` is no entry point: it requires a position in the list.
 ghost use mathlib.Core.Path.{_≡_};
 ghost use mathlib.Core.Bool.{true};
@@ -42,5 +42,6 @@ pub fn frame_at(frames: &[u64], k: usize) -> Frame
         address: frames[p],
         rbp: frames[p + 1],
         rsp: frames[p + 2],
+        function: frames[p + 3],
     }
 }

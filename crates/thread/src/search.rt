@@ -7,18 +7,20 @@ ghost use mathlib.Core.List.{List};
 ghost use lib.ListN.{length};
 ghost use Rattle.stackmap.specs.declared.Verdict.the-variants.{Valid};
 ghost use Rattle.stackmap.specs.Section.{recordsAt, address, entries};
-ghost use Rattle.stackmap.specs.Check.{walkCheck, sectionCheck};
+ghost use Rattle.stackmap.specs.Check.{walkCheck, sectionCheck, Accepted};
 ghost use Rattle.stackmap.specs.Walk.{ownerAt, entryAt, Walkable};
 ghost use Rattle.questions.specs.declared.Hits as hitsType;
 ghost use Rattle.questions.specs.Kept.{noHits};
 ghost use Rattle.questions.specs.Questions.{withAddress, firstOf};
 ghost use Rattle.sorted.specs.Sorted.{Sorted, EntryOf};
+ghost use Rattle.relocate.specs.Plan.{recordsOf};
 ghost use Rattle.thread.specs.Thread.{framesMost};
 ghost use Rattle.thread.specs.Code.{hitsAt, Stored, Holding, Counted, notedAll, foundBy, Sought};
 use crate::FRAMES_MOST;
 use questions::Found;
 use questions::Hits;
 use questions::find;
+use relocate::Frame;
 use stackmap::Verdict;
 use stackmap::layout;
 use stackmap::tables;
@@ -182,4 +184,18 @@ pub fn found(
         sharing: h.sharing,
         first: h.first,
     }
+}
+
+// The same for a frame, whose function is named beside it.
+pub fn of_frame(
+    s: &[u8],
+    keys: &[u64; FRAMES_MOST],
+    count: usize,
+    hits: &[usize; HITS_LENGTH],
+    frame: Frame,
+) -> Found
+    requires { ⌜ Accepted (now s) × (count ≤ framesMost) × Sorted (now keys) count × EntryOf (now keys) count (frame .address) × Sought (now s) (now keys) count (now hits) ⌝ }
+    ensures { λ r. ⌜ r ≡ firstOf (recordsOf (now (s .entry)) frame) ⌝ }
+{
+    find::named(s, found(keys, count, hits, frame.address), frame.function)
 }

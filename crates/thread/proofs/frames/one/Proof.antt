@@ -8,13 +8,13 @@ frame-at-requires : tie.Need-frame-at-requires
 frame-at-requires c κs =
     let s = c .before .before .before .before .before in let r = s .pre .0 .looked .room in let l = s .pre .1 in omega arith
 
-found-requires : tie.Need-found-requires
-found-requires c κs =
-    let s = c .before .before .before .before .before .before in (s .pre .0 .looked .most, s .pre .0 .looked .gathered .sorted, rw (c .frame-at .ensures) (s .pre .0 .looked .gathered .each _ (s .pre .1)))
+of-frame-requires : tie.Need-of-frame-requires
+of-frame-requires c κs =
+    let s = c .before .before .before .before .before .before in (s .pre .0 .looked .section-right, s .pre .0 .looked .most, s .pre .0 .looked .gathered .sorted, rw (c .frame-at .ensures) (s .pre .0 .looked .gathered .each _ (s .pre .1)), s .pre .0 .looked .found)
 
 move-found-requires : tie.Need-move-found-requires
 move-found-requires c κs =
-    let s = c .before .before .before .before .before .before .before .before in (s .pre .0 .looked .section-right, c .before .found .ensures _ (s .pre .0 .looked .found), s .pre .0 .image-right, s .pre .0 .table-right)
+    let s = c .before .before .before .before .before .before .before .before in (s .pre .0 .looked .section-right, c .before .of-frame .ensures, s .pre .0 .image-right, s .pre .0 .table-right)
 
 same-length : tie.Need-same-length
 same-length c = search needs
@@ -30,7 +30,7 @@ one-spec =
     tie.close
     (tie.spec
     frame-at-requires
-    found-requires
+    of-frame-requires
     move-found-requires
     same-length
     returns)

@@ -31,6 +31,15 @@ mul-t12 c = search needs
 shared-slice-read-t14 : tie.Need-shared-slice-read-t14
 shared-slice-read-t14 c = search needs
 
+add-t15 : tie.Need-add-t15
+add-t15 c = search needs
+
+mul-t16 : tie.Need-mul-t16
+mul-t16 c = search needs
+
+shared-slice-read-t18 : tie.Need-shared-slice-read-t18
+shared-slice-read-t18 c = search needs
+
 returns : tie.Need-returns
 unfolding frameAt
 returns c = refl
@@ -48,4 +57,7 @@ frame-at-spec =
     add-t11
     mul-t12
     shared-slice-read-t14
+    add-t15
+    mul-t16
+    shared-slice-read-t18
     returns)
