@@ -1,7 +1,7 @@
--- Document 01's worked table: what is asked, and what is answered.
+-- Document 01's worked table, with document 02's change of row D and some rows of version 1: what is asked, and what is answered.
 use Prim.Native.Nat.{ℕ, zero, suc}
 use mathlib.Core.Path.{_≡_}
-use mathlib.Core.Bool.{false}
+use mathlib.Core.Bool.{Bool, true, false}
 use mathlib.Core.List.{List, [], _∷_, _++_, map}
 use lib.ListN.{replicate}
 use Rattle.wire.specs.Word.{bytes}
@@ -15,8 +15,8 @@ use Rattle.moves.specs.declared.Move.{Move}
 use Rattle.relocate.specs.declared.Frame.{Frame}
 use Rattle.relocate.specs.Relocation.{answer, moved}
 
--- what is asked: the check of a section, a section's listing, a listing's section, or a move of a frame at 0x1020 with RSP 0x7000, by
--- a table of one object (old start, new start), in an image from 0x7000
+-- what is asked: the check of a section, a section's listing, a listing's section, or a move of a frame at 0x1020 (in version 1: at the
+-- offset 0x20 of function 0) with RSP 0x7000, by a table of one object (old start, new start), in an image from 0x7000
 pub data Asked : Type 0 where
   check : List ℕ → Asked
   listingOf : List ℕ → Asked
@@ -41,8 +41,9 @@ abbrev pub shifted : ℕ → Move → List ℕ → Got
 shifted zero a im = gives (a .count) im
 shifted (suc n) a im = refused (suc n) (a .place)
 
-abbrev pub frame : Frame
-frame = record { address = 0x1020; rbp = 0; rsp = 0x7000 }
+abbrev pub frame : Bool → Frame
+frame true = record { address = 0x20; rbp = 0; rsp = 0x7000; function = 0 }
+frame false = record { address = 0x1020; rbp = 0; rsp = 0x7000; function = 0 }
 
 -- an output with room enough
 abbrev pub room : List ℕ
@@ -54,8 +55,8 @@ got (listingOf s) = let c = toListing s room in converted (c .number) c
 got (sectionOf l) = let c = toSection l room in converted (c .number) c
 got (moveIn t old new im) =
     let s = encodeSection t in
-    let a = answer s (old ∷ []) (new ∷ []) 0x7000 im frame in
-    shifted (a .number) a (moved s (old ∷ []) (new ∷ []) 0x7000 im frame)
+    let a = answer s (old ∷ []) (new ∷ []) 0x7000 im (frame (t .old)) in
+    shifted (a .number) a (moved s (old ∷ []) (new ∷ []) 0x7000 im (frame (t .old)))
 
 -- a header of version v with three counts
 unfoldable pub header : ℕ → ℕ → ℕ → ℕ → List ℕ
@@ -104,6 +105,16 @@ listingH =
     0x04 ∷ 0x03 ∷ 0x08 ∷ 0x00 ∷ 0x07 ∷ 0x00 ∷ 0x10 ∷ 0x00 ∷ 0x00 ∷ 0x00 ∷
     0x06 ∷ []
 
+-- H in version 1, which states no record count
+abbrev pub oldH : Section
+oldH =
+    record {
+      old = true;
+      functions = record { address = 0x1000; stackSize = 24; count = 0 } ∷ [];
+      constants = H .constants;
+      records = H .records;
+    }
+
 infix 30 _⇒_
 pub record Row : Type 0 where
   pub asked : Asked
@@ -123,11 +134,19 @@ table =
     {- C -}
     (listingOf (header 3 0 0 0) ⇒ gives 1 (0x06 ∷ [])) ∷
     {- D -}
-    (check (header 1 0 0 0) ⇒ refused 2 0) ∷
+    (check (header 2 0 0 0) ⇒ refused 2 0) ∷
+    {- D with 1 -}
+    (check (header 1 0 0 0) ⇒ accepted 16) ∷
+    {- D with 1 -}
+    (listingOf (header 1 0 0 0) ⇒ gives 3 (0x07 ∷ 0x01 ∷ 0x06 ∷ [])) ∷
+    {- D with 1 -}
+    (sectionOf (0x07 ∷ 0x01 ∷ 0x06 ∷ []) ⇒ gives 16 (header 1 0 0 0)) ∷
     {- E -}
     (check (header 3 0 0 0 ++ (0 ∷ [])) ⇒ refused 9 16) ∷
     {- F -}
     (check (header 3 0 0 1) ⇒ refused 5 12) ∷
+    {- F in version 1 -}
+    (check (header 1 0 0 1) ⇒ refused 4 16) ∷
     {- G -}
     (check (header 3 1 0 0) ⇒ refused 4 16) ∷
     {- H -}
@@ -138,6 +157,8 @@ table =
     (sectionOf listingH ⇒ gives 152 (encodeSection H)) ∷
     {- I -}
     (moveIn H 0x50000 0x90000 (image 0x50000 0x54E20) ⇒ gives 2 (image 0x90000 0x94E20)) ∷
+    {- I in version 1 -}
+    (moveIn oldH 0x50000 0x90000 (image 0x50000 0x54E20) ⇒ gives 2 (image 0x90000 0x94E20)) ∷
     {- J -}
     (moveIn exchanged 0x50000 0x90000 (image 0x50000 0x54E20) ⇒ gives 2 (image 0x90000 0x94E20)) ∷
     {- K -}

@@ -30,7 +30,7 @@ abbrev pub moveAnswer : Move → Answer
 moveAnswer m = record { number = m .number; place = m .place; value = m .count }
 
 abbrev pub frameOf : Frame.Frame → Frame
-frameOf f = record { address = f .address; rbp = f .rbp; rsp = f .rsp }
+frameOf f = record { address = f .address; rbp = f .rbp; rsp = f .rsp; function = f .function }
 
 -- The answers of the questions, field by field.
 

@@ -1,7 +1,7 @@
 // The exported functions, for C and Rust, and nothing else.
 ghost use mathlib.Core.Path.{_≡_};
 ghost use Rattle.stackmap.specs.Check.{sectionCheck};
-ghost use Rattle.questions.specs.Questions.{byAddress, recordPlace, locationAnswer, liveOutAnswer};
+ghost use Rattle.questions.specs.Questions.{byAddress, byFunction, recordPlace, locationAnswer, liveOutAnswer};
 ghost use Rattle.listing.specs.Listing.{toListing, toSection};
 ghost use Rattle.relocate.specs.Relocation;
 ghost use Rattle.thread.specs.Thread.{threadAnswer, threadImage};
@@ -35,7 +35,8 @@ pub extern "C" fn treskibben_check(section: &[u8]) -> Answer
     }
 }
 
-// By address: the first record's number, its function's number, and how many records share the address.
+// By address, or by function and offset: the first record's number, its function's number, and how many records share the address or
+// the offset.
 #[repr(C)]
 pub struct Found {
     pub number: u64,
@@ -45,12 +46,28 @@ pub struct Found {
     pub sharing: u64,
 }
 
-// The question by address: the section's refusal, 10 exactly if no record has the address, or the first that has.
+// The question by address: the section's refusal, 27 on version 1, 10 exactly if no record has the address, or the first that has.
 #[no_mangle]
 pub extern "C" fn treskibben_find(section: &[u8], address: u64) -> Found
     ensures { λ r. ⌜ r ≡ foundAt (byAddress (now (section .entry)) address) ⌝ }
 {
     let f = questions::find::find(section, address);
+    Found {
+        number: f.number as u64,
+        place: f.place as u64,
+        index: f.index as u64,
+        function: f.function as u64,
+        sharing: f.sharing as u64,
+    }
+}
+
+// The question by function number and offset, of version 1: the section's refusal, 27 on version 3, 10 exactly if there is no such
+// function or no record at the offset, or the first that is there.
+#[no_mangle]
+pub extern "C" fn treskibben_find_in_function(section: &[u8], function: u64, offset: u64) -> Found
+    ensures { λ r. ⌜ r ≡ foundAt (byFunction (now (section .entry)) function offset) ⌝ }
+{
+    let f = questions::find::find_in_function(section, function, offset);
     Found {
         number: f.number as u64,
         place: f.place as u64,
@@ -162,12 +179,14 @@ pub extern "C" fn treskibben_to_section(listing: &[u8], output: &mut [u8]) -> An
     }
 }
 
-// A frame: an address, RBP and RSP.
+// A frame: an address, RBP and RSP. For version 1 the address is the offset in the function with the number `function`, which is not read
+// for version 3.
 #[repr(C)]
 pub struct Frame {
     pub address: u64,
     pub rbp: u64,
     pub rsp: u64,
+    pub function: u64,
 }
 
 // The move of one frame in the stack image that starts at the address `first`, by the move table of old and new starts: a refusal,
@@ -187,6 +206,7 @@ pub extern "C" fn treskibben_relocate(
         address: frame.address,
         rbp: frame.rbp,
         rsp: frame.rsp,
+        function: frame.function,
     };
     let m = relocate::relocate(section, image, first, olds, news, f);
     Answer {
@@ -196,7 +216,7 @@ pub extern "C" fn treskibben_relocate(
     }
 }
 
-// The move of a whole thread: the frames of a list, three numbers each, address, RBP and RSP, at most 4,096 frames. A refusal, with
+// The move of a whole thread: the frames of a list, four numbers each, address, RBP, RSP and function, at most 4,096 frames. A refusal, with
 // the image as it was; or accepted with the sum of the pairs, and each derived slot of each frame moved.
 #[no_mangle]
 pub extern "C" fn treskibben_thread(
