@@ -46,12 +46,9 @@ pub struct Found {
     pub sharing: u64,
 }
 
-// The question by address: the section's refusal, 27 on version 1, 10 exactly if no record has the address, or the first that has.
-#[no_mangle]
-pub extern "C" fn treskibben_find(section: &[u8], address: u64) -> Found
-    ensures { λ r. ⌜ r ≡ foundAt (byAddress (now (section .entry)) address) ⌝ }
+fn found(f: questions::Found) -> Found
+    ensures { λ r. ⌜ r ≡ foundAt f ⌝ }
 {
-    let f = questions::find::find(section, address);
     Found {
         number: f.number as u64,
         place: f.place as u64,
@@ -61,20 +58,21 @@ pub extern "C" fn treskibben_find(section: &[u8], address: u64) -> Found
     }
 }
 
+// The question by address: the section's refusal, 27 on version 1, 10 exactly if no record has the address, or the first that has.
+#[no_mangle]
+pub extern "C" fn treskibben_find(section: &[u8], address: u64) -> Found
+    ensures { λ r. ⌜ r ≡ foundAt (byAddress (now (section .entry)) address) ⌝ }
+{
+    found(questions::find::find(section, address))
+}
+
 // The question by function number and offset, of version 1: the section's refusal, 27 on version 3, 10 exactly if there is no such
 // function or no record at the offset, or the first that is there.
 #[no_mangle]
 pub extern "C" fn treskibben_find_in_function(section: &[u8], function: u64, offset: u64) -> Found
     ensures { λ r. ⌜ r ≡ foundAt (byFunction (now (section .entry)) function offset) ⌝ }
 {
-    let f = questions::find::find_in_function(section, function, offset);
-    Found {
-        number: f.number as u64,
-        place: f.place as u64,
-        index: f.index as u64,
-        function: f.function as u64,
-        sharing: f.sharing as u64,
-    }
+    found(questions::find::find_in_function(section, function, offset))
 }
 
 // By record number: the record's first byte in the section and its length.
