@@ -1,7 +1,9 @@
+pub mod Old
 pub mod Fits
 pub mod Items
 pub mod Listing
 pub mod Refusals
 pub mod Writes
 pub mod RoundTrip
+pub mod Versions
 pub mod Short

@@ -1,24 +1,26 @@
--- The listing's two laws: the listing of a section is accepted and read as the section, and an accepted listing is the
--- listing of what is read from it.
+-- The two laws of the items, that is, of a listing without the version's item: the items of a section are accepted and read as the
+-- section, and accepted items are the items of what is read from them.
 use Prim.Native.Nat.{ℕ, zero, suc, _+_, _*_, _≤_}
 use mathlib.Core.Path.{_≡_, refl, sym, _∙_, ap, subst}
 use mathlib.Core.List.{List, [], _∷_, _++_, append-nil, append-assoc}
 use mathlib.Core.Bool.{Bool, true, false}
 use native.Mathlib.Omega.{arith}
 use native.Mathlib.Nat.{add-zero, zero-add, add-assoc}
-use borrow.Author.Tests.{le-leb, leb-true, eq-eqb, eqb-true}
+use borrow.Author.Tests.{eq-eqb, eqb-true}
 use lib.ListN.{length}
 use lib.Seq.{drop-length}
 use Rattle.wire.specs.Word.{Bytes, word}
-use Rattle.stackmap.specs.Fields.{size, Field, Fit, _of_, all, many}
-use Rattle.stackmap.specs.Section.{Encodable, LiveOut, Record, Section}
+use Rattle.stackmap.specs.Fields.{size, Field, Fit, _of_, all, bytesOf, many}
+use Rattle.stackmap.specs.Section.{Encodable, Function, LiveOut, Record, Section}
 use Rattle.stackmap.specs.Verdict.{chain, must}
 use Rattle.stackmap.proofs.Fields.{Has, fields-back, has-bytes, has-fit, join, length-bytesOf, many-back, size-all, size-append, size-many, split}
 use Rattle.stackmap.proofs.Items.{byte-word}
-use Rattle.stackmap.proofs.Verdicts.{chain-first, must-held, must-rest}
+use Rattle.stackmap.proofs.Verdicts.{chain-first, chain-rest, must-held, must-rest}
+use Rattle.stackmap.specs.declared.Verdict.{Verdict}
 use Rattle.stackmap.specs.declared.Verdict.the-variants.{Valid}
-use Rattle.listing.specs.Listing.{functionItem, constantItem, recordItem, locationItem, liveOutItem, endItem, recordItems, listingFields, encodeListing, stands, run, listedFunction, listedConstant, listedLocation, listedLiveOut, listedLocations, listedLiveOuts, listedRecord, recordStop, listedRecords, recordsStop, functionsListed, constantsListed, recordsBegin, readListing, itemsStop, listingCheck}
+use Rattle.listing.specs.Listing.{functionItem, constantItem, recordItem, locationItem, liveOutItem, endItem, recordItems, versionItem, itemFields, listingFields, encodeListing, stands, run, listedFunction, listedConstant, listedLocation, listedLiveOut, listedLocations, listedLiveOuts, listedRecord, recordStop, listedRecords, recordsStop, functionsListed, constantsListed, recordsBegin, readItems, itemsStop, versionLength, itemsCheck}
 use Rattle.listing.proofs.Items.{function-item-size, constant-item-size, location-item-size, live-out-item-size, function-back, constant-back, location-back, live-out-back, function-has, constant-has, location-has, live-out-has, kind-byte, function-kind, constant-kind, location-kind, live-out-kind, yes-item, is-item, Leads, no-item, run-inside, run-back, run-has, records-yes, records-no}
+use Rattle.listing.proofs.Old.{Counts, Sizes, old-passes, old-tells}
 use Rattle.listing.proofs.Fits.{AllSmall, small-whole, whole-small, listing-to-section}
 
 -- what stands after the items of a kind is another kind
@@ -115,9 +117,23 @@ unfolding all size recordItems recordItem
 count-le [] = omega arith
 count-le (r ∷ rs) = rw (size-append (recordItems r)) (omega (arith, count-le rs))
 
+pub leads-items : (t : Section) → Leads 7 (itemFields t)
+unfolding itemFields all functionItem constantItem
+leads-items t = go (t .functions) (t .constants)
+  where
+    go : (fs : List Function) (cs : List ℕ) → Leads 7 (all functionItem fs ++ (all constantItem cs ++ (all recordItems (t .records) ++ endItem)))
+    go (f ∷ fs) cs = (refl, omega arith)
+    go [] (c ∷ cs) = (refl, omega arith)
+    go [] [] = leads-records 7 (t .records) (omega arith) (omega arith)
+
+pub version-size : (old : Bool) → size (versionItem old) ≡ versionLength old
+unfolding size versionItem
+version-size true = refl
+version-size false = refl
+
 module _ (t : Section) where
   abbrev l : List ℕ
-  l = encodeListing t
+  l = bytesOf (itemFields t)
 
   abbrev nf : ℕ
   nf = length (t .functions)
@@ -137,14 +153,22 @@ module _ (t : Section) where
   tables : (size F ≡ 25 * nf) × (size K ≡ 9 * nc)
   tables = (size-all functionItem 25 function-item-size (t .functions), size-all constantItem 9 constant-item-size (t .constants))
 
-  pub listing-length : length (encodeListing t) ≡ 25 * nf + 9 * nc + size R + 1
-  unfolding encodeListing listingFields size
-  listing-length = length-bytesOf (listingFields t) ∙ simp size-append (omega (arith, tables))
+  fields-size : size (itemFields t) ≡ 25 * nf + 9 * nc + size R + 1
+  unfolding itemFields size
+  fields-size = simp size-append (omega (arith, tables))
 
-  module _ (fit : Fit (listingFields t)) where
+  pub items-length : length (bytesOf (itemFields t)) ≡ 25 * nf + 9 * nc + size R + 1
+  items-length = length-bytesOf (itemFields t) ∙ fields-size
+
+  pub listing-length : length (encodeListing t) ≡ versionLength (t .old) + 25 * nf + 9 * nc + size R + 1
+  unfolding encodeListing listingFields
+  listing-length =
+      length-bytesOf (listingFields t) ∙ size-append (versionItem (t .old)) (itemFields t) ∙ omega (arith, version-size (t .old), fields-size)
+
+  module _ (fit : Fit (itemFields t)) where
     has : Has l 0 (F ++ (K ++ (R ++ endItem)))
-    unfolding encodeListing listingFields
-    has = fields-back l 0 0 (listingFields t) [] fit (rw append-nil)
+    unfolding itemFields
+    has = fields-back l 0 0 (itemFields t) [] fit (rw append-nil)
 
     record Listed : Type 0 where
       functions-num : functionsListed l ≡ nf
@@ -157,7 +181,7 @@ module _ (t : Section) where
 
     listed : Listed
     listed =
-        let n = listing-length in
+        let n = items-length in
         let c = count-le (t .records) in
         let k₁ = split l 0 (25 * nf) F (K ++ (R ++ endItem)) (omega (arith, tables)) has in
         let k₂ = split l (25 * nf) (25 * nf + 9 * nc) K (R ++ endItem) (omega (arith, tables)) (k₁ .1) in
@@ -175,10 +199,10 @@ module _ (t : Section) where
           end-in = k₃ .1;
         }
 
-    -- the listing of a section is read as the section
-    pub listing-back : t .old ≡ false → readListing (encodeListing t) ≡ t
-    unfolding readListing
-    listing-back new =
+    -- the items of a section are read as the section
+    pub items-back : readItems (bytesOf (itemFields t)) (t .old) ≡ t
+    unfolding readItems
+    items-back =
         let w = listed in
         rw (
           w .functions-num,
@@ -187,23 +211,31 @@ module _ (t : Section) where
           many-back functionItem listedFunction 25 function-item-size l (function-back l) (t .functions) 0 (w .functions-in),
           many-back constantItem listedConstant 9 constant-item-size l (constant-back l) (t .constants) _ (w .constants-in),
         )
-        (ap (λ (old : Bool). record { old = old; functions = t .functions; constants = t .constants; records = t .records }) (sym new))
 
     -- and accepted
-    pub listing-check : t .old ≡ false → AllSmall (t .records) → length (encodeListing t) ≤ 33554432 → listingCheck (encodeListing t) ≡ Valid (length (encodeListing t))
-    unfolding listingCheck itemsStop must chain
-    listing-check new s b =
+    pub items-check : AllSmall (t .records) → Counts (t .old) (t .functions) → Sizes (t .old) (t .records)
+        → itemsCheck (t .old) (bytesOf (itemFields t)) ≡ Valid (length (bytesOf (itemFields t)))
+    unfolding itemsCheck itemsStop must chain
+    items-check s c z =
         let w = listed in
-        let n = listing-length in
+        let n = items-length in
         let y = yes-item 6 1 l (25 * nf + 9 * nc + size R) (omega arith) (kind-byte l _ 6 (w .end-in .0)) in
-        rw (le-leb _ _ b, w .functions-num, w .constants-num, w .stop-is, y, eq-eqb _ _ (sym n), listing-back new, small-whole (t .records) (25 * nf + 9 * nc) s)
+        rw (
+          w .functions-num,
+          w .constants-num,
+          w .stop-is,
+          y,
+          eq-eqb _ _ (sym n),
+          items-back,
+          small-whole (t .records) (25 * nf + 9 * nc) s,
+          old-passes (t .old) (t .functions) (t .records) (25 * nf + 9 * nc) c z (Valid (length l)),
+        )
 
--- what is read from a listing is of version 3
-pub read-new : (l : List ℕ) → readListing l .old ≡ false
-unfolding readListing
-read-new l = refl
+-- accepted items
 
--- an accepted listing
+read-old : (l : List ℕ) (old : Bool) → readItems l old .old ≡ old
+unfolding readItems
+read-old l old = refl
 
 module _ (l : List ℕ) where
   record-has : (at : ℕ) → stands 3 13 l at ≡ true
@@ -258,15 +290,16 @@ module _ (l : List ℕ) where
   abbrev R′ : List Field
   R′ = all recordItems (listedRecords l (length l) (recordsBegin l))
 
-  module _ (e : ℕ) (k : listingCheck l ≡ Valid e) where
-    record Kept : Type 0 where
-      has-it : Has l 0 (listingFields (readListing l))
-      long : size (listingFields (readListing l)) ≡ length l
-      small : AllSmall (readListing l .records)
-      under : length l ≤ 33554432
+  module _ (old : Bool) (e : ℕ) (k : itemsCheck old l ≡ Valid e) where
+    pub record Kept : Type 0 where
+      has-it : Has l 0 (itemFields (readItems l old))
+      long : size (itemFields (readItems l old)) ≡ length l
+      small : AllSmall (readItems l old .records)
+      pub old-right : Counts old (readItems l old .functions) × Sizes old (readItems l old .records)
+      pub ends : e ≡ length l
 
-    kept : Kept
-    unfolding listingCheck itemsStop listingFields readListing size
+    pub kept : Kept
+    unfolding itemsCheck itemsStop itemFields readItems size
     kept =
         let nf = functionsListed l in
         let nc = constantsListed l in
@@ -278,34 +311,32 @@ module _ (l : List ℕ) where
         let z₂ : size K′ ≡ 9 * nc = size-many constantItem listedConstant 9 9 constant-item-size nc l (25 * nf) in
         let k₁ = must-rest _ _ _ _ _ k in
         let k₂ = must-rest _ _ _ _ _ k₁ in
-        let k₃ = must-rest _ _ _ _ _ k₂ in
-        let s = is-item 6 1 l _ (must-held _ _ _ _ _ k₁) in
-        let n : recordsStop l (length l) (recordsBegin l) + 1 ≡ length l = eqb-true _ _ (must-held _ _ _ _ _ k₂) in
+        let k₃ = chain-rest _ _ _ k₂ in
+        let s = is-item 6 1 l _ (must-held _ _ _ _ _ k) in
+        let n : recordsStop l (length l) (recordsBegin l) + 1 ≡ length l = eqb-true _ _ (must-held _ _ _ _ _ k₁) in
         let b : Has l (recordsStop l (length l) (recordsBegin l)) endItem = (rw add-zero (byte-word l _ ∙ s .1), tt) in
         record {
           has-it = join l 0 (25 * nf) F′ (K′ ++ (R′ ++ endItem)) (omega arith) h₁
               (join l (25 * nf) (recordsBegin l) K′ (R′ ++ endItem) (omega arith) h₂ (join l (recordsBegin l) _ R′ endItem (h₃ .1) (h₃ .0) b));
           long = simp size-append (let q = h₃ .1 in omega arith);
-          small = whole-small _ _ _ (chain-first _ _ _ k₃ .1);
-          under = leb-true _ _ (must-held _ _ _ _ _ k);
+          small = whole-small _ _ _ (chain-first _ _ _ k₂ .1);
+          old-right = old-tells old _ _ _ _ (chain-first _ _ _ k₃ .1);
+          ends = let q : _≡_ {A = Verdict} (Valid (length l)) (Valid e) = chain-rest _ _ _ k₃ in cc;
         }
 
     module _ (w : Bytes l) where
-      -- an accepted listing is the listing of what is read from it
-      pub accepted-listing : encodeListing (readListing l) ≡ l
-      unfolding encodeListing
-      accepted-listing =
-          let b = has-bytes l 0 0 (listingFields (readListing l)) w (kept .has-it) (omega (arith, kept .long)) in
+      -- they are the items of what is read from them
+      pub accepted-items : bytesOf (itemFields (readItems l old)) ≡ l
+      accepted-items =
+          let b = has-bytes l 0 0 (itemFields (readItems l old)) w (kept .has-it) (omega (arith, kept .long)) in
           rw (kept .long, zero-add, drop-length, append-nil) at b
 
       -- whose numbers fit
-      pub listing-encodable : Encodable (readListing l)
-      listing-encodable =
-          let t = readListing l in
-          let f = has-fit l 0 0 (listingFields (readListing l)) w (kept .has-it) in
-          let n = listing-length t in
+      pub items-encodable : length l ≤ 33554432 → Encodable (readItems l old)
+      items-encodable u =
+          let t = readItems l old in
+          let f = has-fit l 0 0 (itemFields t) w (kept .has-it) in
+          let n = items-length t in
           let c = count-le (t .records) in
-          let e = accepted-listing in
-          let u = kept .under in
-          let g : length (encodeListing t) ≡ length l = ap length e in
-          listing-to-section t (read-new l) f (kept .small) (omega arith) (omega arith) (omega arith)
+          let g : length (bytesOf (itemFields t)) ≡ length l = ap length accepted-items in
+          listing-to-section t f (kept .small) (rw (read-old l old) (kept .old-right .1)) (omega arith) (omega arith) (omega arith)

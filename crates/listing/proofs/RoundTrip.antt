@@ -1,8 +1,8 @@
 -- The round trips.
 use Prim.Native.Nat.{ℕ, _≤_}
-use mathlib.Core.Path.{_≡_, refl, sym, _∙_, ap}
+use mathlib.Core.Path.{_≡_, refl}
 use mathlib.Core.List.{List}
-use mathlib.Core.Bool.{Bool, true, false, true≢false}
+use mathlib.Core.Bool.{Bool, true, false}
 use native.Mathlib.Omega.{arith}
 use lib.ListN.{length, drop}
 use lib.Seq.{take-append-seam}
@@ -14,17 +14,17 @@ use Rattle.stackmap.specs.Check.{sectionCheck}
 use Rattle.stackmap.specs.Fault.{sectionFault}
 use Rattle.stackmap.specs.Section.{Section, encodeSection, readSection}
 use Rattle.stackmap.specs.Verdict.{chain}
-use Rattle.stackmap.proofs.Back.{check-back, encoded-length, read-back}
-use Rattle.stackmap.proofs.Forth.{accepted-bytes, accepted-encodable, accepted-length}
+use Rattle.stackmap.proofs.Back.{check-back, read-back}
+use Rattle.stackmap.proofs.Forth.{accepted-length}
 use Rattle.stackmap.proofs.Verdicts.{chain-first, chain-rest}
-use Rattle.stackmap.proofs.WellFormed.{bytes-of}
+use Rattle.stackmap.proofs.WellFormed.{accepted-well-formed, bytes-of}
 use Rattle.listing.specs.Listing.{listingFields, encodeListing, listingCheck, readListing, give, toListing, toSection}
 use Rattle.listing.specs.RoundTrip.{result, gives, RoundTrips, OutputKept, ListingOneToOne}
 use Rattle.listing.proofs.Fits.{section-to-listing}
-use Rattle.listing.proofs.Listing.{listing-length, listing-back, listing-check, read-new, accepted-listing, listing-encodable}
+use Rattle.listing.proofs.Versions.{listing-back, listing-check, listing-no-counts, accepted-listing, listing-encodable}
 use Rattle.stackmap.proofs.Numbers.{Numbered, n-more, n-chain, section-numbered}
 use Rattle.listing.proofs.Refusals.{listing-numbered}
-use Rattle.listing.proofs.Short.{section-new, new-size, records-short}
+use Rattle.listing.proofs.Short.{listing-short}
 
 -- where nothing is refused, all is whole, and the result is written
 record Gave (c : Verdict) (r out : List ℕ) : Type 0 where
@@ -47,18 +47,10 @@ section-first s out out′ w h =
     let t = readSection s in
     let g = gave (sectionCheck s) (encodeListing t) out (section-numbered s) h in
     let k = g .whole in
-    let fit = accepted-encodable s _ k w in
-    let b = accepted-bytes s _ k w in
-    let new = section-new s _ k in
-    let f = section-to-listing t new fit in
-    let l : length (encodeListing t) ≤ 33554432 =
-    let z₁ = listing-length t in
-    let z₂ = new-size t new in
-    let z₃ = encoded-length t in
-    let z₄ = accepted-length s _ k in
-    let z₅ : length (encodeSection t) ≡ length s = ap length b in
-    omega (arith, records-short (t .records)) in
-    rw (g .wrote, listing-check t (f .0) new (f .1) l, listing-back t (f .0) new, b, k)
+    let a = accepted-well-formed s _ w k in
+    let f = section-to-listing t (a .0 .fits) (a .0 .no-counts) in
+    let l : length (encodeListing t) ≤ 33554432 = omega (arith, listing-short s _ k, accepted-length s _ k) in
+    rw (g .wrote, listing-check t f l, listing-back t f, a .1, k)
 
 listing-first : (l out out′ : List ℕ) → Bytes l → toSection l out .number ≡ 0 → toListing (result (toSection l out)) out′ ≡ gives l out′
 unfolding toListing toSection
@@ -67,7 +59,7 @@ listing-first l out out′ w h =
     let g = gave (chain (listingCheck l) (sectionCheck (encodeSection t))) (encodeSection t) out (n-chain _ _ (listing-numbered l) (n-more (omega arith) (section-numbered (encodeSection t)))) h in
     let k = chain-first _ _ _ (g .whole) .1 in
     let j = chain-rest _ _ _ (g .whole) in
-    rw (g .wrote, j, read-back t (listing-encodable l _ k w) (λ e. absurd (true≢false (sym e ∙ read-new l))), accepted-listing l _ k w)
+    rw (g .wrote, j, read-back t (listing-encodable l _ k w) (listing-no-counts l _ k), accepted-listing l _ k w)
 
 pub round-trips : RoundTrips
 round-trips = (section-first, listing-first)
@@ -102,10 +94,10 @@ listing-bytes t = bytes-of (listingFields t)
 pub listing-one-to-one : ListingOneToOne
 listing-one-to-one =
     record {
-      read-new = read-new;
       read-fits = λ l w k. listing-encodable l (length l) k w;
+      read-no-counts = λ l k. listing-no-counts l (length l) k;
       encode-read = λ l w k. accepted-listing l (length l) k w;
       encode-bytes = listing-bytes;
-      encode-accepted = λ t v f n. let g = section-to-listing t v f in listing-check t (g .0) v (g .1) n;
-      read-encode = λ t v f. listing-back t (section-to-listing t v f .0) v;
+      encode-accepted = λ t f c n. listing-check t (section-to-listing t f c) n;
+      read-encode = λ t f c. listing-back t (section-to-listing t f c);
     }

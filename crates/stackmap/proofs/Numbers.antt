@@ -43,7 +43,7 @@ module _ {m : ℕ} where
   n-pick true j k h w = h
   n-pick false j k h w = w
 
-  n-shift : (p : ℕ) (c : Verdict) → Numbered m c → Numbered m (shift p c)
+  pub n-shift : (p : ℕ) (c : Verdict) → Numbered m c → Numbered m (shift p c)
   unfolding shift
   n-shift p (Valid e) h = n-valid (p + e)
   n-shift p (Refused n q) h = record { above = h .above; low = h .low }
