@@ -1,5 +1,5 @@
 -- The refusals of a listing's items, as the section that is built of them would get them.
-use Prim.Native.Nat.{ℕ, _+_, _*_, _-_, _≤_, _<_, _^_}
+use Prim.Native.Nat.{ℕ, _+_, _-_, _≤_, _<_, _^_}
 use mathlib.Core.Path.{_≡_, refl, ap}
 use mathlib.Core.List.{List, [], _∷_}
 use mathlib.Core.Bool.{Bool, true, false}
@@ -11,6 +11,7 @@ use lib.Dec.{leb, eqb, ltb}
 use Rattle.wire.specs.Word.{word}
 use Rattle.stackmap.specs.declared.Verdict.{Verdict}
 use Rattle.stackmap.specs.declared.Verdict.the-variants.{Valid, Refused}
+use Rattle.stackmap.specs.Layout.{locationSize}
 use Rattle.stackmap.specs.Verdict.{must, chain, pick, shift}
 use Rattle.stackmap.specs.Fields.{many, size}
 use Rattle.stackmap.specs.Section.{Location, recordFields, Entry, address}
@@ -18,10 +19,10 @@ use Rattle.stackmap.specs.Record.{poolCheck}
 use Rattle.stackmap.specs.Fault.{locationFault, locationsFault, entryFault}
 use Rattle.stackmap.proofs.Steps.{many-step}
 use Rattle.stackmap.proofs.Items.{byte-word}
-use Rattle.listing.specs.Listing.{listedFunction, listedLocation, listedRecord}
+use Rattle.listing.specs.Listing.{listedLocation, listedRecord}
 use Rattle.parser.specs.Count.{Shaped}
 use Rattle.parser.specs.Survey.{recordSize}
-use Rattle.parser.specs.Walk.{ownerAt, entryAt}
+use Rattle.parser.specs.Walk.{ownerBy, entryAt}
 use Rattle.parser.proofs.Records.{shape-size}
 
 -- a verdict about a part, said of the whole, test by test
@@ -40,53 +41,53 @@ unfolding pick
 shift-pick p true j k = refl
 shift-pick p false j k = refl
 
-shift-end : (p at : ℕ) → shift p (Valid (at + 12)) ≡ Valid (p + at + 12)
+shift-end : (p at n : ℕ) → shift p (Valid (at + n)) ≡ Valid (p + at + n)
 unfolding shift
-shift-end p at = ap Valid (omega arith)
+shift-end p at n = ap Valid (omega arith)
 
-shift-location : (p c : ℕ) (x : Location) (at : ℕ) → shift p (locationFault false c x at) ≡ locationFault false c x (p + at)
+shift-location : (old : Bool) (p c : ℕ) (x : Location) (at : ℕ) → shift p (locationFault old c x at) ≡ locationFault old c x (p + at)
 unfolding locationFault poolCheck
-shift-location p c x at = simp (shift-must, shift-pick, shift-end)
+shift-location old p c x at = simp (shift-must, shift-pick, shift-end)
 
-pub shift-locations : (p c : ℕ) (xs : List Location) (at : ℕ) → shift p (locationsFault false c xs at) ≡ locationsFault false c xs (p + at)
+pub shift-locations : (old : Bool) (p c : ℕ) (xs : List Location) (at : ℕ) → shift p (locationsFault old c xs at) ≡ locationsFault old c xs (p + at)
 unfolding locationsFault
-shift-locations p c [] at = unfold shift in refl
-shift-locations p c (x ∷ xs) at = rw (shift-chain, shift-location, shift-locations p c xs (at + 12), add-assoc)
+shift-locations old p c [] at = unfold shift in refl
+shift-locations old p c (x ∷ xs) at = rw (shift-chain, shift-location, shift-locations old p c xs (at + locationSize old), add-assoc)
 
 -- a record's refusal, with places of the section
-pub entry-placed : (p c : ℕ) (e : Entry)
-    → shift p (entryFault false c e) ≡ must (leb (address e) (2 ^ 64 - 1)) 8 p (chain (locationsFault false c (e .body .locations) (p + 16)) (Valid (p + size (recordFields false (e .body)))))
+pub entry-placed : (old : Bool) (p c : ℕ) (e : Entry)
+    → shift p (entryFault old c e) ≡ must (leb (address e) (2 ^ 64 - 1)) 8 p (chain (locationsFault old c (e .body .locations) (p + 16)) (Valid (p + size (recordFields old (e .body)))))
 unfolding entryFault
-entry-placed p c e = rw (shift-must, add-zero, shift-chain, shift-locations) (unfold shift in refl)
+entry-placed old p c e = rw (shift-must, add-zero, shift-chain, shift-locations) (unfold shift in refl)
 
 -- one location after the other
-pub locations-step : (c n : ℕ) (l : List ℕ) (at p : ℕ) → 0 < n
-    → locationsFault false c (many listedLocation 10 n l at) p
-    ≡ chain (locationFault false c (listedLocation l at) p) (locationsFault false c (many listedLocation 10 (n - 1) l (at + 10)) (p + 12))
+pub locations-step : (old : Bool) (c n : ℕ) (l : List ℕ) (at p : ℕ) → 0 < n
+    → locationsFault old c (many listedLocation 10 n l at) p
+    ≡ chain (locationFault old c (listedLocation l at) p) (locationsFault old c (many listedLocation 10 (n - 1) l (at + 10)) (p + locationSize old))
 unfolding locationsFault
-locations-step c n l at p h = rw (many-step listedLocation 10 n l at h)
+locations-step old c n l at p h = rw (many-step listedLocation 10 n l at h)
 
 -- a location's refusal, by the bytes of its item
-pub location-listed : (c : ℕ) (l : List ℕ) (at p : ℕ)
-    → locationFault false c (listedLocation l at) p
+pub location-listed : (old : Bool) (c : ℕ) (l : List ℕ) (at p : ℕ)
+    → locationFault old c (listedLocation l at) p
     ≡ must (leb 1 (getD l (at + 1) 0)) 6 p
     (must (leb (getD l (at + 1) 0) 5) 6 p
     (pick (eqb (getD l (at + 1) 0) 5)
-    (must (ltb (word 4 l (at + 6)) (2 ^ 31)) 7 p (must (ltb (word 4 l (at + 6)) c) 7 p (Valid (p + 12))))
-    (Valid (p + 12))))
+    (must (ltb (word 4 l (at + 6)) (2 ^ 31)) 7 p (must (ltb (word 4 l (at + 6)) c) 7 p (Valid (p + locationSize old))))
+    (Valid (p + locationSize old))))
 unfolding locationFault poolCheck listedLocation
-location-listed c l at p = rw byte-word
+location-listed old c l at p = rw byte-word
 
--- a record's refusal, by the bytes of its items and of its function's
-pub entry-listed : {l : List ℕ} {at n m stop : ℕ} (i p c : ℕ) → Shaped l at n m stop
-    → shift p (entryFault false c (entryAt l i at p))
-    ≡ must (leb (word 8 l (25 * i + 1) + word 4 l (at + 9)) (2 ^ 64 - 1)) 8 p
-    (chain (locationsFault false c (many listedLocation 10 n l (at + 13)) (p + 16)) (Valid (p + recordSize n m)))
-unfolding address ownerAt listedFunction listedRecord
-entry-listed {l} {at} i p c h = rw (entry-placed p c (entryAt l i at p), shape-size h, h .locations-are)
+-- a record's refusal, by the bytes of its items and its owner's address
+pub entry-listed : {l : List ℕ} {at n m stop : ℕ} (old : Bool) (i p c : ℕ) → Shaped l at n m stop
+    → shift p (entryFault old c (entryAt l old i at p))
+    ≡ must (leb (ownerBy l old i .function .address + word 4 l (at + 9)) (2 ^ 64 - 1)) 8 p
+    (chain (locationsFault old c (many listedLocation 10 n l (at + 13)) (p + 16)) (Valid (p + recordSize old n m)))
+unfolding address listedRecord
+entry-listed {l} {at} old i p c h = rw (entry-placed old p c (entryAt l old i at p), shape-size h old, h .locations-are)
 
 -- its address fits
-pub entry-fits : {l : List ℕ} {at n m stop : ℕ} (i p c : ℕ) → Shaped l at n m stop → word 8 l (25 * i + 1) + word 4 l (at + 9) ≤ 2 ^ 64 - 1
-    → shift p (entryFault false c (entryAt l i at p)) ≡ chain (locationsFault false c (many listedLocation 10 n l (at + 13)) (p + 16)) (Valid (p + recordSize n m))
+pub entry-fits : {l : List ℕ} {at n m stop : ℕ} (old : Bool) (i p c : ℕ) → Shaped l at n m stop → ownerBy l old i .function .address + word 4 l (at + 9) ≤ 2 ^ 64 - 1
+    → shift p (entryFault old c (entryAt l old i at p)) ≡ chain (locationsFault old c (many listedLocation 10 n l (at + 13)) (p + 16)) (Valid (p + recordSize old n m))
 unfolding must
-entry-fits i p c h f = rw (entry-listed i p c h, le-leb _ _ f)
+entry-fits old i p c h f = rw (entry-listed old i p c h, le-leb _ _ f)

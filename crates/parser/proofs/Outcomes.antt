@@ -1,80 +1,72 @@
--- What a listing comes to, step by step.
-use Prim.Native.Nat.{ℕ, _≤_, _<_}
-use mathlib.Core.Path.{_≡_, refl, sym, _∙_}
-use mathlib.Core.List.{List, []}
+-- What a listing comes to: its items after the version's, with places of the whole listing, and then the section.
+use Prim.Native.Nat.{ℕ, _+_, _-_, _≤_, _<_}
+use mathlib.Core.Path.{_≡_, sym, _∙_}
+use mathlib.Core.List.{List}
 use mathlib.Core.Bool.{Bool, true, false}
 use native.Mathlib.Omega.{arith}
 use borrow.Author.Tests.{le-leb, lt-leb}
-use lib.ListN.{length}
+use lib.ListN.{length, take, drop}
 use Rattle.stackmap.specs.declared.Verdict.the-variants.{Valid, Refused}
-use Rattle.stackmap.specs.Verdict.{must, chain}
-use Rattle.stackmap.specs.Fields.{size, all}
-use Rattle.stackmap.specs.Section.{Section, recordFields, sectionFields}
+use Rattle.stackmap.specs.Verdict.{must, chain, shift}
+use Rattle.stackmap.specs.Fields.{size}
+use Rattle.stackmap.specs.Section.{Section, sectionFields}
 use Rattle.stackmap.specs.Fault.{sectionFault}
-use Rattle.stackmap.proofs.Verdicts.{never, must-rest, chain-first, chain-rest}
+use Rattle.stackmap.proofs.Tests.{and-true}
+use Rattle.stackmap.proofs.Verdicts.{must-rest}
+use Rattle.stackmap.proofs.Within.{part-from}
 use Rattle.stackmap.proofs.Back.{entries-valid}
-use Rattle.listing.specs.Layout.{listingMost}
-use Rattle.listing.specs.Listing.{readListing}
-use Rattle.listing.proofs.Items.{records-no}
-use Rattle.parser.specs.Count.{Tabled}
-use Rattle.parser.specs.Survey.{recordsFrom, recordsAfter, Passed, Ends, Planned}
-use Rattle.parser.specs.Grammar.{itemsCheck}
-use Rattle.parser.specs.Outcome.{Ready}
-use Rattle.parser.specs.Outcome.{refusal, Buildable}
-use Rattle.parser.proofs.Ends.{items-crowded, whole-check}
-use Rattle.parser.proofs.Plans.{begins, planned-size}
+use Rattle.listing.specs.Layout.{listingMost, versionKind, versionItemSize}
+use Rattle.listing.specs.Listing.{readItems, listedOld, versionLength, itemsOf, readListing, itemsCheck, listingCheck}
+use Rattle.listing.proofs.Items.{is-item}
+use Rattle.parser.specs.Outcome.{Whole, refusal, Buildable}
+use Rattle.parser.proofs.Plans.{planned-size}
 
 -- 1
 pub too-long : (l : List ℕ) → listingMost < length l → refusal l ≡ Refused 1 0
-unfolding refusal must chain
-too-long l h = rw (whole-check, lt-leb _ _ h)
-
-module _ {l : List ℕ} {f c : ℕ} (t : Tabled l f c) (short : length l ≤ listingMost) where
-  -- the refusal of the items, and then of the section
-  after-length : refusal l ≡ chain (itemsCheck l (recordsAfter l f c)) (sectionFault (readListing l))
-  unfolding refusal must
-  after-length = rw (whole-check, le-leb _ _ short, begins t)
-
-  -- 22, 23
-  pub items-refused : {n p : ℕ} → itemsCheck l (recordsAfter l f c) ≡ Refused n p → refusal l ≡ Refused n p
-  unfolding chain
-  items-refused h = after-length ∙ rw h
-
-  module _ {e : ℕ} (v : itemsCheck l (recordsAfter l f c) ≡ Valid e) where
-    -- the items are as they should be
-    pub items-accepted : refusal l ≡ sectionFault (readListing l)
-    unfolding chain
-    items-accepted = after-length ∙ rw v
-
-    module _ {r b stop : ℕ} (crowded : Bool) (p : Passed l (recordsAfter l f c) r b stop) (s : Ends l stop crowded) where
-      none-left : recordsFrom l stop ≡ []
-      none-left = go crowded s
-        where
-          go : (x : Bool) → Ends l stop x → recordsFrom l stop ≡ []
-          go true q = never (chain-rest _ _ _ (sym (items-crowded p q) ∙ v))
-          go false q = records-no l (length l) stop q .0
-
-      pub planned : Planned l f c r b
-      planned =
-          let i = p .inside in
-          let n = p .few in
-          let m = p .short in
-          let k : length (recordsFrom l stop) ≡ 0 = rw none-left in
-          let j : size (all (recordFields false) (recordsFrom l stop)) ≡ 0 = rw none-left (unfold all size in refl) in
-          let x = p .counted in
-          let y = p .sized in
-          record { tables = t; counted = omega arith; sized = omega arith; few = omega arith; short = omega arith }
-
-      pub ready : Ready l (recordsAfter l f c) r
-      unfolding itemsCheck
-      ready = record { inside = t .inside; counted = planned .counted; small = chain-first _ _ _ (chain-rest _ _ _ v) }
+unfolding refusal listingCheck must chain
+too-long l h = rw (lt-leb _ _ h)
 
 -- a section without refusal ends where its bytes do
 section-end : (t : Section) (n : ℕ) → sectionFault t ≡ Valid n → n ≡ size (sectionFields t)
 unfolding sectionFault
-section-end t n h = entries-valid _ _ _ _ n (must-rest _ _ _ _ _ (must-rest _ _ _ _ _ (must-rest _ _ _ _ _ h)))
+section-end t n h = entries-valid _ _ _ _ n (must-rest _ _ _ _ _ (must-rest _ _ _ _ _ h))
 
-pub buildable : {l : List ℕ} {f c r b n : ℕ} → refusal l ≡ sectionFault (readListing l) → Planned l f c r b → Ready l (recordsAfter l f c) r → length l ≤ listingMost
-    → sectionFault (readListing l) ≡ Valid n → Buildable l f c r b n
-buildable {l} {n = n} e p r s v =
-    record { accepted = e ∙ v; planned = p; ready = r; short = s; sized = section-end (readListing l) n v ∙ planned-size p }
+-- the version's item is inside
+version-inside : (l : List ℕ) (old : Bool) → old ≡ listedOld l → versionLength old ≤ length l
+unfolding listedOld
+version-inside l true v = is-item versionKind versionItemSize l 0 (and-true _ _ (sym v) .0) .0
+version-inside l false v = omega arith
+
+-- `start` is where the items begin that follow the version's
+module _ (l : List ℕ) {old : Bool} {start : ℕ} (v : old ≡ listedOld l) (s : start ≡ versionLength old) where
+  pub start-inside : start ≤ length l
+  start-inside = rw s (version-inside l old v)
+
+  abbrev part : List ℕ
+  part = take (length l - start) (drop start l)
+
+  pub part-is : part ≡ itemsOf l
+  part-is = part-from l start ∙ rw (s, v)
+
+  module _ (short : length l ≤ listingMost) where
+    -- 22, 23, 28
+    pub items-refused : {n p : ℕ} → itemsCheck old part ≡ Refused n p → refusal l ≡ Refused n (start + p)
+    unfolding refusal listingCheck must chain shift
+    items-refused h = rw (le-leb _ _ short, rw (part-is, v) at h, s, v)
+
+    -- the items are as they should be
+    module _ {old′ : Bool} {f c r b : ℕ} (o : old′ ≡ old) (w : Whole part old′ f c r b) where
+      pub items-accepted : refusal l ≡ sectionFault (readItems part old′)
+      unfolding refusal listingCheck readListing must chain shift
+      items-accepted = rw (le-leb _ _ short, rw (part-is, o, v) at (w .accepted), part-is, o, v)
+
+      pub buildable : {n : ℕ} → sectionFault (readItems part old′) ≡ Valid n → Buildable l old′ f c r b n
+      buildable {n} h =
+          record {
+            accepted = items-accepted ∙ h;
+            version = o ∙ v;
+            planned = rw part-is at (w .planned);
+            ready = rw part-is at (w .ready);
+            short = short;
+            sized = section-end (readItems part old′) n h ∙ planned-size (w .planned);
+          }

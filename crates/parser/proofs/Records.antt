@@ -1,8 +1,8 @@
 -- A pass over the records of a listing, one record after the other.
-use Prim.Native.Nat.{ℕ, _+_, _≤_, _<_}
+use Prim.Native.Nat.{ℕ, _+_, _*_, _≤_, _<_}
 use mathlib.Core.Path.{_≡_, refl, _∙_, ap}
 use mathlib.Core.List.{List, _∷_}
-use mathlib.Core.Bool.{true, false, _&&_, and-false}
+use mathlib.Core.Bool.{Bool, true, false, _&&_, and-false}
 use native.Mathlib.Omega.{arith}
 use borrow.Author.Tests.{le-leb, lt-leb}
 use lib.ListN.{length}
@@ -13,12 +13,17 @@ use Rattle.stackmap.specs.Section.{recordFields}
 use Rattle.stackmap.specs.Verdict.{must}
 use Rattle.stackmap.proofs.Fields.{size-append, length-many}
 use Rattle.stackmap.proofs.Back.{record-size}
-use Rattle.listing.specs.Layout.{recordKind, recordItemSize, itemsMost}
+use Rattle.listing.specs.Layout.{recordKind, recordItemSize, locationItemSize, liveOutItemSize, itemsMost}
 use Rattle.listing.specs.Listing.{recordItems, stands, listedRecord, recordStop, notTooMany}
 use Rattle.listing.proofs.Listing.{items-size}
 use Rattle.parser.specs.Count.{Shaped}
-use Rattle.parser.specs.Survey.{recordSize, recordsFrom, stopFrom, Passed}
+use Rattle.parser.specs.Survey.{recordSize, recordsFrom, stopFrom, Passed, Measured}
 use Rattle.parser.proofs.Bound.{records-on}
+
+-- a record of a section is at most three times as long as its items
+pub size-most : (old : Bool) (n m : ℕ) → recordSize old n m ≤ 3 * (recordItemSize + locationItemSize * n + liveOutItemSize * m)
+size-most true n m = omega arith
+size-most false n m = omega arith
 
 module _ {l : List ℕ} {at n m stop : ℕ} (h : Shaped l at n m stop) where
   -- the record that stands here
@@ -30,10 +35,10 @@ module _ {l : List ℕ} {at n m stop : ℕ} (h : Shaped l at n m stop) where
   unfolding recordStop
   shape-stop = rw (h .stops, ← h .live-outs-are, ← h .locations-are)
 
-  pub shape-size : size (recordFields false (listedRecord l at)) ≡ recordSize n m
-  shape-size = rw (record-size false (listedRecord l at), shape-lengths .0, shape-lengths .1)
+  pub shape-size : (old : Bool) → size (recordFields old (listedRecord l at)) ≡ recordSize old n m
+  shape-size old = rw (record-size old (listedRecord l at), shape-lengths .0, shape-lengths .1)
 
-  shape-items : at + size (recordItems (listedRecord l at)) ≡ stop
+  pub shape-items : at + size (recordItems (listedRecord l at)) ≡ stop
   shape-items =
       let z = items-size (listedRecord l at) in
       let s = h .stops in
@@ -50,9 +55,9 @@ module _ {l : List ℕ} {at n m stop : ℕ} (h : Shaped l at n m stop) where
     unfolding notTooMany
     check-here = rw (records-here, shape-lengths .0, shape-lengths .1, shape-items)
 
-    pub sized-here : size (all (recordFields false) (recordsFrom l at)) ≡ recordSize n m + size (all (recordFields false) (recordsFrom l stop))
+    pub sized-here : (old : Bool) → size (all (recordFields old) (recordsFrom l at)) ≡ recordSize old n m + size (all (recordFields old) (recordsFrom l stop))
     unfolding all
-    sized-here = rw (records-here, size-append, shape-size)
+    sized-here old = rw (records-here, size-append, shape-size old)
 
     -- it has too many locations or live-outs
     pub locations-crowded : itemsMost < n → notTooMany (recordsFrom l at) at ≡ Refused 23 at
@@ -64,35 +69,32 @@ module _ {l : List ℕ} {at n m stop : ℕ} (h : Shaped l at n m stop) where
     live-outs-crowded b = rw (check-here, lt-leb m _ b, and-false)
 
     -- it has not: the pass goes on behind it
-    pub passed-on : {from records bytes : ℕ} → n ≤ itemsMost → m ≤ itemsMost → Passed l from records bytes at
-        → Passed l from (records + 1) (bytes + recordSize n m) stop
+    pub passed-on : {from records : ℕ} → n ≤ itemsMost → m ≤ itemsMost → Passed l from records at → Passed l from (records + 1) stop
     unfolding must
     passed-on a b p =
         let z = h .stops in
         let f = p .few in
-        let s = p .short in
         let c = p .counted in
-        let d = p .sized in
         let k = ap length records-here in
-        let j = sized-here in
         record {
           inside = h .inside;
           few = omega arith;
-          short = omega arith;
           stops = p .stops ∙ stops-here;
           checks = p .checks ∙ rw (check-here, le-leb _ _ a, le-leb _ _ b);
           counted = omega arith;
-          sized = omega arith;
         }
 
-pub passed-start : {l : List ℕ} {from : ℕ} → from ≤ length l → Passed l from 0 0 from
-passed-start h =
-    record {
-      inside = h;
-      few = omega arith;
-      short = omega arith;
-      stops = refl;
-      checks = refl;
-      counted = omega arith;
-      sized = omega arith;
-    }
+    pub measured-on : {old : Bool} {from bytes : ℕ} → Measured l old from bytes at → Measured l old from (bytes + recordSize old n m) stop
+    measured-on {old} p =
+        let z = h .stops in
+        let s = p .short in
+        let d = p .sized in
+        let j = sized-here old in
+        let r = size-most old n m in
+        record { short = omega arith; sized = omega arith }
+
+pub passed-start : {l : List ℕ} {from : ℕ} → from ≤ length l → Passed l from 0 from
+passed-start h = record { inside = h; few = omega arith; stops = refl; checks = refl; counted = omega arith }
+
+pub measured-start : {l : List ℕ} {old : Bool} {from : ℕ} → Measured l old from 0 from
+measured-start = record { short = omega arith; sized = omega arith }

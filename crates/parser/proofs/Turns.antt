@@ -1,36 +1,41 @@
 -- The owners ahead of a walk over the records of a listing.
 use Prim.Native.Nat.{ℕ, _+_, _*_, _-_, _<_}
-use mathlib.Core.Path.{_≡_}
-use mathlib.Core.List.{List, _∷_}
+use mathlib.Core.Path.{_≡_, refl}
+use mathlib.Core.Bool.{Bool, true, false}
+use mathlib.Core.List.{List, _∷_, append-nil}
 use native.Mathlib.Omega.{arith}
 use lib.ListN.{length}
-use Rattle.stackmap.specs.Section.{owners, counted}
+use Rattle.stackmap.specs.Section.{recordOwners}
 use Rattle.stackmap.proofs.Steps.{replicate-step, owners-step, owners-some}
-use Rattle.stackmap.proofs.Back.{length-owners}
 use Rattle.listing.specs.Listing.{listedFunction}
-use Rattle.parser.specs.Walk.{functionsOf, ownerAt, ahead}
+use Rattle.parser.specs.Walk.{functionsOf, ownerBy, laterOwners, ahead}
 
 module _ (l : List ℕ) (n : ℕ) where
-  pub ahead-start : ahead l n 0 0 ≡ owners 0 (functionsOf l n)
-  unfolding ahead
-  ahead-start = let z : n - 0 ≡ n = omega arith in rw z
+  -- version 3: the first function is next
+  pub ahead-start : (records : ℕ) → ahead l false n 0 0 ≡ recordOwners false records (functionsOf l n)
+  unfolding ahead laterOwners recordOwners
+  ahead-start records = let z : n - 0 ≡ n = omega arith in rw z
 
-  pub start-length : length (ahead l n 0 0) ≡ counted (functionsOf l n)
-  start-length = rw ahead-start (length-owners 0 (functionsOf l n))
+  -- version 1: all records are nobody's
+  pub ahead-old : (records : ℕ) → ahead l true n 1 records ≡ recordOwners true records (functionsOf l n)
+  unfolding ahead laterOwners ownerBy recordOwners
+  ahead-old records = rw append-nil
 
   -- the next record belongs to the function before `next`
-  pub ahead-one : (next left : ℕ) → 0 < left → ahead l n next left ≡ ownerAt l (next - 1) ∷ ahead l n next (left - 1)
+  pub ahead-one : (old : Bool) (next left : ℕ) → 0 < left → ahead l old n next left ≡ ownerBy l old (next - 1) ∷ ahead l old n next (left - 1)
   unfolding ahead
-  ahead-one next left h = replicate-step left _ _ h
+  ahead-one old next left h = replicate-step left _ _ h
 
   -- no record is left of a function: those of the next one follow
-  pub ahead-next : (next : ℕ) → next < n → ahead l n next 0 ≡ ahead l n (next + 1) (listedFunction l (25 * next) .count)
-  unfolding ahead ownerAt
+  pub ahead-next : (next : ℕ) → next < n → ahead l false n next 0 ≡ ahead l false n (next + 1) (listedFunction l (25 * next) .count)
+  unfolding ahead laterOwners ownerBy
   ahead-next next h =
       let d : 25 * next + 25 ≡ 25 * (next + 1) = omega arith in
       let e : next + 1 - 1 ≡ next = omega arith in
       rw (owners-step listedFunction 25 n l (25 * next) next h, d, e)
 
-  pub ahead-some : (next : ℕ) → 0 < length (ahead l n next 0) → next < n
-  unfolding ahead
-  ahead-some next h = let z = owners-some listedFunction 25 (n - next) l (25 * next) next h in omega arith
+  -- records are ahead and none is left: the functions have counts, and not all of them are passed
+  pub ahead-some : (old : Bool) (next : ℕ) → 0 < length (ahead l old n next 0) → (old ≡ false) × (next < n)
+  unfolding ahead laterOwners
+  ahead-some true next h = absurd (omega arith)
+  ahead-some false next h = (refl, let z = owners-some listedFunction 25 (n - next) l (25 * next) next h in omega arith)

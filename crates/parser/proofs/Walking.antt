@@ -9,18 +9,19 @@ use Rattle.stackmap.specs.declared.Verdict.{Verdict}
 use Rattle.stackmap.specs.declared.Verdict.the-variants.{Valid}
 use Rattle.stackmap.specs.Verdict.{chain, shift}
 use Rattle.stackmap.specs.Fields.{size, all}
-use Rattle.stackmap.specs.Section.{Record, recordFields, Owner, owners, address, entriesFrom}
+use Rattle.stackmap.specs.Section.{Record, recordFields, Owner, recordOwners, address, entriesFrom}
 use Rattle.stackmap.specs.Fault.{entryFault, entriesFault}
 use Rattle.stackmap.proofs.Verdicts.{shift-valid}
 use Rattle.stackmap.proofs.Back.{entry-valid}
+use Rattle.stackmap.proofs.Turns.{length-recordOwners}
 use Rattle.listing.specs.Layout.{recordKind, recordItemSize}
 use Rattle.listing.specs.Listing.{stands}
 use Rattle.listing.proofs.Items.{is-item, records-no}
 use Rattle.parser.specs.Count.{Shaped}
 use Rattle.parser.specs.Survey.{recordSize, recordsFrom}
-use Rattle.parser.specs.Walk.{functionsOf, ahead, entryAt, Turning, Walkable}
+use Rattle.parser.specs.Walk.{functionsOf, ahead, entryAt, Turning, Starting, Walkable}
 use Rattle.parser.proofs.Records.{shape-size, records-here, sized-here}
-use Rattle.parser.proofs.Turns.{ahead-start, start-length, ahead-one}
+use Rattle.parser.proofs.Turns.{ahead-one}
 
 -- where records are ahead, one stands here
 pub some-record : (l : List ℕ) (at : ℕ) → 0 < length (recordsFrom l at) → stands recordKind recordItemSize l at ≡ true
@@ -34,79 +35,80 @@ pub record-inside : (l : List ℕ) (at : ℕ) → 0 < length (recordsFrom l at) 
 record-inside l at h = is-item recordKind recordItemSize l at (some-record l at h) .0
 
 -- a record's number has no part in its refusal
-renumber : (c k j at : ℕ) (os : List Owner) (rs : List Record) (end : ℕ)
-    → entriesFault false c (entriesFrom false k at os rs) end ≡ entriesFault false c (entriesFrom false j at os rs) end
+renumber : (old : Bool) (c k j at : ℕ) (os : List Owner) (rs : List Record) (end : ℕ)
+    → entriesFault old c (entriesFrom old k at os rs) end ≡ entriesFault old c (entriesFrom old j at os rs) end
 unfolding entriesFrom entriesFault entryFault address
-renumber c k j at [] rs end = refl
-renumber c k j at (o ∷ os) [] end = refl
-renumber c k j at (o ∷ os) (r ∷ rs) end = rw (renumber c (suc k) (suc j) (at + size (recordFields false r)) os rs end)
+renumber old c k j at [] rs end = refl
+renumber old c k j at (o ∷ os) [] end = refl
+renumber old c k j at (o ∷ os) (r ∷ rs) end = rw (renumber old c (suc k) (suc j) (at + size (recordFields old r)) os rs end)
 
 -- the first record, and then the rest
-entries-one : (c at : ℕ) (o : Owner) (os : List Owner) (r : Record) (rs : List Record) (end : ℕ)
-    → entriesFault false c (entriesFrom false 0 at (o ∷ os) (r ∷ rs)) end
-    ≡ chain (shift at (entryFault false c (record { number = 0; first = at; owner = o; body = r })))
-    (entriesFault false c (entriesFrom false 0 (at + size (recordFields false r)) os rs) end)
-entries-one c at o os r rs end =
+entries-one : (old : Bool) (c at : ℕ) (o : Owner) (os : List Owner) (r : Record) (rs : List Record) (end : ℕ)
+    → entriesFault old c (entriesFrom old 0 at (o ∷ os) (r ∷ rs)) end
+    ≡ chain (shift at (entryFault old c (record { number = 0; first = at; owner = o; body = r })))
+    (entriesFault old c (entriesFrom old 0 (at + size (recordFields old r)) os rs) end)
+entries-one old c at o os r rs end =
     unfold entriesFrom entriesFault in
-    ap (λ (k : Verdict). chain (shift at (entryFault false c (record { number = 0; first = at; owner = o; body = r }))) k)
-    (renumber c 1 0 (at + size (recordFields false r)) os rs end)
+    ap (λ (k : Verdict). chain (shift at (entryFault old c (record { number = 0; first = at; owner = o; body = r }))) k)
+    (renumber old c 1 0 (at + size (recordFields old r)) os rs end)
 
 -- the refusal of all records, in a section that ends at `end`
-abbrev pub whole : List ℕ → ℕ → ℕ → ℕ → ℕ → ℕ → Verdict
-whole l n c from place end = entriesFault false c (entriesFrom false 0 place (owners 0 (functionsOf l n)) (recordsFrom l from)) end
+abbrev pub whole : List ℕ → Bool → ℕ → ℕ → ℕ → ℕ → ℕ → ℕ → Verdict
+whole l old n c from records place end = entriesFault old c (entriesFrom old 0 place (recordOwners old records (functionsOf l n)) (recordsFrom l from)) end
 
 -- the record item at `at` is next, and is to stand at `to`; what is left gives what the whole gives
-pub record Walking (l : List ℕ) (n c from place end next left remaining at to : ℕ) : Type 0 where
-  pub turning : Turning n next left
-  pub owned : length (ahead l n next left) ≡ remaining
+pub record Walking (l : List ℕ) (old : Bool) (n c from records place end next left remaining at to : ℕ) : Type 0 where
+  pub turning : Turning old n next left
+  pub owned : length (ahead l old n next left) ≡ remaining
   pub listed : length (recordsFrom l at) ≡ remaining
   pub inside : at ≤ length l
-  pub ends : to + size (all (recordFields false) (recordsFrom l at)) ≡ end
-  pub same : whole l n c from place end ≡ entriesFault false c (entriesFrom false 0 to (ahead l n next left) (recordsFrom l at)) end
+  pub ends : to + size (all (recordFields old) (recordsFrom l at)) ≡ end
+  pub same : whole l old n c from records place end ≡ entriesFault old c (entriesFrom old 0 to (ahead l old n next left) (recordsFrom l at)) end
 
-module _ {l : List ℕ} {n c from place end : ℕ} where
-  pub walk-start : {records : ℕ} → Walkable l n from records place end → Walking l n c from place end 0 0 records from place
-  walk-start w =
+module _ {l : List ℕ} {old : Bool} {n c from records place end : ℕ} where
+  pub walk-start : {next left : ℕ} → Walkable l old n from records place end → Starting old n records next left
+      → Walking l old n c from records place end next left records from place
+  walk-start w s =
       record {
-        turning = record { most = omega arith; begun = λ z. absurd (omega arith) };
-        owned = start-length l n ∙ w .adds-up;
+        turning = s .turning;
+        owned = rw (s .all-ahead l) (length-recordOwners old records (functionsOf l n) (w .adds-up));
         listed = w .listed;
         inside = w .inside;
         ends = w .ends;
-        same = rw (ahead-start l n);
+        same = rw (s .all-ahead l);
       }
 
-  module _ {next left remaining at to : ℕ} (w : Walking l n c from place end next left remaining at to) (r : 0 < remaining) where
+  module _ {next left remaining at to : ℕ} (w : Walking l old n c from records place end next left remaining at to) (r : 0 < remaining) where
     pub walk-stands : stands recordKind recordItemSize l at ≡ true
     walk-stands = let z = w .listed in some-record l at (omega arith)
 
     -- its locations and live-outs are counted
     module _ {a b stop : ℕ} (h : Shaped l at a b stop) where
-      pub walk-room : to + recordSize a b ≤ end
+      pub walk-room : to + recordSize old a b ≤ end
       walk-room =
           let z = w .ends in
-          let s = sized-here h walk-stands in
+          let s = sized-here h walk-stands old in
           omega arith
 
       -- the turn has passed on to its owner
-      module _ (next′ left′ : ℕ) (e : ahead l n next′ left′ ≡ ahead l n next left) (p : 0 < left′) where
-        pub walk-here : whole l n c from place end
-            ≡ chain (shift to (entryFault false c (entryAt l (next′ - 1) at to)))
-            (entriesFault false c (entriesFrom false 0 (to + recordSize a b) (ahead l n next′ (left′ - 1)) (recordsFrom l stop)) end)
+      module _ (next′ left′ : ℕ) (e : ahead l old n next′ left′ ≡ ahead l old n next left) (p : 0 < left′) where
+        pub walk-here : whole l old n c from records place end
+            ≡ chain (shift to (entryFault old c (entryAt l old (next′ - 1) at to)))
+            (entriesFault old c (entriesFrom old 0 (to + recordSize old a b) (ahead l old n next′ (left′ - 1)) (recordsFrom l stop)) end)
         walk-here =
-            w .same ∙ rw (← e, ahead-one l n next′ left′ p, records-here h walk-stands, entries-one, shape-size h)
+            w .same ∙ rw (← e, ahead-one l n old next′ left′ p, records-here h walk-stands, entries-one, shape-size h old)
 
         -- and it is valid
-        pub walk-on : {q : ℕ} → 0 < next′ → next′ ≤ n → shift to (entryFault false c (entryAt l (next′ - 1) at to)) ≡ Valid q
-            → Walking l n c from place end next′ (left′ - 1) (remaining - 1) stop q
+        pub walk-on : {q : ℕ} → 0 < next′ → (old ≡ false → next′ ≤ n) → shift to (entryFault old c (entryAt l old (next′ - 1) at to)) ≡ Valid q
+            → Walking l old n c from records place end next′ (left′ - 1) (remaining - 1) stop q
         walk-on {q} b′ m v =
             let x = shift-valid _ _ _ v in
-            let d : q ≡ to + recordSize a b = x .2 ∙ ap (λ (k : ℕ). to + k) (entry-valid false c _ _ (x .1) ∙ shape-size h) in
-            let o : length (ahead l n next′ left′) ≡ suc (length (ahead l n next′ (left′ - 1))) = rw (ahead-one l n next′ left′ p) in
-            let o′ : length (ahead l n next′ left′) ≡ remaining = rw e (w .owned) in
+            let d : q ≡ to + recordSize old a b = x .2 ∙ ap (λ (k : ℕ). to + k) (entry-valid old c _ _ (x .1) ∙ shape-size h old) in
+            let o : length (ahead l old n next′ left′) ≡ suc (length (ahead l old n next′ (left′ - 1))) = rw (ahead-one l n old next′ left′ p) in
+            let o′ : length (ahead l old n next′ left′) ≡ remaining = rw e (w .owned) in
             let k = ap length (records-here h walk-stands) in
             let j = w .listed in
-            let s = sized-here h walk-stands in
+            let s = sized-here h walk-stands old in
             let z = w .ends in
             record {
               turning = record { most = m; begun = λ _. b′ };
@@ -117,11 +119,12 @@ module _ {l : List ℕ} {n c from place end : ℕ} where
               same = walk-here ∙ rw (v, d) (unfold chain in refl);
             }
 
-  pub walk-end : {next left remaining at to : ℕ} → Walking l n c from place end next left remaining at to → remaining ≡ 0 → whole l n c from place end ≡ Valid to
-  walk-end {next} {left} {at = at} {to = to} w z = w .same ∙ none (ahead l n next left) (recordsFrom l at) (w .listed ∙ z) (w .ends)
+  pub walk-end : {next left remaining at to : ℕ} → Walking l old n c from records place end next left remaining at to → remaining ≡ 0
+      → whole l old n c from records place end ≡ Valid to
+  walk-end {next} {left} {at = at} {to = to} w z = w .same ∙ none (ahead l old n next left) (recordsFrom l at) (w .listed ∙ z) (w .ends)
     where
-      none : (os : List Owner) (rs : List Record) → length rs ≡ 0 → to + size (all (recordFields false) rs) ≡ end
-          → entriesFault false c (entriesFrom false 0 to os rs) end ≡ Valid to
+      none : (os : List Owner) (rs : List Record) → length rs ≡ 0 → to + size (all (recordFields old) rs) ≡ end
+          → entriesFault old c (entriesFrom old 0 to os rs) end ≡ Valid to
       none [] [] h e = unfold entriesFault entriesFrom all size in ap Valid (omega arith)
       none (o ∷ os) [] h e = unfold entriesFault entriesFrom all size in ap Valid (omega arith)
       none os (r ∷ rs) h e = absurd (omega arith)

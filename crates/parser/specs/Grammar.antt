@@ -1,10 +1,10 @@
 -- Refusals 22 and 23 of a listing whose records begin at a place.
-use Prim.Native.Nat.{ℕ, _+_}
+use Prim.Native.Nat.{ℕ, _+_, _≤_}
 use mathlib.Core.List.{List}
 use lib.ListN.{length}
 use lib.Dec.{eqb}
 use Rattle.stackmap.specs.declared.Verdict.{Verdict}
-use Rattle.stackmap.specs.declared.Verdict.the-variants.{Valid}
+use Rattle.stackmap.specs.declared.Verdict.the-variants.{Valid, Refused}
 use Rattle.stackmap.specs.Verdict.{must, chain}
 use Rattle.listing.specs.Layout.{endKind, endItemSize}
 use Rattle.listing.specs.Listing.{stands, notTooMany}
@@ -16,6 +16,11 @@ endCheck l stop =
     must (stands endKind endItemSize l stop) 22 stop (must (eqb (stop + endItemSize) (length l)) 22 (stop + endItemSize) (Valid (length l)))
 
 -- 22 over the whole listing, and then 23
-unfoldable pub itemsCheck : List ℕ → ℕ → Verdict
-itemsCheck l from =
+unfoldable pub grammarCheck : List ℕ → ℕ → Verdict
+grammarCheck l from =
     chain (endCheck l (stopFrom l from)) (chain (notTooMany (recordsFrom l from) from) (Valid (length l)))
+
+-- a refusal's place is at most n
+abbrev pub Inside : ℕ → Verdict → Type 0
+Inside n (Valid e) = Unit {0}
+Inside n (Refused k p) = p ≤ n

@@ -1,4 +1,4 @@
--- What a pass over the records of a listing finds.
+-- What a pass over the records of a listing finds. Here and in the other modules the listing is what follows the version's item.
 use Prim.Native.Nat.{ℕ, _+_, _*_, _≤_}
 use mathlib.Core.Path.{_≡_}
 use mathlib.Core.List.{List}
@@ -12,9 +12,9 @@ use Rattle.listing.specs.Layout.{functionItemSize, constantItemSize, recordKind
 use Rattle.listing.specs.Listing.{stands, listedRecords, recordsStop, notTooMany}
 use Rattle.parser.specs.Count.{Tabled}
 
--- the bytes of a record with n locations and m live-outs
-abbrev pub recordSize : ℕ → ℕ → ℕ
-recordSize n m = recordHeadSize + locationSize false * n + locationsPadding false n + liveOutsHeadSize + liveOutSize * m + liveOutsPadding m
+-- the bytes of a record with n locations and m live-outs, in a section of version 1 where `old` is true
+abbrev pub recordSize : Bool → ℕ → ℕ → ℕ
+recordSize old n m = recordHeadSize + locationSize old * n + locationsPadding old n + liveOutsHeadSize + liveOutSize * m + liveOutsPadding m
 
 module _ (l : List ℕ) where
   -- the records from the item at `at` on, and where they stop
@@ -24,15 +24,18 @@ module _ (l : List ℕ) where
   abbrev pub stopFrom : ℕ → ℕ
   stopFrom at = recordsStop l (length l) at
 
-  -- between `from` and `at` stand this many whole records, none with too many items, that take so many bytes in a section
-  pub record Passed (from records bytes at : ℕ) : Type 0 where
+  -- between `from` and `at` stand this many whole records, none with too many items
+  pub record Passed (from records at : ℕ) : Type 0 where
     pub inside : at ≤ length l
     pub few : records ≤ at
-    pub short : bytes ≤ 3 * at
     pub stops : stopFrom from ≡ stopFrom at
     pub checks : notTooMany (recordsFrom from) from ≡ notTooMany (recordsFrom at) at
     pub counted : length (recordsFrom from) ≡ records + length (recordsFrom at)
-    pub sized : size (all (recordFields false) (recordsFrom from)) ≡ bytes + size (all (recordFields false) (recordsFrom at))
+
+  -- they take so many bytes in a section
+  pub record Measured (old : Bool) (from bytes at : ℕ) : Type 0 where
+    pub short : bytes ≤ 3 * at
+    pub sized : size (all (recordFields old) (recordsFrom from)) ≡ bytes + size (all (recordFields old) (recordsFrom at))
 
   -- what ends the pass: a record with too many items stands here, or none at all
   abbrev pub Ends : ℕ → Bool → Type 0
@@ -45,9 +48,9 @@ module _ (l : List ℕ) where
 
   -- what is known of a listing before its section is written: how many functions, constants and records, and the bytes of
   -- the records in the section
-  pub record Planned (functions constants records bytes : ℕ) : Type 0 where
+  pub record Planned (old : Bool) (functions constants records bytes : ℕ) : Type 0 where
     pub tables : Tabled l functions constants
     pub counted : length (recordsFrom (recordsAfter functions constants)) ≡ records
-    pub sized : size (all (recordFields false) (recordsFrom (recordsAfter functions constants))) ≡ bytes
+    pub sized : size (all (recordFields old) (recordsFrom (recordsAfter functions constants))) ≡ bytes
     pub few : records ≤ length l
     pub short : bytes ≤ 3 * length l

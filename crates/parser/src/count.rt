@@ -4,7 +4,7 @@ ghost use Prim.Native.Nat.{_≤_};
 ghost use lib.ListN.{length};
 ghost use Rattle.listing.specs.Layout.{listingMost};
 ghost use Rattle.parser.specs.Count.{Ran, Tabled};
-ghost use Rattle.parser.specs.Survey.{Passed, Ends};
+ghost use Rattle.parser.specs.Survey.{Passed, Measured, Ends};
 use crate::shape;
 use listing::numbers;
 
@@ -59,10 +59,10 @@ pub struct Survey {
     pub crowded: bool,
 }
 
-// The records from `from` on, up to the first that has too many locations or live-outs.
-pub fn survey_records(l: &[u8], from: usize) -> Survey
+// The records from `from` on, up to the first that has too many locations or live-outs; `old` is true for version 1.
+pub fn survey_records(l: &[u8], old: bool, from: usize) -> Survey
     requires { ⌜ (from ≤ length (now l)) × (length (now l) ≤ listingMost) ⌝ }
-    ensures { λ r. ⌜ Passed (now (l .entry)) from (r .records) (r .size) (r .stop) × Ends (now (l .entry)) (r .stop) (r .crowded) ⌝ }
+    ensures { λ r. ⌜ Passed (now (l .entry)) from (r .records) (r .stop) × Measured (now (l .entry)) old from (r .size) (r .stop) × Ends (now (l .entry)) (r .stop) (r .crowded) ⌝ }
 {
     let mut stop = from;
     let mut records = 0;
@@ -96,7 +96,7 @@ pub fn survey_records(l: &[u8], from: usize) -> Survey
             };
         }
         records += 1;
-        size += shape::record_size(shape);
+        size += shape::record_size(old, shape);
         stop = shape.stop;
     }
     Survey {

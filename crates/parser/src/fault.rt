@@ -1,4 +1,5 @@
-// The refusals that the built section would get, said of the listing's items: 6, 7 and 8. A place is one of the section.
+// The refusals that the built section would get, said of the listing's items: 6, 7 and 8. A place is one of the section, which
+// is of version 1 where `old` is true.
 // No entry point: it requires a listing whose grammar 22 has passed.
 ghost use mathlib.Core.Path.{_≡_};
 ghost use mathlib.Core.Bool.{false};
@@ -12,17 +13,19 @@ ghost use Rattle.listing.specs.Layout.{functionItemSize, locationItemSize, list
 ghost use Rattle.listing.specs.Listing.{listedLocation};
 ghost use Rattle.parser.specs.Count.{Shaped};
 ghost use Rattle.parser.specs.Survey.{recordSize};
-ghost use Rattle.parser.specs.Walk.{entryAt};
+ghost use Rattle.parser.specs.Walk.{ownerBy, entryAt};
+use crate::Plan;
 use crate::shape;
 use listing::numbers;
 use stackmap::Verdict;
 use stackmap::layout;
 
 // The location item at `at`, in a listing of `constants` constants; it is to stand at `place`.
-fn location(l: &[u8], at: usize, place: usize, constants: usize) -> Verdict
-    requires { ⌜ (at + locationItemSize ≤ length (now l)) × (place + locationSize false ≤ sectionMost) ⌝ }
-    ensures { λ r. ⌜ r ≡ locationFault false constants (listedLocation (now (l .entry)) at) place ⌝ }
+fn location(l: &[u8], old: bool, at: usize, place: usize, constants: usize) -> Verdict
+    requires { ⌜ (at + locationItemSize ≤ length (now l)) × (place + locationSize old ≤ sectionMost) ⌝ }
+    ensures { λ r. ⌜ r ≡ locationFault old constants (listedLocation (now (l .entry)) at) place ⌝ }
 {
+    let end = place + layout::location_size(old);
     let kind = l[at + numbers::LISTED_LOCATION_KIND_AT];
     if kind < layout::KIND_LEAST {
         return Verdict::Refused(6, place);
@@ -31,7 +34,7 @@ fn location(l: &[u8], at: usize, place: usize, constants: usize) -> Verdict
         return Verdict::Refused(6, place);
     }
     if kind != layout::KIND_CONST_INDEX {
-        return Verdict::Valid(place + layout::LOCATION_SIZE);
+        return Verdict::Valid(end);
     }
     let index = wire::u32_at(l, at + numbers::LISTED_LOCATION_OFFSET_AT);
     if index >= layout::NEGATIVE_FROM {
@@ -40,44 +43,57 @@ fn location(l: &[u8], at: usize, place: usize, constants: usize) -> Verdict
     if index as usize >= constants {
         return Verdict::Refused(7, place);
     }
-    Verdict::Valid(place + layout::LOCATION_SIZE)
+    Verdict::Valid(end)
 }
 
 // The `n` location items from `at`; the first is to stand at `place`.
-fn locations(l: &[u8], at: usize, n: usize, place: usize, constants: usize) -> Verdict
-    requires { ⌜ (at + locationItemSize * n ≤ length (now l)) × (place + locationSize false * n ≤ sectionMost) ⌝ }
-    ensures { λ r. ⌜ r ≡ locationsFault false constants (many listedLocation locationItemSize n (now (l .entry)) at) place ⌝ }
+fn locations(l: &[u8], old: bool, at: usize, n: usize, place: usize, constants: usize) -> Verdict
+    requires { ⌜ (at + locationItemSize * n ≤ length (now l)) × (place + locationSize old * n ≤ sectionMost) ⌝ }
+    ensures { λ r. ⌜ r ≡ locationsFault old constants (many listedLocation locationItemSize n (now (l .entry)) at) place ⌝ }
 {
+    let step = layout::location_size(old);
     let mut p = at;
     let mut q = place;
     let mut left = n;
     while left > 0 {
-        if let Verdict::Refused(number, refused) = location(l, p, q, constants) {
+        if let Verdict::Refused(number, refused) = location(l, old, p, q, constants) {
             return Verdict::Refused(number, refused);
         }
         p += numbers::LOCATION_ITEM_SIZE;
-        q += layout::LOCATION_SIZE;
+        q += step;
         left -= 1;
     }
     Verdict::Valid(q)
 }
 
-// The record item at `at`, of function number `function`; it is to stand at `place`.
+// What a record's offset counts from: the address of its function, or 0 where it is nobody's.
+fn owner_address(l: &[u8], old: bool, function: usize) -> u64
+    requires { ⌜ (old ≡ false → functionItemSize * function + functionItemSize ≤ length (now l)) ⌝ }
+    ensures { λ r. ⌜ r ≡ ownerBy (now (l .entry)) old function .function .address ⌝ }
+{
+    if old {
+        return 0;
+    }
+    wire::u64_at(
+        l,
+        numbers::FUNCTION_ITEM_SIZE * function + numbers::LISTED_ADDRESS_AT,
+    )
+}
+
+// The record item at `at`, of function number `function`, or of nobody; it is to stand at `place`.
 pub fn entry(
     l: &[u8],
+    plan: Plan,
     at: usize,
     shape: shape::Shape,
     function: usize,
     place: usize,
-    constants: usize,
 ) -> Verdict
-    requires { ⌜ Shaped (now l) at (shape .locations) (shape .outs) (shape .stop) × (functionItemSize * function + functionItemSize ≤ length (now l)) × (length (now l) ≤ listingMost) × (place + recordSize (shape .locations) (shape .outs) ≤ sectionMost) ⌝ }
-    ensures { λ r. ⌜ r ≡ shift place (entryFault false constants (entryAt (now (l .entry)) function at place)) ⌝ }
+    requires { ⌜ Shaped (now l) at (shape .locations) (shape .outs) (shape .stop) × (plan .old ≡ false → functionItemSize * function + functionItemSize ≤ length (now l)) × (length (now l) ≤ listingMost) × (place + recordSize (plan .old) (shape .locations) (shape .outs) ≤ sectionMost) ⌝ }
+    ensures { λ r. ⌜ r ≡ shift place (entryFault (plan .old) (plan .constants) (entryAt (now (l .entry)) (plan .old) function at place)) ⌝ }
 {
-    let address = wire::u64_at(
-        l,
-        numbers::FUNCTION_ITEM_SIZE * function + numbers::LISTED_ADDRESS_AT,
-    );
+    let old = plan.old;
+    let address = owner_address(l, old, function);
     let offset = wire::u32_at(l, at + numbers::LISTED_INSTRUCTION_OFFSET_AT) as u64;
     if offset > layout::ADDRESS_MOST - address {
         return Verdict::Refused(8, place);
@@ -86,12 +102,13 @@ pub fn entry(
     let n = shape.locations;
     if let Verdict::Refused(number, refused) = locations(
         l,
+        old,
         first,
         n,
         place + layout::RECORD_HEAD_SIZE,
-        constants,
+        plan.constants,
     ) {
         return Verdict::Refused(number, refused);
     }
-    Verdict::Valid(place + shape::record_size(shape))
+    Verdict::Valid(place + shape::record_size(old, shape))
 }

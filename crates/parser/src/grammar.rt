@@ -4,7 +4,7 @@ ghost use mathlib.Core.Path.{_≡_};
 ghost use Prim.Native.Nat.{_≤_};
 ghost use lib.ListN.{length};
 ghost use Rattle.parser.specs.Survey.{stopFrom, Passed, Ends};
-ghost use Rattle.parser.specs.Grammar.{endCheck, itemsCheck};
+ghost use Rattle.parser.specs.Grammar.{endCheck, grammarCheck, Inside};
 use crate::count;
 use crate::shape;
 use listing::numbers;
@@ -29,7 +29,7 @@ fn records_stop(l: &[u8], from: usize) -> usize
 // One end stands where the items stop, and nothing after it.
 fn end(l: &[u8], stop: usize) -> Verdict
     requires { ⌜ stop ≤ length (now l) ⌝ }
-    ensures { λ r. ⌜ r ≡ endCheck (now (l .entry)) stop ⌝ }
+    ensures { λ r. ⌜ (r ≡ endCheck (now (l .entry)) stop) × Inside (length (now (l .entry))) r ⌝ }
 {
     if l.len() - stop < numbers::END_ITEM_SIZE {
         return Verdict::Refused(22, stop);
@@ -45,8 +45,8 @@ fn end(l: &[u8], stop: usize) -> Verdict
 
 // The items of a listing whose records begin at `from`, by what a pass over the records found.
 pub fn items(l: &[u8], from: usize, survey: count::Survey) -> Verdict
-    requires { ⌜ Passed (now l) from (survey .records) (survey .size) (survey .stop) × Ends (now l) (survey .stop) (survey .crowded) ⌝ }
-    ensures { λ r. ⌜ r ≡ itemsCheck (now (l .entry)) from ⌝ }
+    requires { ⌜ Passed (now l) from (survey .records) (survey .stop) × Ends (now l) (survey .stop) (survey .crowded) ⌝ }
+    ensures { λ r. ⌜ (r ≡ grammarCheck (now (l .entry)) from) × Inside (length (now (l .entry))) r ⌝ }
 {
     let stop = survey.stop;
     if survey.crowded {

@@ -1,17 +1,24 @@
 // What a listing comes to: refused, or the section that is to be built of it. Both are found over the listing's items alone:
-// the built section's refusals are said of the items, with places in the section.
+// the built section's refusals are said of the items, with places in the section. All modules but `version` count places
+// from the first byte after the version's item.
 ghost use Rattle.parser.specs.Outcome.{Found};
+use crate::draft::Draft;
 use listing::numbers;
 use stackmap::Verdict;
 
 mod count;
+mod draft;
 mod fault;
 mod grammar;
+mod narrow;
 pub mod shape;
+pub mod version;
 mod walk;
 
 // What is known of a listing before its section is written.
 pub struct Plan {
+    // Whether it is of version 1.
+    pub old: bool,
     pub functions: usize,
     pub constants: usize,
     pub records: usize,
@@ -34,24 +41,13 @@ pub fn parse(l: &[u8]) -> Outcome
     if l.len() > numbers::LISTING_MOST {
         return Outcome::Refused(1, 0);
     }
-    let tables = count::listed_tables(l);
-    let functions = tables.functions;
-    let constants = tables.constants;
-    let from = numbers::FUNCTION_ITEM_SIZE * functions + numbers::CONSTANT_ITEM_SIZE * constants;
-    let survey = count::survey_records(l, from);
-    let records = survey.records;
-    let bytes = survey.size;
-    if let Verdict::Refused(n, p) = grammar::items(l, from, survey) {
-        return Outcome::Refused(n, p);
-    }
-    let plan = Plan {
-        functions,
-        constants,
-        records,
-        bytes,
-    };
-    match walk::section(l, plan) {
-        Verdict::Refused(n, p) => Outcome::Refused(n, p),
-        Verdict::Valid(size) => Outcome::Section(plan, size),
+    let old = version::listed_old(l);
+    let start = version::length(old);
+    match draft::items(&l[start..], old) {
+        Draft::Refused(n, p) => Outcome::Refused(n, start + p),
+        Draft::Whole(plan) => match walk::section(&l[start..], plan) {
+            Verdict::Refused(n, p) => Outcome::Refused(n, p),
+            Verdict::Valid(size) => Outcome::Section(plan, size),
+        },
     }
 }

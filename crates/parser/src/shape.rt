@@ -39,13 +39,15 @@ pub fn record_shape(l: &[u8], at: usize) -> Shape
     }
 }
 
-// The bytes of a record in a section: its head, the locations, the live-outs and the paddings.
-pub fn record_size(shape: Shape) -> usize
+// The bytes of a record in a section, of version 1 where `old` is true: its head, the locations, the live-outs and the
+// paddings.
+pub fn record_size(old: bool, shape: Shape) -> usize
     requires { ⌜ (shape .locations ≤ listingMost) × (shape .outs ≤ listingMost) ⌝ }
-    ensures { λ r. ⌜ r ≡ recordSize (shape .locations) (shape .outs) ⌝ }
+    ensures { λ r. ⌜ r ≡ recordSize old (shape .locations) (shape .outs) ⌝ }
 {
     let locations = shape.locations;
     let outs = shape.outs;
-    let end = layout::RECORD_HEAD_SIZE + layout::LOCATION_SIZE * locations + locations % 2 * 4;
+    let pad = layout::RECORD_HEAD_SIZE + layout::location_size(old) * locations;
+    let end = pad + layout::locations_padding(old, locations);
     end + layout::LIVE_OUTS_HEAD_SIZE + layout::LIVE_OUT_SIZE * outs + (outs + 1) % 2 * 4
 }

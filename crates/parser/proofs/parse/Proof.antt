@@ -1,43 +1,59 @@
 use mathlib.Core.Path.{sym, _∙_}
-use Rattle.parser.proofs.Outcomes.{too-long, items-refused, items-accepted, planned, ready, buildable}
+use lib.ListN.{length-drop}
+use Rattle.stackmap.proofs.Within.{part-from}
+use Rattle.parser.proofs.Outcomes.{too-long, start-inside, items-refused, items-accepted, buildable}
 use borrow.Author.Needs.{needs}
+use native.Mathlib.Omega.{arith}
 use Rattle.parser.proofs.parse.Statement.{statement}
 use Rattle.parser.proofs.parse.Tie as tie
 
 returns : tie.Need-returns
 returns c = too-long (c .before .before .args .l .now) (c .if1 .taken)
 
-listed-tables-requires : tie.Need-listed-tables-requires
-listed-tables-requires c κs = search needs
+listed-old-requires : tie.Need-listed-old-requires
+listed-old-requires c κs = search needs
 
-mul-from : tie.Need-mul-from
-mul-from c = search needs
+length-requires : tie.Need-length-requires
+length-requires c κs = search needs
 
-mul-from-2 : tie.Need-mul-from-2
-mul-from-2 c = search needs
+sub-items : tie.Need-sub-items
+sub-items c = let h = start-inside (c .before .before .before .before .args .l .now) (c .before .listed-old .ensures) (c .length .ensures) in search needs
 
-add-from : tie.Need-add-from
-add-from c = search needs
+part-items-start : tie.Need-part-items-start
+part-items-start c = let h = start-inside (c .before .before .before .before .args .l .now) (c .before .listed-old .ensures) (c .length .ensures) in search needs
 
-survey-records-requires : tie.Need-survey-records-requires
-survey-records-requires c κs = search needs
+part-items-end : tie.Need-part-items-end
+part-items-end c = let h = start-inside (c .before .before .before .before .args .l .now) (c .before .listed-old .ensures) (c .length .ensures) in search needs
 
 items-requires : tie.Need-items-requires
-items-requires c κs = search needs
+items-requires c κs = rw (part-from, length-drop) (omega arith)
 
 enum-known-n : tie.Need-enum-known-n
 enum-known-n c = search needs
 
-returns-2 : tie.Need-returns-2
-returns-2 c = items-refused (c .before .before .before .before .before .listed-tables .ensures) (c .before .before .before .before .before .before .if1 .left) (sym (c .before .before .before .items .ensures) ∙ c .before .n .given .1)
+add-t17 : tie.Need-add-t17
+add-t17 c =
+    let d = rw (part-from, length-drop) at (rw (c .before .n .given .1) at (c .before .before .before .items .ensures)) in
+    let p = d .1 in
+    let h = start-inside (c .before .before .before .before .before .before .before .before .before .args .l .now) (c .before .before .before .before .before .before .listed-old .ensures) (c .before .before .before .before .before .length .ensures) in
+    omega arith
 
-enum-told : tie.Need-enum-told
-enum-told c = search needs
+enum-known-plan : tie.Need-enum-known-plan
+enum-known-plan c = search needs
+
+sub-section : tie.Need-sub-section
+sub-section c = let h = start-inside (c .before .before .before .before .before .before .before .before .before .args .l .now) (c .before .before .before .before .before .before .listed-old .ensures) (c .before .before .before .before .before .length .ensures) in search needs
+
+part-section-start : tie.Need-part-section-start
+part-section-start c = let h = start-inside (c .before .before .before .before .before .before .before .before .before .args .l .now) (c .before .before .before .before .before .before .listed-old .ensures) (c .before .before .before .before .before .length .ensures) in search needs
+
+part-section-end : tie.Need-part-section-end
+part-section-end c = let h = start-inside (c .before .before .before .before .before .before .before .before .before .args .l .now) (c .before .before .before .before .before .before .listed-old .ensures) (c .before .before .before .before .before .length .ensures) in search needs
 
 section-requires : tie.Need-section-requires
 section-requires c κs =
-    let s = c .before .before .before .survey-records in
-    (planned (c .before .before .before .before .listed-tables .ensures) (c .before .before .before .before .before .if1 .left) (sym (c .before .before .items .ensures) ∙ c .enum-told .given .1) (s .result .crowded) (s .ensures .0) (s .ensures .1), c .before .before .before .before .before .if1 .left)
+    let w = rw (c .before .before .plan .given .1) at (c .before .before .before .before .items .ensures) in
+    (w .1 .planned, rw (part-from, length-drop) (omega arith))
 
 enum-known-n-2 : tie.Need-enum-known-n-2
 enum-known-n-2 c = search needs
@@ -45,36 +61,41 @@ enum-known-n-2 c = search needs
 enum-known-size : tie.Need-enum-known-size
 enum-known-size c = search needs
 
+returns-2 : tie.Need-returns-2
+returns-2 c =
+    let d = rw (c .before .n .given .1) at (c .before .before .before .items .ensures) in
+    items-refused (c .before .before .before .before .before .before .before .before .before .args .l .now) (c .before .before .before .before .before .before .listed-old .ensures) (c .before .before .before .before .before .length .ensures) (c .before .before .before .before .before .before .before .if1 .left) (d .0)
+
 returns-3 : tie.Need-returns-3
 returns-3 c =
-    items-accepted (c .before .before .before .before .before .before .before .before .listed-tables .ensures) (c .before .before .before .before .before .before .before .before .before .if1 .left) (sym (c .before .before .before .before .before .before .items .ensures) ∙ c .before .before .before .before .enum-told .given .1)
-    ∙ sym (c .before .before .before .section .ensures) ∙ c .before .n2 .given .1
+    let w = rw (c .before .before .before .before .before .before .plan .given .1) at (c .before .before .before .before .before .before .before .before .items .ensures) in
+    items-accepted (c .before .before .before .before .before .before .before .before .before .before .before .before .before .before .args .l .now) (c .before .before .before .before .before .before .before .before .before .before .before .listed-old .ensures) (c .before .before .before .before .before .before .before .before .before .before .length .ensures) (c .before .before .before .before .before .before .before .before .before .before .before .before .if1 .left) (w .0) (w .1) ∙ sym (c .before .before .before .section .ensures) ∙ c .before .n2 .given .1
 
 returns-4 : tie.Need-returns-4
 returns-4 c =
-    let t = c .before .before .before .before .before .before .before .before .listed-tables .ensures in
-    let h = c .before .before .before .before .before .before .before .before .before .if1 .left in
-    let v = sym (c .before .before .before .before .before .before .items .ensures) ∙ c .before .before .before .before .enum-told .given .1 in
-    let s = c .before .before .before .before .before .before .before .survey-records in
-    buildable (items-accepted t h v) (planned t h v (s .result .crowded) (s .ensures .0) (s .ensures .1)) (ready t h v (s .result .crowded) (s .ensures .0) (s .ensures .1)) h
-    (sym (c .before .before .before .section .ensures) ∙ c .before .size .given .1)
+    let w = rw (c .before .before .before .before .before .before .plan .given .1) at (c .before .before .before .before .before .before .before .before .items .ensures) in
+    buildable (c .before .before .before .before .before .before .before .before .before .before .before .before .before .before .args .l .now) (c .before .before .before .before .before .before .before .before .before .before .before .listed-old .ensures) (c .before .before .before .before .before .before .before .before .before .before .length .ensures) (c .before .before .before .before .before .before .before .before .before .before .before .before .if1 .left) (w .0) (w .1) (sym (c .before .before .before .section .ensures) ∙ c .before .size .given .1)
 
 pub parse-spec : {M : Type 1} → statement M
 parse-spec =
     tie.close
     (tie.spec
     returns
-    listed-tables-requires
-    mul-from
-    mul-from-2
-    add-from
-    survey-records-requires
+    listed-old-requires
+    length-requires
+    sub-items
+    part-items-start
+    part-items-end
     items-requires
     enum-known-n
-    returns-2
-    enum-told
+    add-t17
+    enum-known-plan
+    sub-section
+    part-section-start
+    part-section-end
     section-requires
     enum-known-n-2
     enum-known-size
+    returns-2
     returns-3
     returns-4)

@@ -7,19 +7,19 @@ use lib.ListN.{length}
 use Rattle.listing.specs.Layout.{recordKind, recordItemSize}
 use Rattle.listing.specs.Listing.{stands}
 use Rattle.listing.proofs.Items.{yes-item, no-room, other-kind}
-use Rattle.parser.specs.Survey.{Passed}
-use Rattle.parser.proofs.Records.{passed-start, passed-on, locations-crowded, live-outs-crowded}
+use Rattle.parser.specs.Survey.{Passed, Measured}
+use Rattle.parser.proofs.Records.{size-most, passed-start, passed-on, measured-start, measured-on, locations-crowded, live-outs-crowded}
 use Rattle.parser.proofs.count.survey_records.Statement.{statement}
 use Rattle.parser.proofs.count.survey_records.Tie as tie
 
 abbrev Inv-loop : tie.InvT-loop
-Inv-loop l from stop₀ records₀ size₀ stop records size = Passed l from records size stop
+Inv-loop l old from stop₀ records₀ size₀ stop records size = Passed l from records stop × Measured l old from size stop
 
 abbrev μ-loop : tie.MeasureT-loop
-μ-loop l from stop₀ records₀ size₀ stop records size = length l - stop
+μ-loop l old from stop₀ records₀ size₀ stop records size = length l - stop
 
 loop-holds : tie.Need-loop-holds Inv-loop μ-loop
-loop-holds c = passed-start (c .before .pre .0)
+loop-holds c = (passed-start (c .before .pre .0), measured-start)
 
 sub-loop : tie.Need-sub-loop Inv-loop μ-loop
 sub-loop c = search needs
@@ -28,7 +28,7 @@ shared-slice-read-if1 : tie.Need-shared-slice-read-if1 Inv-loop μ-loop
 shared-slice-read-if1 c = search needs
 
 returns : tie.Need-returns Inv-loop μ-loop
-returns c = (c .before .before .before .loop .inv, other-kind recordKind recordItemSize (c .before .before .before .before .before .args .l .now) (c .before .before .before .loop .stop) (c .if1 .taken))
+returns c = (c .before .before .before .loop .inv .0, c .before .before .before .loop .inv .1, other-kind recordKind recordItemSize (c .before .before .before .before .before .args .l .now) (c .before .before .before .loop .stop) (c .if1 .taken))
 
 record-shape-requires : tie.Need-record-shape-requires Inv-loop μ-loop
 record-shape-requires c κs = search needs
@@ -38,10 +38,10 @@ here : (c : tie.After-record-shape Inv-loop μ-loop) → stands recordKind recor
 here c = yes-item _ _ (c .before .before .before .before .before .before .args .l .now) (c .before .before .before .before .loop .stop) (omega arith) (c .before .if1 .left)
 
 returns-2 : tie.Need-returns-2 Inv-loop μ-loop
-returns-2 c = (c .before .before .before .before .before .loop .inv, locations-crowded (c .before .record-shape .ensures) (here (c .before)) (c .if2 .taken))
+returns-2 c = (c .before .before .before .before .before .loop .inv .0, c .before .before .before .before .before .loop .inv .1, locations-crowded (c .before .record-shape .ensures) (here (c .before)) (c .if2 .taken))
 
 returns-3 : tie.Need-returns-3 Inv-loop μ-loop
-returns-3 c = (c .before .before .before .before .before .before .loop .inv, live-outs-crowded (c .before .before .record-shape .ensures) (here (c .before .before)) (c .if3 .taken))
+returns-3 c = (c .before .before .before .before .before .before .loop .inv .0, c .before .before .before .before .before .before .loop .inv .1, live-outs-crowded (c .before .before .record-shape .ensures) (here (c .before .before)) (c .if3 .taken))
 
 add-records : tie.Need-add-records Inv-loop μ-loop
 add-records c = search needs
@@ -50,16 +50,20 @@ record-size-requires : tie.Need-record-size-requires Inv-loop μ-loop
 record-size-requires c κs = search needs
 
 add-size : tie.Need-add-size Inv-loop μ-loop
-add-size c = search needs
+add-size c = let m = size-most (c .before .before .before .before .before .before .before .before .before .args .old) (c .before .before .before .record-shape .result .locations) (c .before .before .before .record-shape .result .outs) in search needs
 
 loop-less : tie.Need-loop-less Inv-loop μ-loop
 loop-less c = search needs
 
 loop-again : tie.Need-loop-again Inv-loop μ-loop
-loop-again c = rw (c .record-size .ensures) (passed-on (c .before .before .before .record-shape .ensures) (here (c .before .before .before)) (c .before .before .if2 .left) (c .before .if3 .left) (c .before .before .before .before .before .before .before .loop .inv))
+loop-again c =
+    let s = c .before .before .before .record-shape .ensures in
+    let h = here (c .before .before .before) in
+    let i = c .before .before .before .before .before .before .before .loop .inv in
+    (passed-on s h (c .before .before .if2 .left) (c .before .if3 .left) (i .0), rw (c .record-size .ensures) (measured-on s h (i .1)))
 
 returns-4 : tie.Need-returns-4 Inv-loop μ-loop
-returns-4 c = (c .before .loop .inv, no-room recordKind recordItemSize (c .before .before .before .args .l .now) (c .before .loop .stop) (omega arith))
+returns-4 c = (c .before .loop .inv .0, c .before .loop .inv .1, no-room recordKind recordItemSize (c .before .before .before .args .l .now) (c .before .loop .stop) (omega arith))
 
 pub survey-records-spec : {M : Type 1} → statement M
 survey-records-spec =

@@ -1,20 +1,14 @@
-use native.Mathlib.Omega.{arith}
 use Prim.Native.Nat.{_+_, _-_, _^_, _<_}
 use borrow.Author.Tests.{lt-leb}
 use Rattle.stackmap.specs.Verdict.{must, chain}
 use Rattle.parser.proofs.Faults.{entry-listed, entry-fits}
 use borrow.Author.Needs.{needs}
+use native.Mathlib.Omega.{arith}
 use Rattle.parser.proofs.fault.entry.Statement.{statement}
 use Rattle.parser.proofs.fault.entry.Tie as tie
 
-mul-u64-at : tie.Need-mul-u64-at
-mul-u64-at c = search needs
-
-add-u64-at : tie.Need-add-u64-at
-add-u64-at c = search needs
-
-u64-at-requires : tie.Need-u64-at-requires
-u64-at-requires c κs = search needs
+owner-address-requires : tie.Need-owner-address-requires
+owner-address-requires c κs = c .before .pre .1
 
 add-u32-at : tie.Need-add-u32-at
 add-u32-at c = search needs
@@ -32,8 +26,8 @@ returns : tie.Need-returns
 unfolding must
 returns c =
     let a = c .before .before .before .before .args in
-    let over : 2 ^ 64 - 1 < c .before .before .u64-at .result + c .before .u32-at .result = omega arith in
-    rw (entry-listed (a .function) (a .place) (a .constants) (c .before .before .before .before .pre .0), ← c .before .before .u64-at .ensures, ← c .before .u32-at .ensures, lt-leb _ _ over)
+    let over : 2 ^ 64 - 1 < c .before .before .owner-address .result + c .before .u32-at .result = omega arith in
+    rw (entry-listed (a .plan .old) (a .function) (a .place) (a .plan .constants) (c .before .before .before .before .pre .0), ← c .before .before .owner-address .ensures, ← c .before .u32-at .ensures, lt-leb _ _ over)
 
 add-first : tie.Need-add-first
 add-first c = search needs
@@ -52,7 +46,7 @@ unfolding chain
 returns-2 c =
     let b = c .before .before .before .before .before .before .before .before in
     rw (
-      entry-fits (b .args .function) (b .args .place) (b .args .constants) (b .pre .0) (omega (arith, c .before .before .before .before .before .before .u64-at .ok)),
+      entry-fits (b .args .plan .old) (b .args .function) (b .args .place) (b .args .plan .constants) (b .pre .0) (omega (arith, c .before .before .before .before .before .before .owner-address .ok)),
       ← c .before .before .before .locations .ensures,
       c .before .number .given .1,
     )
@@ -63,15 +57,15 @@ enum-told c = search needs
 record-size-requires : tie.Need-record-size-requires
 record-size-requires c κs = search needs
 
-add-t14 : tie.Need-add-t14
-add-t14 c = search needs
+add-t19 : tie.Need-add-t19
+add-t19 c = search needs
 
 returns-3 : tie.Need-returns-3
 unfolding chain
 returns-3 c =
     let b = c .before .before .before .before .before .before .before .before in
     rw (
-      entry-fits (b .args .function) (b .args .place) (b .args .constants) (b .pre .0) (omega (arith, c .before .before .before .before .before .before .u64-at .ok)),
+      entry-fits (b .args .plan .old) (b .args .function) (b .args .place) (b .args .plan .constants) (b .pre .0) (omega (arith, c .before .before .before .before .before .before .owner-address .ok)),
       ← c .before .before .before .locations .ensures,
       c .before .enum-told .given .1,
       c .record-size .ensures,
@@ -81,9 +75,7 @@ pub entry-spec : {M : Type 1} → statement M
 entry-spec =
     tie.close
     (tie.spec
-    mul-u64-at
-    add-u64-at
-    u64-at-requires
+    owner-address-requires
     add-u32-at
     u32-at-requires
     cast-offset
@@ -96,5 +88,5 @@ entry-spec =
     returns-2
     enum-told
     record-size-requires
-    add-t14
+    add-t19
     returns-3)

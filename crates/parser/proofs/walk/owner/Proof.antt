@@ -1,40 +1,43 @@
-use native.Mathlib.Omega.{arith}
 use Prim.Native.Nat.{_+_, _-_, _<_}
 use mathlib.Core.Path.{_≡_, refl, _∙_}
+use mathlib.Core.Bool.{false}
 use lib.ListN.{length}
 use Rattle.listing.specs.Listing.{listedFunction}
 use Rattle.parser.specs.Walk.{ahead, Turning}
 use Rattle.parser.proofs.Turns.{ahead-next, ahead-some}
+use native.Mathlib.Omega.{arith}
 use Rattle.parser.proofs.walk.owner.Statement.{statement}
 use Rattle.parser.proofs.walk.owner.Tie as tie
 
 abbrev Inv-loop : tie.InvT-loop
-Inv-loop l functions next₀ left₀ next left = Turning functions next left × (0 < length (ahead l functions next left)) × (ahead l functions next left ≡ ahead l functions next₀ left₀)
+Inv-loop l old functions next₀ left₀ next left =
+    Turning old functions next left × (0 < length (ahead l old functions next left))
+    × (ahead l old functions next left ≡ ahead l old functions next₀ left₀)
 
 abbrev μ-loop : tie.MeasureT-loop
-μ-loop l functions next₀ left₀ next left = functions - next
+μ-loop l old functions next₀ left₀ next left = functions - next
 
 loop-holds : tie.Need-loop-holds Inv-loop μ-loop
 loop-holds c = (c .before .pre .1, c .before .pre .2, refl)
 
--- where nothing is left and records are ahead, so are functions
-more : (c : tie.In-loop Inv-loop μ-loop) → c .before .loop .next < c .before .before .before .args .functions
-more c = ahead-some (c .before .before .before .args .l .now) (c .before .before .before .args .functions) (c .before .loop .next) (rw (c .loop-test .taken) at (c .before .loop .inv .1))
+-- where nothing is left and records are ahead, so are functions, and they have counts
+more : (c : tie.In-loop Inv-loop μ-loop) → (c .before .before .before .args .old ≡ false) × (c .before .loop .next < c .before .before .before .args .functions)
+more c = ahead-some (c .before .before .before .args .l .now) (c .before .before .before .args .functions) (c .before .before .before .args .old) (c .before .loop .next) (rw (c .loop-test .taken) at (c .before .loop .inv .1))
 
 mul-u64-at : tie.Need-mul-u64-at Inv-loop μ-loop
-mul-u64-at c = let h = more c in omega arith
+mul-u64-at c = let h = more c .1 in omega arith
 
 add-u64-at : tie.Need-add-u64-at Inv-loop μ-loop
-add-u64-at c = let h = more c in omega arith
+add-u64-at c = let h = more c .1 in omega arith
 
 u64-at-requires : tie.Need-u64-at-requires Inv-loop μ-loop
-u64-at-requires c κs = let h = more c in omega arith
+u64-at-requires c κs = let h = more c .1 in omega arith
 
 add-next : tie.Need-add-next Inv-loop μ-loop
-add-next c = let h = more (c .before) in omega arith
+add-next c = let h = more (c .before) .1 in omega arith
 
 loop-less : tie.Need-loop-less Inv-loop μ-loop
-loop-less c = let h = more (c .before) in omega arith
+loop-less c = let h = more (c .before) .1 in omega arith
 
 loop-again : tie.Need-loop-again Inv-loop μ-loop
 unfolding listedFunction
@@ -43,9 +46,9 @@ loop-again c =
     let p = c .before .before .loop in
     let some = rw (c .before .loop-test .taken) at (p .inv .1) in
     let h = more (c .before) in
-    let r : ahead (a .l .now) (a .functions) (p .next + 1) (c .u64-at .result) ≡ ahead (a .l .now) (a .functions) (p .next) 0 =
-    rw (ahead-next (a .l .now) (a .functions) (p .next) h, c .u64-at .ensures) in (
-      record { most = omega arith; begun = λ _. omega arith },
+    let r : ahead (a .l .now) (a .old) (a .functions) (p .next + 1) (c .u64-at .result) ≡ ahead (a .l .now) (a .old) (a .functions) (p .next) 0 =
+    rw (h .0, ahead-next (a .l .now) (a .functions) (p .next) (h .1), c .u64-at .ensures) in (
+      record { most = λ _. let m = h .1 in omega arith; begun = λ _. omega arith },
       rw r some,
       r ∙ rw (c .before .loop-test .taken) at (p .inv .2),
     )

@@ -1,30 +1,33 @@
-use borrow.Author.Needs.{needs}
-use native.Mathlib.Omega.{arith}
 use mathlib.Core.Path.{sym, _∙_}
 use Rattle.stackmap.specs.Verdict.{chain}
 use Rattle.parser.proofs.Walking.{Walking, walk-start, record-inside, walk-room, walk-here, walk-on, walk-end}
+use borrow.Author.Needs.{needs}
+use native.Mathlib.Omega.{arith}
 use Rattle.parser.proofs.walk.records.Statement.{statement}
 use Rattle.parser.proofs.walk.records.Tie as tie
 
 abbrev Inv-loop : tie.InvT-loop
-Inv-loop l from place end functions constants turn₀ at₀ to₀ remaining₀ turn at to remaining = Walking l functions constants from place end (turn .next) (turn .left) remaining at to
+Inv-loop l plan from place end turn₀ at₀ to₀ remaining₀ turn at to remaining = Walking l (plan .old) (plan .functions) (plan .constants) from (plan .records) place end (turn .next) (turn .left) remaining at to
 
 abbrev μ-loop : tie.MeasureT-loop
-μ-loop l from place end functions constants turn₀ at₀ to₀ remaining₀ turn at to remaining = remaining
+μ-loop l plan from place end turn₀ at₀ to₀ remaining₀ turn at to remaining = remaining
+
+start-requires : tie.Need-start-requires Inv-loop μ-loop
+start-requires c κs = search needs
 
 loop-holds : tie.Need-loop-holds Inv-loop μ-loop
-loop-holds c = walk-start (c .before .pre .0)
+loop-holds c = walk-start (c .before .before .pre .0) (c .start .ensures)
 
 owner-requires : tie.Need-owner-requires Inv-loop μ-loop
 owner-requires c κs =
     let w = c .before .loop .inv in
     let o = w .owned in
-    (c .before .before .before .pre .0 .functions-inside, w .turning, omega arith)
+    (c .before .before .before .before .pre .0 .functions-inside, w .turning, omega arith)
 
 record-shape-requires : tie.Need-record-shape-requires Inv-loop μ-loop
 record-shape-requires c κs =
     let z = c .before .before .loop .inv .listed in
-    record-inside (c .before .before .before .before .args .l .now) (c .before .before .loop .at) (omega arith)
+    record-inside (c .before .before .before .before .before .args .l .now) (c .before .before .loop .at) (omega arith)
 
 sub-entry : tie.Need-sub-entry Inv-loop μ-loop
 sub-entry c = let o = c .before .owner .ensures .2 in omega arith
@@ -32,10 +35,12 @@ sub-entry c = let o = c .before .owner .ensures .2 in omega arith
 entry-requires : tie.Need-entry-requires Inv-loop μ-loop
 entry-requires c κs =
     let o = c .before .owner .ensures in
-    let f = c .before .before .before .before .before .pre .0 .functions-inside in
-    let s = c .before .before .before .before .before .pre .0 .small in
-    let r = walk-room (c .before .before .before .loop .inv) (c .before .before .loop-test .taken) (c .record-shape .ensures) in
-    (c .record-shape .ensures, omega arith, c .before .before .before .before .before .pre .1, omega arith)
+    let n = o .2 in
+    let m = o .3 in
+    let f = c .before .before .before .before .before .before .pre .0 .functions-inside in
+    let s = c .before .before .before .before .before .before .pre .0 .small in
+    let r = walk-room (c .before .before .before .loop .inv) (omega arith) (c .record-shape .ensures) in
+    (c .record-shape .ensures, λ e. let k = m e in omega arith, c .before .before .before .before .before .before .pre .1, omega arith)
 
 enum-known-number : tie.Need-enum-known-number Inv-loop μ-loop
 enum-known-number c = search needs
@@ -45,7 +50,7 @@ unfolding chain
 returns c =
     let o = c .before .before .before .before .before .owner in
     rw (
-      walk-here (c .before .before .before .before .before .before .before .loop .inv) (c .before .before .before .before .before .before .loop-test .taken) (c .before .before .before .before .record-shape .ensures) (o .result .next) (o .result .left) (o .ensures .0) (o .ensures .1),
+      walk-here (c .before .before .before .before .before .before .before .loop .inv) (omega arith) (c .before .before .before .before .record-shape .ensures) (o .result .next) (o .result .left) (o .ensures .0) (o .ensures .1),
       ← c .before .before .before .entry .ensures,
       c .before .number .given .1,
     )
@@ -53,8 +58,8 @@ returns c =
 enum-known-stop : tie.Need-enum-known-stop Inv-loop μ-loop
 enum-known-stop c = search needs
 
-sub-t22 : tie.Need-sub-t22 Inv-loop μ-loop
-sub-t22 c = let o = c .before .before .before .before .before .owner .ensures .1 in omega arith
+sub-t20 : tie.Need-sub-t20 Inv-loop μ-loop
+sub-t20 c = let o = c .before .before .before .before .before .owner .ensures .1 in omega arith
 
 sub-remaining : tie.Need-sub-remaining Inv-loop μ-loop
 sub-remaining c = search needs
@@ -65,7 +70,7 @@ loop-less c = search needs
 loop-again : tie.Need-loop-again Inv-loop μ-loop
 loop-again c =
     let o = c .before .before .before .before .before .owner in
-    walk-on (c .before .before .before .before .before .before .before .loop .inv) (c .before .before .before .before .before .before .loop-test .taken) (c .before .before .before .before .record-shape .ensures) (o .result .next) (o .result .left) (o .ensures .0) (o .ensures .1)
+    walk-on (c .before .before .before .before .before .before .before .loop .inv) (omega arith) (c .before .before .before .before .record-shape .ensures) (o .result .next) (o .result .left) (o .ensures .0) (o .ensures .1)
     (o .ensures .2) (o .ensures .3) (sym (c .before .before .before .entry .ensures) ∙ c .before .stop .given .1)
 
 returns-2 : tie.Need-returns-2 Inv-loop μ-loop
@@ -77,6 +82,7 @@ records-spec =
     (tie.spec
     Inv-loop
     μ-loop
+    start-requires
     loop-holds
     owner-requires
     record-shape-requires
@@ -85,7 +91,7 @@ records-spec =
     enum-known-number
     returns
     enum-known-stop
-    sub-t22
+    sub-t20
     sub-remaining
     loop-less
     loop-again
