@@ -1,7 +1,7 @@
 //! Sections, frames and random numbers that the tests share.
 
 use crate::relocate::{relocate, Frame};
-use crate::section::{encode, Function, LiveOut, Location, RecordData};
+use crate::section::{encode, write, Function, LiveOut, Location, RecordData, Version};
 use crate::Refusal;
 
 /// The bytes that a text of two-digit hexadecimal numbers names.
@@ -51,6 +51,30 @@ pub(crate) fn row_h_listing() -> Vec<u8> {
          04 03 08 00 07 00 10 00 00 00
          06",
     )
+}
+
+/// Row H as version 1 has it, 112 bytes. The record is at 32, its locations at
+/// 48, 56, 64, 72, 80, 88 and 96, NumLiveOuts at 106 and the last padding at
+/// 108.
+pub(crate) fn row_h_1() -> Vec<u8> {
+    hex("01 00 00 00  01 00 00 00  00 00 00 00  01 00 00 00
+         00 10 00 00 00 00 00 00  18 00 00 00 00 00 00 00
+         07 00 00 00 00 00 00 00  20 00 00 00  00 00  07 00
+         04 08 00 00 00 00 00 00
+         04 08 00 00 00 00 00 00
+         04 08 00 00 00 00 00 00
+         03 08 07 00 08 00 00 00
+         03 08 07 00 08 00 00 00
+         03 08 07 00 08 00 00 00
+         03 08 07 00 10 00 00 00
+         00 00  00 00
+         00 00 00 00")
+}
+
+/// The listing of row H as version 1 has it, 111 bytes: item 7 before all
+/// others, and a record count of 0.
+pub(crate) fn row_h_1_listing() -> Vec<u8> {
+    [hex("07 01"), with(row_h_listing(), 17, 0)].concat()
 }
 
 /// The same bytes with one of them set.
@@ -150,10 +174,19 @@ impl Move {
                 address: 0x1020,
                 rbp: 0,
                 rsp: 0x7000,
+                function: 0,
             },
         };
         row.set(8, 0x50000);
         row.set(16, 0x54E20);
+        row
+    }
+
+    /// Row I on row H as version 1 has it: its offset in place of the address.
+    pub(crate) fn row_i_1() -> Move {
+        let mut row = Move::row_i();
+        row.section = row_h_1();
+        row.frame.address = 0x20;
         row
     }
 
@@ -210,8 +243,10 @@ impl Random {
         self.next() % limit
     }
 
-    /// An accepted section with a few functions, constants and records.
+    /// An accepted section with a few functions, constants and records, of
+    /// either version.
     pub(crate) fn section(&mut self) -> Vec<u8> {
+        let version = [Version::One, Version::Three][self.below(2) as usize];
         let constants: Vec<u64> = (0..self.below(4)).map(|_| self.next()).collect();
         let (mut functions, mut records) = (vec![], vec![]);
         for _ in 0..self.below(4) {
@@ -227,7 +262,7 @@ impl Random {
                 records.push(record(self.below(64) as u32, locations, live_outs));
             }
         }
-        encode(&functions, &constants, &records)
+        write(version, &functions, &constants, &records)
     }
 
     fn live_out(&mut self) -> LiveOut {

@@ -1,9 +1,10 @@
 //! A second implementation of the stack map library, written from the papers
 //! alone and compared with the proved one.
 //!
-//! It reads sections in the version 3 stack map layout, answers questions on
-//! them, turns them into listings and back, relocates the pointers of one
-//! stopped frame or of a whole thread, and holds what the small program writes.
+//! It reads sections in the stack map layouts of versions 1 and 3, answers
+//! questions on them, turns them into listings and back, relocates the pointers
+//! of one stopped frame or of a whole thread, and holds what the small program
+//! writes.
 //!
 //! Every function answers every input: with a result, or with a [`Refusal`]
 //! that has a fixed number and place. A refused call changes no byte of what
@@ -25,16 +26,17 @@ mod fixtures;
 
 pub use listing::{to_listing, to_section};
 pub use program::run;
-pub use questions::{by_address, live_out, location, record, Found, LocationAnswer};
+pub use questions::{by_address, by_function, live_out, location, record, Found, LocationAnswer};
 pub use relocate::{extent, relocate, Frame};
-pub use section::{check, encode, read, Function, LiveOut, Location, Record, RecordData, Section};
+pub use section::{check, encode, encode_version_1, read};
+pub use section::{Function, LiveOut, Location, Record, RecordData, Section, Version};
 pub use thread::thread;
 
 /// Why a call was refused: the number of the line in the refusal table, and
 /// the place that line names.
 #[derive(Clone, Copy, Debug, PartialEq, Eq)]
 pub struct Refusal {
-    /// The refusal's number, 1 to 26.
+    /// The refusal's number, 1 to 28.
     pub number: u64,
     /// The refusal's place: a byte, a pair, a frame's position in a list, or 0
     /// where its line has none.

@@ -2,14 +2,18 @@
 //!
 //! A listing is a row of items: one byte of kind, then a body whose length the
 //! kind fixes. Functions come first, then constants, then each record with its
-//! locations and then its live-outs, then one end and nothing after it.
+//! locations and then its live-outs, then one end and nothing after it. The
+//! listing of a version 1 section has one item before all others, of kind 7
+//! with body byte 1.
 
 mod grammar;
 
 #[cfg(test)]
 mod tests;
+#[cfg(test)]
+mod tests_version_1;
 
-use crate::section::{check, encode, read, Section};
+use crate::section::{check, read, write, Section, Version};
 use crate::Refusal;
 use grammar::{parse, Parsed};
 
@@ -31,7 +35,8 @@ pub fn to_listing(section: &[u8], out: &mut [u8]) -> Result<usize, Refusal> {
 /// Writes the section of a listing to the start of `out`, and gives its length.
 ///
 /// Refused are a listing that is too long (1), breaks its grammar (22) or has
-/// too many locations or live-outs in a record (23), one whose section would
+/// too many locations or live-outs in a record (23), a version 1 listing with a
+/// record count other than 0 or a size over 255 (28), one whose section would
 /// be refused, by that refusal at its place in the section, and an output
 /// shorter than the section (24). Output beyond the section, and all of it on
 /// a refusal, keeps its bytes.
@@ -43,7 +48,15 @@ pub fn to_section(listing: &[u8], out: &mut [u8]) -> Result<usize, Refusal> {
     if let Some(place) = first_overfull(&parsed) {
         return Err(Refusal::at(23, place));
     }
-    let section = encode(&parsed.functions, &parsed.constants, &parsed.records);
+    if let (Version::One, Some(place)) = (parsed.version, parsed.first_beyond_1) {
+        return Err(Refusal::at(28, place));
+    }
+    let section = write(
+        parsed.version,
+        &parsed.functions,
+        &parsed.constants,
+        &parsed.records,
+    );
     check(&section)?;
     deliver(&section, out)
 }
@@ -66,7 +79,10 @@ fn deliver(result: &[u8], out: &mut [u8]) -> Result<usize, Refusal> {
 
 /// The listing of an accepted section.
 pub(crate) fn listing_of(section: &Section) -> Vec<u8> {
-    let mut listing = Vec::new();
+    let mut listing = match section.version {
+        Version::One => vec![7, 1],
+        Version::Three => vec![],
+    };
     for function in &section.functions {
         listing.push(1);
         listing.extend(function.address.to_le_bytes());

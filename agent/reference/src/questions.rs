@@ -2,22 +2,28 @@
 //!
 //! Each first gives the section's own refusal, if any. A record that isn't
 //! there (10) is refused before a location or live-out that isn't (11), both
-//! at place 0.
+//! at place 0. Version 1 doesn't say which function owns a record, so that its
+//! records have no address: they are asked for by function number and offset,
+//! those of version 3 by address, and either question on the other version is
+//! refused by 27.
 
-use crate::section::{read, LiveOut, Location, Record, Section};
+use crate::section::{read, LiveOut, Location, Record, Section, Version};
 use crate::Refusal;
 
 #[cfg(test)]
 mod tests;
+#[cfg(test)]
+mod tests_version_1;
 
-/// The answer to the question by address.
+/// The answer to the question by address, or by function number and offset.
 #[derive(Clone, Copy, Debug, PartialEq, Eq)]
 pub struct Found {
-    /// The number of the first record with the address, in section order.
+    /// The number of the first record with the address or offset, in section
+    /// order.
     pub record: u64,
-    /// The number of that record's function.
+    /// The number of that record's function, or the one that was asked for.
     pub function: u64,
-    /// How many records have the address, the first one included.
+    /// How many records have the address or offset, the first one included.
     pub sharing: u64,
 }
 
@@ -39,17 +45,42 @@ pub struct LocationAnswer {
 /// The first record with an address, its function, and how many share it.
 pub fn by_address(section: &[u8], address: u64) -> Result<Found, Refusal> {
     let section = read(section)?;
-    let mut sharing = section
-        .records
-        .iter()
-        .enumerate()
-        .filter(|(_, record)| record.address == address);
-    let (number, first) = sharing.next().ok_or(Refusal::at(10, 0))?;
+    if section.version != Version::Three {
+        return Err(Refusal::at(27, 0));
+    }
+    let (number, first, sharing) = find(&section, |record| record.address == address)?;
     Ok(Found {
-        record: number as u64,
+        record: number,
         function: first.function as u64,
-        sharing: 1 + sharing.count() as u64,
+        sharing,
     })
+}
+
+/// The first record of a version 1 section with an offset, and how many have
+/// it. The function has to be there; whose the records are isn't known.
+pub fn by_function(section: &[u8], function: u64, offset: u64) -> Result<Found, Refusal> {
+    let section = read(section)?;
+    if section.version != Version::One {
+        return Err(Refusal::at(27, 0));
+    }
+    if function >= section.functions.len() as u64 {
+        return Err(Refusal::at(10, 0));
+    }
+    let (record, _, sharing) = find(&section, |record| u64::from(record.offset) == offset)?;
+    Ok(Found {
+        record,
+        function,
+        sharing,
+    })
+}
+
+/// The first record that is so, its number, and how many are; refusal 10 if
+/// none is.
+fn find(section: &Section, is: impl Fn(&Record) -> bool) -> Result<(u64, &Record, u64), Refusal> {
+    let records = section.records.iter().enumerate();
+    let mut found = records.filter(|(_, record)| is(record));
+    let (number, first) = found.next().ok_or(Refusal::at(10, 0))?;
+    Ok((number as u64, first, 1 + found.count() as u64))
 }
 
 /// The bytes of a record, a part of the lent section.

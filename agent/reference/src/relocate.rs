@@ -5,6 +5,10 @@
 //! Each derived slot is set to its old content plus the new start of its old
 //! base minus that old base, modulo 2^64, all read before any is written. No
 //! other byte is touched, and a refused call touches none.
+//!
+//! In version 1 no record is known to be a function's own. A frame then says
+//! its function too, and its offset in place of the address; it stands at the
+//! record with that offset, and its stack size is that function's.
 
 mod pairs;
 
@@ -14,8 +18,10 @@ mod tests;
 mod tests_pairs;
 #[cfg(test)]
 mod tests_readings;
+#[cfg(test)]
+mod tests_version_1;
 
-use crate::section::{read, Location, Record, Section};
+use crate::section::{read, Function, Location, Record, Section, Version};
 use crate::Refusal;
 use pairs::{collision, locate, new_contents, MAX_PAIRS};
 use std::ops::Range;
@@ -32,12 +38,14 @@ const UNKNOWN: u64 = u64::MAX;
 /// A stopped frame: where it stands and what its two registers hold.
 #[derive(Clone, Copy, Debug, PartialEq, Eq)]
 pub struct Frame {
-    /// The address that its record has.
+    /// The address that its record has; in version 1 the offset.
     pub address: u64,
     /// The content of RBP (DWARF 6).
     pub rbp: u64,
     /// The content of RSP (DWARF 7).
     pub rsp: u64,
+    /// The number of its function. Only version 1 reads it.
+    pub function: u64,
 }
 
 /// Relocates one frame, and gives its number of pairs, null ones included.
@@ -96,9 +104,9 @@ pub(crate) fn judge(
     new_starts: &[u64],
     frame: Frame,
 ) -> Result<Plan, Refusal> {
-    let record = only_record(section, frame.address)?;
+    let (record, function) = standing(section, frame)?;
     let entries = statepoint_pairs(record).ok_or(Refusal::at(12, 0))?;
-    let stretch = frame_stretch(section, image, first, record, frame).ok_or(Refusal::at(16, 0))?;
+    let stretch = frame_stretch(image, first, function, frame).ok_or(Refusal::at(16, 0))?;
     if entries.len() > MAX_PAIRS {
         return Err(Refusal::at(17, 0));
     }
@@ -115,12 +123,12 @@ pub(crate) fn judge(
 }
 
 /// A frame's extent: its first byte and the byte after its last, as whole
-/// numbers. A frame of a refused section, without exactly one record, or with
-/// stack size unknown has none.
+/// numbers. A frame of a refused section, without exactly one record, with
+/// stack size unknown, or in version 1 of a function that isn't there has none.
 pub fn extent(section: &[u8], frame: Frame) -> Option<(u128, u128)> {
     let section = read(section).ok()?;
-    let record = only_record(&section, frame.address).ok()?;
-    record_extent(&section, record, frame)
+    let (_, function) = standing(&section, frame).ok()?;
+    function_extent(function, frame)
 }
 
 /// Refusal 13.
@@ -142,14 +150,35 @@ pub(crate) fn check_table(old_starts: &[u64], new_starts: &[u64]) -> Result<(), 
     Ok(())
 }
 
-/// The one record with an address, or refusal 10 or 15.
-fn only_record(section: &Section, address: u64) -> Result<&Record, Refusal> {
-    let mut sharing = section
-        .records
-        .iter()
-        .filter(|record| record.address == address);
-    let record = sharing.next().ok_or(Refusal::at(10, 0))?;
-    if sharing.next().is_some() {
+/// The one record that a frame stands at and the frame's function, or refusal
+/// 10 or 15. In version 1 a function that isn't there is 10, whatever records
+/// there are.
+fn standing(section: &Section, frame: Frame) -> Result<(&Record, &Function), Refusal> {
+    let none = Refusal::at(10, 0);
+    match section.version {
+        Version::One => {
+            let function = entry(&section.functions, frame.function).ok_or(none)?;
+            let record = only_record(section, |record| u64::from(record.offset) == frame.address)?;
+            Ok((record, function))
+        }
+        Version::Three => {
+            let record = only_record(section, |record| record.address == frame.address)?;
+            let function = section.functions.get(record.function).ok_or(none)?;
+            Ok((record, function))
+        }
+    }
+}
+
+/// The entry of a number, whatever the number.
+fn entry<T>(entries: &[T], number: u64) -> Option<&T> {
+    entries.get(usize::try_from(number).ok()?)
+}
+
+/// The one record that is so, or refusal 10 or 15.
+fn only_record(section: &Section, is: impl Fn(&Record) -> bool) -> Result<&Record, Refusal> {
+    let mut found = section.records.iter().filter(|record| is(record));
+    let record = found.next().ok_or(Refusal::at(10, 0))?;
+    if found.next().is_some() {
         return Err(Refusal::at(15, 0));
     }
     Ok(record)
@@ -166,9 +195,9 @@ fn statepoint_pairs(record: &Record) -> Option<&[[Location; 2]]> {
     odd.is_empty().then_some(pairs)
 }
 
-/// The extent of a frame that stands at a record, unless its size is unknown.
-fn record_extent(section: &Section, record: &Record, frame: Frame) -> Option<(u128, u128)> {
-    let size = section.functions.get(record.function)?.stack_size;
+/// The extent of a frame of a function, unless its size is unknown.
+fn function_extent(function: &Function, frame: Frame) -> Option<(u128, u128)> {
+    let size = function.stack_size;
     let start = u128::from(frame.rsp);
     (size != UNKNOWN).then_some((start, start + u128::from(size)))
 }
@@ -176,13 +205,12 @@ fn record_extent(section: &Section, record: &Record, frame: Frame) -> Option<(u1
 /// The frame's own stretch of the image; none if its extent is unknown or
 /// isn't inside the image.
 fn frame_stretch(
-    section: &Section,
     image: &[u8],
     first: u64,
-    record: &Record,
+    function: &Function,
     frame: Frame,
 ) -> Option<Range<usize>> {
-    let (start, end) = record_extent(section, record, frame)?;
+    let (start, end) = function_extent(function, frame)?;
     let from = usize::try_from(start.checked_sub(u128::from(first))?).ok()?;
     let to = usize::try_from(end.checked_sub(u128::from(first))?).ok()?;
     (to <= image.len()).then_some(from..to)

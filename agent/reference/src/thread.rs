@@ -6,6 +6,8 @@
 
 #[cfg(test)]
 mod tests;
+#[cfg(test)]
+mod tests_version_1;
 
 use crate::relocate::{check_image, check_table, judge, Frame, Plan};
 use crate::section::read;
@@ -17,10 +19,12 @@ pub const MAX_FRAMES: usize = 4_096;
 /// Relocates the frames of a list, and gives the sum of their pairs, null ones
 /// included.
 ///
-/// The list has three numbers a frame: address, RBP, RSP. The rest is as for
-/// [`relocate`](crate::relocate()). The order of refusals: 1 to 9, 13, 14, 25,
-/// the first refused frame's own number at its position, 26 at the first frame
-/// whose extent shares a byte with an earlier one's.
+/// The list has four numbers a frame: address, RBP, RSP and function number. In
+/// version 1 the offset stands in place of the address; version 3 doesn't read
+/// the function number. The rest is as for [`relocate`](crate::relocate()). The
+/// order of refusals: 1 to 9, 13, 14, 25, the first refused frame's own number
+/// at its position, 26 at the first frame whose extent shares a byte with an
+/// earlier one's.
 pub fn thread(
     section: &[u8],
     image: &mut [u8],
@@ -32,13 +36,18 @@ pub fn thread(
     let section = read(section)?;
     check_image(image, first)?;
     check_table(old_starts, new_starts)?;
-    let (frames, rest) = list.as_chunks::<3>();
+    let (frames, rest) = list.as_chunks::<4>();
     if !rest.is_empty() || frames.len() > MAX_FRAMES {
         return Err(Refusal::at(25, 0));
     }
     let mut plans = Vec::new();
-    for (position, &[address, rbp, rsp]) in frames.iter().enumerate() {
-        let frame = Frame { address, rbp, rsp };
+    for (position, &[address, rbp, rsp, function]) in frames.iter().enumerate() {
+        let frame = Frame {
+            address,
+            rbp,
+            rsp,
+            function,
+        };
         let plan = judge(&section, image, first, old_starts, new_starts, frame);
         plans.push(plan.map_err(|refusal| Refusal::at(refusal.number, position))?);
     }

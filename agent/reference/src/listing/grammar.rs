@@ -1,20 +1,25 @@
 //! The listing's grammar: which item may follow which.
 
 use crate::bytes::{i32_at, u16_at, u32_at, u64_at};
-use crate::section::{Function, LiveOut, Location, RecordData};
+use crate::section::{Function, LiveOut, Location, RecordData, Version};
 
 /// A listing that keeps its grammar, as plain data.
 #[derive(Default)]
 pub(super) struct Parsed {
+    pub(super) version: Version,
     pub(super) functions: Vec<Function>,
     pub(super) constants: Vec<u64>,
     pub(super) records: Vec<RecordData>,
     /// The first byte of each record's item.
     pub(super) record_places: Vec<usize>,
+    /// The first byte of the first item that says what a version 1 section has
+    /// no room for: a record count other than 0, or a size over 255.
+    pub(super) first_beyond_1: Option<usize>,
 }
 
 /// One item, taken from the front of a listing.
 enum Item {
+    Version(u8),
     Function(Function),
     Constant(u64),
     Record { id: u64, offset: u32 },
@@ -24,8 +29,9 @@ enum Item {
 }
 
 /// Reads a listing, or gives the place of the first item that breaks the
-/// grammar: an item of unknown kind, out of order or cut, anything after the
-/// end, or the listing's length where the end is missing.
+/// grammar: an item of unknown kind, out of order or cut, an item 7 other than
+/// that of version 1, anything after the end, or the listing's length where the
+/// end is missing.
 pub(super) fn parse(listing: &[u8]) -> Result<Parsed, usize> {
     let mut parsed = Parsed::default();
     let mut rest = listing;
@@ -49,7 +55,11 @@ impl Parsed {
     /// Adds an item other than the end, if it may stand after those before it.
     fn add(&mut self, item: Item, place: usize) -> Option<()> {
         match item {
+            Item::Version(number) => {
+                (place == 0 && number == 1).then(|| self.version = Version::One)
+            }
             Item::Function(function) => {
+                self.note_beyond_1(function.record_count != 0, place);
                 let first = self.constants.is_empty() && self.records.is_empty();
                 first.then(|| self.functions.push(function))
             }
@@ -69,6 +79,7 @@ impl Parsed {
                 Some(())
             }
             Item::Location(location) => {
+                self.note_beyond_1(location.size > 255, place);
                 let record = self.records.last_mut()?;
                 record
                     .live_outs
@@ -80,6 +91,13 @@ impl Parsed {
                 Some(())
             }
             Item::End => None,
+        }
+    }
+
+    /// Notes the place of an item that is so, if it is the first.
+    fn note_beyond_1(&mut self, is_beyond: bool, place: usize) {
+        if is_beyond {
+            self.first_beyond_1.get_or_insert(place);
         }
     }
 }
@@ -96,6 +114,7 @@ fn take(rest: &[u8]) -> Option<(Item, &[u8])> {
         4 => body(rest, location),
         5 => body(rest, live_out),
         6 => Some((Item::End, rest)),
+        7 => body(rest, |[number]: &[u8; 1]| Item::Version(*number)),
         _ => None,
     }
 }

@@ -4,17 +4,17 @@
 use super::*;
 use crate::fixtures::*;
 
-const FUNCTION: &str =
+pub(super) const FUNCTION: &str =
     "01 00 10 00 00 00 00 00 00 18 00 00 00 00 00 00 00 01 00 00 00 00 00 00 00 ";
-const CONSTANT: &str = "02 05 00 00 00 00 00 00 00 ";
-const RECORD: &str = "03 07 00 00 00 00 00 00 00 20 00 00 00 ";
-const LOCATION: &str = "04 01 08 00 03 00 00 00 00 00 ";
-const LIVE_OUT: &str = "05 03 00 08 ";
-const END: &str = "06 ";
+pub(super) const CONSTANT: &str = "02 05 00 00 00 00 00 00 00 ";
+pub(super) const RECORD: &str = "03 07 00 00 00 00 00 00 00 20 00 00 00 ";
+pub(super) const LOCATION: &str = "04 01 08 00 03 00 00 00 00 00 ";
+pub(super) const LIVE_OUT: &str = "05 03 00 08 ";
+pub(super) const END: &str = "06 ";
 
 /// Converts to a section; output beyond the length, and all of it on a
 /// refusal, must be unchanged.
-fn section_in(listing: &[u8], room: usize) -> Result<Vec<u8>, Refusal> {
+pub(super) fn section_in(listing: &[u8], room: usize) -> Result<Vec<u8>, Refusal> {
     let mut out = vec![0xA5; room];
     let answer = to_section(listing, &mut out);
     let length = answer.unwrap_or(0);
@@ -22,7 +22,7 @@ fn section_in(listing: &[u8], room: usize) -> Result<Vec<u8>, Refusal> {
     answer.map(|length| out[..length].to_vec())
 }
 
-fn listing_in(section: &[u8], room: usize) -> Result<Vec<u8>, Refusal> {
+pub(super) fn listing_in(section: &[u8], room: usize) -> Result<Vec<u8>, Refusal> {
     let mut out = vec![0xA5; room];
     let answer = to_listing(section, &mut out);
     let length = answer.unwrap_or(0);
@@ -31,7 +31,7 @@ fn listing_in(section: &[u8], room: usize) -> Result<Vec<u8>, Refusal> {
 }
 
 /// The place of 22 for a listing written as items.
-fn grammar_place(items: &[&str]) -> u64 {
+pub(super) fn grammar_place(items: &[&str]) -> u64 {
     match section_in(&hex(&items.concat()), 1_000) {
         Err(Refusal { number: 22, place }) => place,
         other => panic!("{other:?}"),
@@ -99,7 +99,7 @@ fn refusal_1_is_for_a_listing_over_33554432_bytes() {
 #[test]
 fn an_unknown_kind_is_22_at_its_item() {
     assert_eq!(grammar_place(&["00 ", END]), 0);
-    assert_eq!(grammar_place(&[FUNCTION, "07 ", END]), 25);
+    assert_eq!(grammar_place(&[FUNCTION, "08 ", END]), 25);
     assert_eq!(grammar_place(&[CONSTANT, "FF ", END]), 9);
 }
 
@@ -235,7 +235,7 @@ fn a_section_over_16777216_bytes_is_1_at_0() {
 
 #[test]
 fn the_longest_listing_of_an_accepted_section_converts_back() {
-    let section = encode(&[], &vec![0x0203_0405; 2_097_150], &[]);
+    let section = crate::encode(&[], &vec![0x0203_0405; 2_097_150], &[]);
     assert_eq!(section.len(), 16_777_216);
     let listing = listing_in(&section, 18_874_351).unwrap();
     assert_eq!(listing.len(), 9 * 2_097_150 + 1);
@@ -245,7 +245,7 @@ fn the_longest_listing_of_an_accepted_section_converts_back() {
 #[test]
 fn random_sections_and_damaged_listings_convert_both_ways() {
     let mut random = Random(3);
-    for _ in 0..5_000 {
+    for _ in 0..10_000 {
         let section = random.section();
         let mut listing = listing_in(&section, 10_000).unwrap();
         assert_eq!(section_in(&listing, 10_000), Ok(section));

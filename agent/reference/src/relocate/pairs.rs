@@ -5,7 +5,7 @@
 
 use super::Frame;
 use crate::questions::constant;
-use crate::section::{Location, Section};
+use crate::section::{Location, Section, Version};
 use crate::Refusal;
 
 /// The most pairs of a statepoint, null ones included.
@@ -46,7 +46,8 @@ pub(super) fn locate(
             addresses.push(None);
         } else {
             let [base, derived] = entry;
-            let slots = slot_address(base, frame).zip(slot_address(derived, frame));
+            let address = |location| slot_address(section.version, location, frame);
+            let slots = address(base).zip(address(derived));
             addresses.push(Some(slots.ok_or(Refusal::at(18, number))?));
         }
     }
@@ -64,11 +65,16 @@ pub(super) fn locate(
 }
 
 /// The address of a slot, as a whole number that may lie outside the 64-bit
-/// addresses; none if the location doesn't have the form of a slot.
-fn slot_address(location: &Location, frame: Frame) -> Option<i128> {
-    let register = match (location.kind, location.size, location.register) {
-        (3, 8, 6) => frame.rbp,
-        (3, 8, 7) => frame.rsp,
+/// addresses; none if the location doesn't have the form of a slot. A slot's
+/// size is given as 8, and in version 1 as 0 or 8.
+fn slot_address(version: Version, location: &Location, frame: Frame) -> Option<i128> {
+    let size = match (version, location.size) {
+        (Version::One, 0) => SLOT,
+        (_, size) => usize::from(size),
+    };
+    let register = match (location.kind, size, location.register) {
+        (3, SLOT, 6) => frame.rbp,
+        (3, SLOT, 7) => frame.rsp,
         _ => return None,
     };
     Some(i128::from(register) + i128::from(location.offset))

@@ -323,6 +323,7 @@ fn every_statepoint_may_be_reordered_and_frames_moved_in_any_order() {
                 address,
                 rbp: 0,
                 rsp: 0x7000 + 24 * number as u64,
+                function: 0,
             };
             assert_eq!(row.run(), [Ok(2), Ok(2), refusal(21, 0)][number]);
         }

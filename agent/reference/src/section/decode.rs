@@ -1,13 +1,17 @@
 //! Decoding of an accepted section into plain data.
 
-use super::layout::{Parts, LIVE_OUT, LOCATION};
-use super::{check, check_tables};
-use crate::bytes::{i32_at, u16_at, u32_at, u64_at};
+use super::entries::{function, function_1, LocationEntry};
+use super::layout::{Parts, CONSTANT, LIVE_OUT, LOCATION, LOCATION_1};
+use super::{check, check_header, check_tables, check_tables_1, Version};
+use crate::bytes::{u16_at, u32_at, u64_at};
 use crate::Refusal;
+use std::iter::repeat_n;
 
 /// An accepted section.
 #[derive(Clone, Debug, PartialEq, Eq)]
 pub struct Section {
+    /// The version.
+    pub version: Version,
     /// The functions, in section order.
     pub functions: Vec<Function>,
     /// The constant pool.
@@ -23,7 +27,7 @@ pub struct Function {
     pub address: u64,
     /// The size of its stack frames; 2^64 - 1 means not known.
     pub stack_size: u64,
-    /// How many records belong to it.
+    /// How many records belong to it; 0 in version 1, which doesn't say.
     pub record_count: u64,
 }
 
@@ -42,9 +46,10 @@ pub struct Record {
     pub first: usize,
     /// The record's length in bytes, padding included.
     pub length: usize,
-    /// The number of the function that the record belongs to.
+    /// The number of the function that the record belongs to. Version 1
+    /// doesn't say, and this is then 0.
     pub function: usize,
-    /// The function's address plus the instruction offset.
+    /// The function's address plus the instruction offset; 0 in version 1.
     pub address: u64,
 }
 
@@ -53,7 +58,7 @@ pub struct Record {
 pub struct Location {
     /// 1 Register, 2 Direct, 3 Indirect, 4 Constant or 5 ConstIndex.
     pub kind: u8,
-    /// The size in bytes.
+    /// The size in bytes; in version 1 at most 255.
     pub size: u16,
     /// The register's DWARF number.
     pub register: u16,
@@ -73,65 +78,98 @@ pub struct LiveOut {
 /// Decodes a section, or gives the section's own refusal.
 pub fn read(section: &[u8]) -> Result<Section, Refusal> {
     check(section)?;
-    let tables = check_tables(section)?;
-    let functions: Vec<Function> = tables.functions.iter().map(function).collect();
-    let constants = tables
-        .constants
-        .iter()
-        .map(|entry| u64::from_le_bytes(*entry))
-        .collect();
-    let mut records = Vec::new();
-    let mut rest = tables.records;
-    for (number, owner) in functions.iter().enumerate() {
-        for _ in 0..owner.record_count {
-            let first = section.len() - rest.len();
-            let (parts, after) = Parts::split(rest).ok_or(Refusal::at(4, first))?;
-            let length = rest.len() - after.len();
-            records.push(record(&parts, first, length, number, owner.address));
-            rest = after;
+    let (version, header, rest) = check_header(section)?;
+    match version {
+        Version::One => {
+            let tables = check_tables_1(header, rest)?;
+            let nobody = repeat_n(NOBODY, tables.num_records as usize);
+            Ok(Section {
+                version,
+                functions: tables.functions.iter().map(function_1).collect(),
+                constants: constants(tables.constants),
+                records: records::<LOCATION_1>(section, tables.records, nobody)?,
+            })
+        }
+        Version::Three => {
+            let tables = check_tables(header, rest)?;
+            let functions: Vec<Function> = tables.functions.iter().map(function).collect();
+            let owners = functions.iter().enumerate().flat_map(|(number, function)| {
+                let owner = Owner {
+                    number,
+                    address: Some(function.address),
+                };
+                repeat_n(owner, function.record_count as usize)
+            });
+            Ok(Section {
+                version,
+                records: records::<LOCATION>(section, tables.records, owners)?,
+                constants: constants(tables.constants),
+                functions,
+            })
         }
     }
-    Ok(Section {
-        functions,
-        constants,
-        records,
-    })
 }
 
-fn function(entry: &[u8; 24]) -> Function {
-    Function {
-        address: u64_at(entry, 0),
-        stack_size: u64_at(entry, 8),
-        record_count: u64_at(entry, 16),
+/// The function that a record belongs to.
+#[derive(Clone, Copy)]
+struct Owner {
+    number: usize,
+    address: Option<u64>,
+}
+
+/// Stands for the owner of a record in version 1.
+const NOBODY: Owner = Owner {
+    number: 0,
+    address: None,
+};
+
+fn constants(entries: &[[u8; CONSTANT]]) -> Vec<u64> {
+    let entries = entries.iter();
+    entries.map(|entry| u64::from_le_bytes(*entry)).collect()
+}
+
+/// The records at the front of `rest`, the section's last bytes: one for each
+/// owner.
+fn records<const L: usize>(
+    section: &[u8],
+    mut rest: &[u8],
+    owners: impl Iterator<Item = Owner>,
+) -> Result<Vec<Record>, Refusal>
+where
+    [u8; L]: LocationEntry,
+{
+    let mut records = Vec::new();
+    for owner in owners {
+        let first = section.len() - rest.len();
+        let (parts, after) = Parts::<L>::split(rest).ok_or(Refusal::at(4, first))?;
+        let length = rest.len() - after.len();
+        records.push(record(&parts, first, length, owner));
+        rest = after;
     }
+    Ok(records)
 }
 
-fn record(
-    parts: &Parts<'_>,
-    first: usize,
-    length: usize,
-    function: usize,
-    function_address: u64,
-) -> Record {
+fn record<const L: usize>(parts: &Parts<'_, L>, first: usize, length: usize, owner: Owner) -> Record
+where
+    [u8; L]: LocationEntry,
+{
     let offset = u32_at(parts.head, 8);
+    let address = owner
+        .address
+        .map(|address| address.wrapping_add(u64::from(offset)));
     Record {
         id: u64_at(parts.head, 0),
         offset,
-        locations: parts.locations.iter().map(location).collect(),
+        locations: parts
+            .locations
+            .iter()
+            .map(LocationEntry::location)
+            .collect(),
         live_outs: parts.live_outs.iter().map(live_out).collect(),
         first,
         length,
-        function,
-        address: function_address.wrapping_add(u64::from(offset)),
-    }
-}
-
-fn location(entry: &[u8; LOCATION]) -> Location {
-    Location {
-        kind: entry[0],
-        size: u16_at(entry, 2),
-        register: u16_at(entry, 4),
-        offset: i32_at(entry, 8),
+        function: owner.number,
+        address: address.unwrap_or(0),
     }
 }
 

@@ -1,42 +1,50 @@
-//! Where the parts of a section lie.
+//! Where the parts of a section lie, in both versions.
 //!
-//! Only counts are read here. Nothing is said of what the parts hold.
+//! Only counts are read here. Nothing is said of what the parts hold. Two
+//! lengths tell the versions apart: a function's and a location's.
 
 use crate::bytes::{u16_at, u32_at};
 
 /// The length of the header.
 pub(super) const HEADER: usize = 16;
-/// The length of a function.
+/// The length of a function in version 3: address, stack size, record count.
 pub(super) const FUNCTION: usize = 24;
+/// The length of a function in version 1, which has no record count.
+pub(super) const FUNCTION_1: usize = 16;
 /// The length of a constant.
 pub(super) const CONSTANT: usize = 8;
 /// The length of a record before its locations.
 pub(super) const RECORD_HEAD: usize = 16;
-/// The length of a location.
+/// The length of a location in version 3.
 pub(super) const LOCATION: usize = 12;
+/// The length of a location in version 1.
+pub(super) const LOCATION_1: usize = 8;
 /// The length of a live-out.
 pub(super) const LIVE_OUT: usize = 4;
 
 /// Stands where a record has no padding.
 static NO_PADDING: [u8; 4] = [0; 4];
 
-/// The functions and constants of a section, and the bytes after them.
-pub(super) struct Tables<'a> {
-    pub(super) functions: &'a [[u8; FUNCTION]],
+/// The functions, of `F` bytes each, and constants of a section, the number
+/// of records that its header states, and the bytes after the constants.
+pub(super) struct Tables<'a, const F: usize> {
+    pub(super) functions: &'a [[u8; F]],
     pub(super) constants: &'a [[u8; CONSTANT]],
+    pub(super) num_records: u32,
     pub(super) records: &'a [u8],
 }
 
-impl<'a> Tables<'a> {
+impl<'a, const F: usize> Tables<'a, F> {
     /// Finds the tables that the header counts in the bytes after it, or the
     /// first byte of the first entry that isn't wholly inside.
-    pub(super) fn of(header: &[u8; HEADER], rest: &'a [u8]) -> Result<Tables<'a>, usize> {
+    pub(super) fn of(header: &[u8; HEADER], rest: &'a [u8]) -> Result<Tables<'a, F>, usize> {
         let (functions, rest) = table(HEADER, rest, u32_at(header, 4))?;
         let constants_at = HEADER + functions.as_flattened().len();
         let (constants, records) = table(constants_at, rest, u32_at(header, 8))?;
         Ok(Tables {
             functions,
             constants,
+            num_records: u32_at(header, 12),
             records,
         })
     }
@@ -52,11 +60,12 @@ fn table<const N: usize>(at: usize, rest: &[u8], count: u32) -> Result<(&[[u8; N
     }
 }
 
-/// The parts of one record, from its ID to its last padding byte.
-pub(super) struct Parts<'a> {
+/// The parts of one record whose locations have `L` bytes each, from its ID
+/// to its last padding byte.
+pub(super) struct Parts<'a, const L: usize> {
     /// ID, instruction offset, flags and NumLocations.
     pub(super) head: &'a [u8; RECORD_HEAD],
-    pub(super) locations: &'a [[u8; LOCATION]],
+    pub(super) locations: &'a [[u8; L]],
     /// The padding after the locations; zeros where there is none.
     pub(super) location_padding: &'a [u8; 4],
     /// Two zero bytes and NumLiveOuts.
@@ -66,15 +75,15 @@ pub(super) struct Parts<'a> {
     pub(super) live_out_padding: &'a [u8; 4],
 }
 
-impl<'a> Parts<'a> {
+impl<'a, const L: usize> Parts<'a, L> {
     /// Splits the record off the front of a stretch, if it is wholly inside,
     /// and gives what follows it.
     #[inline]
-    pub(super) fn split(stretch: &'a [u8]) -> Option<(Parts<'a>, &'a [u8])> {
+    pub(super) fn split(stretch: &'a [u8]) -> Option<(Parts<'a, L>, &'a [u8])> {
         let (head, rest) = stretch.split_first_chunk()?;
         let num_locations = usize::from(u16_at(head, 14));
-        let (locations, rest) = rest.split_at_checked(LOCATION * num_locations)?;
-        let (location_padding, rest) = padding(rest, num_locations % 2 == 1)?;
+        let (locations, rest) = rest.split_at_checked(L * num_locations)?;
+        let (location_padding, rest) = padding(rest, is_padded::<L>(num_locations))?;
         let (live_out_head, rest) = rest.split_first_chunk()?;
         let num_live_outs = usize::from(u16_at(live_out_head, 2));
         let (live_outs, rest) = rest.split_at_checked(LIVE_OUT * num_live_outs)?;
@@ -93,8 +102,15 @@ impl<'a> Parts<'a> {
 
     /// Whether the locations are followed by padding.
     pub(super) fn has_location_padding(&self) -> bool {
-        self.locations.len() % 2 == 1
+        is_padded::<L>(self.locations.len())
     }
+}
+
+/// Whether so many locations of `L` bytes are followed by padding: in version
+/// 3 an odd number is, in version 1 none.
+#[inline(always)]
+fn is_padded<const L: usize>(num_locations: usize) -> bool {
+    L == LOCATION && num_locations % 2 == 1
 }
 
 /// Splits four bytes of padding off, where there is padding.

@@ -14,6 +14,7 @@ fn rows_a_and_b_are_too_short() {
 fn row_c_is_accepted_and_empty() {
     assert_eq!(check(&row_c()), Ok(()));
     let empty = Section {
+        version: Version::Three,
         functions: vec![],
         constants: vec![],
         records: vec![],
@@ -23,9 +24,11 @@ fn row_c_is_accepted_and_empty() {
 }
 
 #[test]
-fn row_d_has_a_version_other_than_3() {
-    assert_eq!(check(&with(row_c(), 0, 1)), refusal(2, 0));
-    assert_eq!(check(&with(row_c(), 0, 4)), refusal(2, 0));
+fn row_d_has_a_version_that_is_neither_1_nor_3() {
+    assert_eq!(check(&with(row_c(), 0, 2)), refusal(2, 0));
+    for version in (0..=255).filter(|version| ![1, 3].contains(version)) {
+        assert_eq!(check(&with(row_c(), 0, version)), refusal(2, 0));
+    }
 }
 
 #[test]
@@ -276,17 +279,38 @@ fn a_section_that_is_read_encodes_to_the_same_bytes() {
         let bytes = random.section();
         let section = read(&bytes).unwrap();
         let records: Vec<RecordData> = section.records.iter().map(RecordData::from).collect();
-        assert_eq!(
-            encode(&section.functions, &section.constants, &records),
-            bytes
+        let written = write(
+            section.version,
+            &section.functions,
+            &section.constants,
+            &records,
         );
+        assert_eq!(written, bytes);
     }
+}
+
+/// Walks the records at the front of `rest` byte by byte, and sees that each
+/// is found clean exactly if it has no fault. Gives the first fault.
+fn walk<const L: usize>(section: &[u8], mut rest: &[u8], num_constants: usize) -> Option<Refusal>
+where
+    [u8; L]: LocationEntry,
+{
+    let num_constants = num_constants as i64;
+    let mut fault = None;
+    while let Some((parts, after)) = Parts::<L>::split(rest) {
+        let at = section.len() - rest.len();
+        let found = first_fault(&parts, at, num_constants);
+        assert_eq!(is_clean(&parts, num_constants), found.is_none());
+        fault = fault.or(found);
+        rest = after;
+    }
+    fault
 }
 
 #[test]
 fn the_whole_record_check_agrees_with_the_walk_byte_by_byte() {
     let mut random = Random(2);
-    for _ in 0..20_000 {
+    for _ in 0..40_000 {
         let mut section = random.section();
         for _ in 0..random.below(4) {
             let at = random.below(section.len() as u64) as usize;
@@ -294,20 +318,17 @@ fn the_whole_record_check_agrees_with_the_walk_byte_by_byte() {
         }
         let checked = check(&section);
         assert_eq!(read(&section).err(), checked.err());
-        let Ok(tables) = check_tables(&section) else {
+        let Ok((version, header, rest)) = check_header(&section) else {
             continue;
         };
-        let (num_constants, mut rest) = (tables.constants.len() as i64, tables.records);
-        let mut fault = None;
-        while let Some((parts, after)) = Parts::split(rest) {
-            let at = section.len() - rest.len();
-            let found = first_fault(&parts, at, num_constants);
-            assert_eq!(is_clean(&parts, num_constants), found.is_none());
-            fault = fault.or(found);
-            rest = after;
-        }
+        let fault = match version {
+            Version::One => check_tables_1(header, rest)
+                .map(|tables| walk::<LOCATION_1>(&section, tables.records, tables.constants.len())),
+            Version::Three => check_tables(header, rest)
+                .map(|tables| walk::<LOCATION>(&section, tables.records, tables.constants.len())),
+        };
         if checked.is_ok() {
-            assert_eq!(fault, None);
+            assert_eq!(fault, Ok(None));
         }
     }
 }

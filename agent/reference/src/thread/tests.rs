@@ -34,20 +34,21 @@ fn section() -> Vec<u8> {
     encode(&functions, &[], &records)
 }
 
-/// Frames of the functions, and frames that are refused.
-fn full(rsp: u64) -> [u64; 3] {
-    [0x1020, 0, rsp]
+/// Frames of the functions, and frames that are refused. The function numbers
+/// are not read.
+fn full(rsp: u64) -> [u64; 4] {
+    [0x1020, 0, rsp, 9]
 }
-fn empty(rsp: u64) -> [u64; 3] {
-    [0x2020, 0, rsp]
+fn empty(rsp: u64) -> [u64; 4] {
+    [0x2020, 0, rsp, u64::MAX]
 }
-fn word(rsp: u64) -> [u64; 3] {
-    [0x3020, 0, rsp]
+fn word(rsp: u64) -> [u64; 4] {
+    [0x3020, 0, rsp, 0]
 }
-const NOWHERE: [u64; 3] = [0x1021, 0, 0x7000];
-const TWICE: [u64; 3] = [0x1040, 0, 0x7000];
-const NO_STATEPOINT: [u64; 3] = [0x1060, 0, 0x7000];
-const UNKNOWN: [u64; 3] = [0x4020, 0, 0x7000];
+const NOWHERE: [u64; 4] = [0x1021, 0, 0x7000, 0];
+const TWICE: [u64; 4] = [0x1040, 0, 0x7000, 0];
+const NO_STATEPOINT: [u64; 4] = [0x1060, 0, 0x7000, 0];
+const UNKNOWN: [u64; 4] = [0x4020, 0, 0x7000, 0];
 
 /// Three frames of row I's kind from 0x7000 on; the third has a base of no
 /// object.
@@ -57,7 +58,7 @@ fn image() -> Vec<u8> {
 }
 
 /// The answer to a list, and the image after it.
-fn run(frames: &[[u64; 3]]) -> (Result<u64, Refusal>, Vec<u8>) {
+fn run(frames: &[[u64; 4]]) -> (Result<u64, Refusal>, Vec<u8>) {
     let mut image = image();
     let list = frames.concat();
     let answer = thread(
@@ -72,7 +73,7 @@ fn run(frames: &[[u64; 3]]) -> (Result<u64, Refusal>, Vec<u8>) {
 }
 
 /// A refused list leaves the image as it was.
-fn refused(frames: &[[u64; 3]]) -> (u64, u64) {
+fn refused(frames: &[[u64; 4]]) -> (u64, u64) {
     let (answer, after) = run(frames);
     assert_eq!(after, image());
     let refusal = answer.unwrap_err();
@@ -102,8 +103,13 @@ fn all_move_as_one_by_one_and_the_pairs_are_added() {
     for list in lists {
         let mut one_by_one = image();
         let mut sum = 0;
-        for &[address, rbp, rsp] in &list {
-            let frame = Frame { address, rbp, rsp };
+        for &[address, rbp, rsp, function] in &list {
+            let frame = Frame {
+                address,
+                rbp,
+                rsp,
+                function,
+            };
             let pairs = relocate(
                 &section(),
                 &mut one_by_one,
@@ -230,22 +236,26 @@ fn the_length_is_tested_before_any_frame() {
     for length in [
         1,
         2,
-        4,
+        3,
         5,
-        3 * MAX_FRAMES + 1,
-        3 * MAX_FRAMES + 2,
-        3 * MAX_FRAMES + 3,
+        6,
+        7,
+        4 * MAX_FRAMES - 1,
+        4 * MAX_FRAMES + 1,
+        4 * MAX_FRAMES + 2,
+        4 * MAX_FRAMES + 3,
+        4 * MAX_FRAMES + 4,
     ] {
         assert_eq!(answer(&vec![0; length]), refusal(25, 0), "{length}");
         assert_eq!(answer(&vec![u64::MAX; length]), refusal(25, 0), "{length}");
     }
-    assert_eq!(answer(&[0; 3 * MAX_FRAMES]), refusal(10, 0));
+    assert_eq!(answer(&[0; 4 * MAX_FRAMES]), refusal(10, 0));
     let most = empty(0x7010).repeat(MAX_FRAMES);
     assert_eq!(answer(&most), Ok(4_096));
     let more = empty(0x7010).repeat(MAX_FRAMES + 1);
     assert_eq!(answer(&more), refusal(25, 0));
     let mut last = most;
-    last[3 * MAX_FRAMES - 3] = 0;
+    last[4 * MAX_FRAMES - 4] = 0;
     assert_eq!(answer(&last), refusal(10, 4_095));
 }
 
