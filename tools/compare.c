@@ -1,0 +1,170 @@
+/*
+ * Times two builds of the library in one run, in turn, on the same bytes: the check, a question and the move of a frame on a large
+ * section of version 3, and, where both builds take it, of version 1. tools/compare builds it.
+ *
+ * The functions of the two builds have the prefixes `before_` and `after_`. OLD_FRAME says that the first build's frame has no function
+ * number yet, and that it refuses version 1.
+ */
+#include <stdint.h>
+#include <stdio.h>
+#include <stdlib.h>
+#include <string.h>
+#include <time.h>
+
+typedef struct { uint64_t number, place, value; } answer;
+typedef struct { uint64_t number, place, index, function, sharing; } found;
+typedef struct { uint64_t address, rbp, rsp, function; } frame;
+#ifdef OLD_FRAME
+typedef struct { uint64_t address, rbp, rsp; } before_frame;
+#else
+typedef frame before_frame;
+#endif
+
+#define DECLARE(prefix, frame_type)                                                                   \
+    answer prefix##treskibben_check(const uint8_t *, size_t);                                         \
+    found prefix##treskibben_find(const uint8_t *, size_t, uint64_t);                                 \
+    answer prefix##treskibben_relocate(const uint8_t *, size_t, uint8_t *, size_t, uint64_t, const uint64_t *, size_t, \
+                                       const uint64_t *, size_t, frame_type);
+DECLARE(before_, before_frame)
+DECLARE(after_, frame)
+
+enum { LIMIT = 16777216, ROUNDS_MOST = 1001, STACK = 0x7000000 };
+
+static uint8_t bytes[LIMIT];
+static uint8_t image[65536];
+static size_t length;
+static uint64_t last; /* the last record's address, or its offset in version 1 */
+static volatile uint64_t sink;
+
+static uint64_t state = 1;
+static uint64_t below(uint64_t n) {
+    state = state * 6364136223846793005u + 1442695040888963407u;
+    return (state >> 33) % n;
+}
+
+static size_t put(size_t at, uint64_t value, size_t width) {
+    for (size_t i = 0; i < width; i++) bytes[at + i] = (uint8_t)(value >> 8 * i);
+    return at + width;
+}
+
+static size_t put_location(size_t at, int old, uint8_t kind, uint16_t dwarf_register, uint32_t offset) {
+    at = put(at, kind, 1);
+    if (!old) at = put(at, 0, 1);
+    at = put(at, 8, old ? 1 : 2);
+    at = put(at, dwarf_register, 2);
+    if (!old) at = put(at, 0, 2);
+    return put(at, offset, 4);
+}
+
+/* A statepoint with up to six pairs of slots above RSP. */
+static size_t put_record(size_t at, int old, uint32_t offset) {
+    uint64_t pairs = below(7);
+    size_t count = 3 + 2 * pairs;
+    at = put(at, 7, 8);
+    at = put(at, offset, 4);
+    at = put(at, 0, 2);
+    at = put(at, count, 2);
+    for (size_t i = 0; i < count; i++)
+        at = i < 3 ? put_location(at, old, 4, 0, 0) : put_location(at, old, 3, 7, (uint32_t)(8 * below(8)));
+    if (!old && count % 2 == 1) at = put(at, 0, 4);
+    at = put(at, 0, 4);
+    return put(at, 0, 4);
+}
+
+static void build(int old) {
+    const uint64_t functions = 30000, each = old ? 7 : 4;
+    size_t stride = old ? 16 : 24, at = 16 + stride * functions;
+    uint32_t records = 0;
+    memset(bytes, 0, 16);
+    bytes[0] = old ? 1 : 3;
+    for (uint64_t i = 0; i < functions; i++) {
+        size_t f = 16 + stride * i;
+        f = put(f, 0x400000 + 0x400 * i, 8);
+        f = put(f, 64, 8);
+        if (!old) put(f, each, 8);
+        for (uint64_t k = 0; k < each; k++, records++) {
+            uint32_t offset = old ? records : (uint32_t)(8 * k);
+            last = old ? offset : 0x400000 + 0x400 * i + offset;
+            at = put_record(at, old, offset);
+        }
+    }
+    put(4, functions, 4);
+    put(12, records, 4);
+    length = at;
+}
+
+static double now(void) {
+    struct timespec t;
+    clock_gettime(CLOCK_MONOTONIC, &t);
+    return (double)t.tv_sec * 1e3 + (double)t.tv_nsec / 1e6;
+}
+
+static void check_before(void) { sink += before_treskibben_check(bytes, length).number; }
+static void check_after(void) { sink += after_treskibben_check(bytes, length).number; }
+static void find_before(void) { sink += before_treskibben_find(bytes, length, last).index; }
+static void find_after(void) { sink += after_treskibben_find(bytes, length, last).index; }
+static void move_before(void) {
+    before_frame f = {0};
+    f.address = last;
+    f.rsp = STACK;
+    sink += before_treskibben_relocate(bytes, length, image, sizeof image, STACK, NULL, 0, NULL, 0, f).number;
+}
+static void move_after(void) {
+    frame f = {last, 0, STACK, 0};
+    sink += after_treskibben_relocate(bytes, length, image, sizeof image, STACK, NULL, 0, NULL, 0, f).number;
+}
+
+static int rising(const void *a, const void *b) {
+    double x = *(const double *)a, y = *(const double *)b;
+    return x < y ? -1 : x > y;
+}
+
+static double time_of(void (*action)(void)) {
+    double start = now();
+    action();
+    return now() - start;
+}
+
+/* Medians of both, taken in turn, the first of the two by turns too. */
+static void compare(const char *name, int rounds, void (*before)(void), void (*after)(void)) {
+    static double a[ROUNDS_MOST], b[ROUNDS_MOST];
+    for (int i = 0; i < rounds; i++) {
+        if (i % 2) b[i] = time_of(after);
+        a[i] = time_of(before);
+        if (i % 2 == 0) b[i] = time_of(after);
+    }
+    qsort(a, (size_t)rounds, sizeof *a, rising);
+    qsort(b, (size_t)rounds, sizeof *b, rising);
+    printf("%-28s before %7.3f ms, after %7.3f ms, after/before %.3f (fastest: %.3f)\n", name, a[rounds / 2],
+           b[rounds / 2], b[rounds / 2] / a[rounds / 2], b[0] / a[0]);
+}
+
+int main(int argc, char **argv) {
+    int rounds = argc > 1 ? atoi(argv[1]) : 101;
+    if (rounds < 1 || rounds > ROUNDS_MOST) return 2;
+    build(0);
+    if (before_treskibben_check(bytes, length).number || after_treskibben_check(bytes, length).number) return 1;
+    printf("section of version 3, %zu bytes, %d rounds\n", length, rounds);
+    compare("check", rounds, check_before, check_after);
+    compare("question, last record", rounds, find_before, find_after);
+    compare("move of the last frame", rounds, move_before, move_after);
+    double three = time_of(check_after) / (double)length;
+    for (int i = 0; i < rounds; i++) {
+        double t = time_of(check_after) / (double)length;
+        if (t < three) three = t;
+    }
+    build(1);
+    if (after_treskibben_check(bytes, length).number) return 1;
+    printf("section of version 1, %zu bytes\n", length);
+#ifndef OLD_FRAME
+    compare("check", rounds, check_before, check_after);
+    compare("move of the last frame", rounds, move_before, move_after);
+#endif
+    double one = time_of(check_after) / (double)length;
+    for (int i = 0; i < rounds; i++) {
+        double t = time_of(check_after) / (double)length;
+        if (t < one) one = t;
+    }
+    printf("fastest check, version 1 of version 3, a byte: %.3f\n", one / three);
+    return 0;
+}
