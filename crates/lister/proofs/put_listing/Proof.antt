@@ -12,14 +12,14 @@ put-version-requires : tie.Need-put-version-requires
 put-version-requires c κs =
     let t = c .before in
     let b = t .before .before .before in
-    version-room _ (t .section-tables .ensures) (laid _ (b .pre .0)) (b .args .out .now) (b .pre .1)
+    omega (arith, version-room _ (t .section-tables .ensures) (laid _ (b .pre .0)) (b .args .out .now) (b .pre .1))
 
 put-functions-requires : tie.Need-put-functions-requires
 put-functions-requires c κs =
     let v = c .before .before .before in
     let t = v .before .before in
     let b = t .before .before .before in
-    functions-room _ (t .section-tables .ensures) (laid _ (b .pre .0)) (b .args .out .now) (b .pre .1) (v .put-version .ensures)
+    omega (arith, functions-room _ (t .section-tables .ensures) (laid _ (b .pre .0)) (b .args .out .now) (b .pre .1) (v .put-version .ensures))
 
 put-constants-requires : tie.Need-put-constants-requires
 put-constants-requires c κs =
