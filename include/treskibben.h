@@ -1,5 +1,5 @@
 /*
- * Treskibben: LLVM stack map sections, version 3.
+ * Treskibben: LLVM stack map sections, versions 3 and 1.
  *
  * The functions are those of libtreskibben.a, for x86-64 Linux. Each is proved to answer every
  * input, to read and write nothing but the bytes that it is lent, and to end. None allocates, keeps
@@ -29,8 +29,8 @@ typedef struct treskibben_answer {
 } treskibben_answer;
 
 /*
- * Checks that the `length` bytes at `section` are a whole version 3 stack map section and nothing
- * else. `value` is 0.
+ * Checks that the `length` bytes at `section` are a whole stack map section, of version 3 or 1, and
+ * nothing else. `value` is 0.
  *
  * `section` must point at `length` bytes that can be read and that nobody writes during the call.
  * It must not be NULL, not even where `length` is 0; any other pointer will do then. The bytes
@@ -38,12 +38,13 @@ typedef struct treskibben_answer {
  *
  * The answer is the first of these that holds, in the order: 1, 2, 3 in the header, 4 for
  * functions, 4 for constants, 5, then for each record 4, 8, and its bytes from left to right
- * (3, 6, and 7 at the end of its location), and 9 last. Bytes are counted from 0.
+ * (3, 6, and 7 at the end of its location), and 9 last. 5 and 8 are of version 3 alone: version 1
+ * doesn't say which function has a record. Bytes are counted from 0.
  *
  *   number  when                                                     place
  *   0       the section is accepted                                  0
  *   1       section under 16 or over 16,777,216 bytes                0
- *   2       version not 3                                            0
+ *   2       version neither 1 nor 3                                  0
  *   3       a byte required to be zero isn't                         that byte
  *   4       a function, constant or record isn't wholly inside       its first byte
  *   5       record counts, added exactly, differ from NumRecords     12
@@ -58,11 +59,15 @@ treskibben_answer treskibben_check(const uint8_t *section, size_t length);
  * Questions on a section.
  *
  * `section` and `length` are lent as to treskibben_check. Each question first gives the refusal
- * that treskibben_check gives, if the section has a fault. Then come these, 10 before 11:
+ * that treskibben_check gives, if the section has a fault. Then come these, 27 before 10 and 10 before
+ * 11:
  *
  *   number  when                                                     place
  *   0       the question is answered                                 0
- *   10      no record of that number or address                      0
+ *   27      question by address of version 1, or by function and     0
+ *           offset of version 3
+ *   10      no record of that number or address, or no such          0
+ *           function or offset
  *   11      no location or live-out of that number                   0
  *
  * All fields of a refused answer but number and place are 0. Functions, constants and records are
@@ -71,11 +76,11 @@ treskibben_answer treskibben_check(const uint8_t *section, size_t length);
  */
 
 /*
- * What the question by address answers.
+ * What the question by address answers, and the one by function and offset.
  *
- * index:    the number of the first record with the address, in section order.
- * function: the number of that record's function.
- * sharing:  how many records have the address, the first one included.
+ * index:    the number of the first record with the address or at the offset, in section order.
+ * function: the number of that record's function; of version 1, the one that was asked for.
+ * sharing:  how many records have the address or are at the offset, the first one included.
  */
 typedef struct treskibben_find_answer {
     uint64_t number;
@@ -87,9 +92,17 @@ typedef struct treskibben_find_answer {
 
 /*
  * The first record with this address: its function's address plus its instruction offset. 10
- * exactly if there is none.
+ * exactly if there is none. The question is for version 3; 27 on version 1.
  */
 treskibben_find_answer treskibben_find(const uint8_t *section, size_t length, uint64_t address);
+
+/*
+ * The first record at this instruction offset, asked for by the number of a function. 10 exactly if
+ * there is no such function or no record at the offset. The question is for version 1, which doesn't
+ * say which function has a record: every function finds the same records. 27 on version 3.
+ */
+treskibben_find_answer treskibben_find_in_function(const uint8_t *section, size_t length,
+                                                   uint64_t function, uint64_t offset);
 
 /*
  * What the question by record number answers.
@@ -113,7 +126,8 @@ treskibben_record_answer treskibben_record(const uint8_t *section, size_t length
  *
  * constant:       the 64-bit constant of kinds 4 and 5; 0 for kinds 1 to 3.
  * offset:         the signed offset, as it stands in the section for every kind.
- * size:           the value's size in bytes.
+ * size:           the value's size in bytes; of version 1 the location's second byte, which may hold
+ *                 any number.
  * dwarf_register: the register's DWARF number; constants don't use it.
  * kind:           1 Register, the value is in the register;
  *                 2 Direct, the value is register + offset;
@@ -166,10 +180,13 @@ treskibben_live_out_answer treskibben_live_out(const uint8_t *section, size_t le
  *   4     location  kind 1, size 2, register 2, offset 4
  *   5     live-out  register 2, size 1
  *   6     end       nothing
+ *   7     version   1, in one byte
  *
  * The functions come first, then the constants, then each record with its locations and then its
- * live-outs, then one end and nothing after it. Each accepted section has one listing and each
- * accepted listing one section: a conversion and the one back give the same bytes again.
+ * live-outs, then one end and nothing after it. Before all of them the listing of a version 1 section
+ * has one item 7; its record counts are 0, as the section has none, and its sizes at most 255. A
+ * listing of version 3 has no item 7. Each accepted section has one listing and each accepted listing
+ * one section: a conversion and the one back give the same bytes again.
  *
  * The input is lent as a section is to treskibben_check. `output` must point at `room` bytes that
  * can be written, that nobody else reads or writes during the call, and that share no byte with the
@@ -179,7 +196,8 @@ treskibben_live_out_answer treskibben_live_out(const uint8_t *section, size_t le
  * `value` is its length. The bytes beyond that length are left untouched. On a refusal `value` is 0
  * and all of `output` is left untouched. An output that is long enough is never refused:
  *
- *   the listing of a section of n bytes has at most (n - 16) * 9 / 8 + 1 bytes;
+ *   the listing of a section of n bytes has at most (n - 16) * 9 / 8 + 1 bytes, and of version 1 at
+ *   most (n - 16) * 25 / 16 + 3;
  *   the section of a listing of n bytes has at most (n - 1) * 24 / 13 + 16 bytes, and at most
  *   16,777,216.
  */
@@ -202,15 +220,18 @@ treskibben_answer treskibben_to_listing(const uint8_t *section, size_t length, u
  *   1       listing over 33,554,432 bytes                            0
  *   22      listing breaks its grammar                               the first item that does
  *   23      over 65,535 locations or live-outs in a record           that record item
+ *   28      version 1 listing with a record count not 0 or a size    that item
+ *           over 255
  *   1       the section would have over 16,777,216 bytes             0
  *   5 to 8  the refusal that treskibben_check would give the         the place in the section
- *           section that is to be written
+ *           section that is to be written; of version 1, 6 or 7
  *   24      output shorter than the whole section                    0
  *   0       the section is written                                   0
  *
- * The place of 22 and 23 is the item's first byte in the listing. 22 is given for an item of unknown
- * kind, for one that may not stand where it does, for one that is cut, and for anything after the
- * end; a missing end has the listing's length as its place.
+ * The place of 22, 23 and 28 is the item's first byte in the listing. 22 is given for an item of
+ * unknown kind, for one that may not stand where it does, for one that is cut, for an item 7 that isn't
+ * the first or whose body isn't 1, and for anything after the end; a missing end has the listing's
+ * length as its place.
  */
 treskibben_answer treskibben_to_section(const uint8_t *listing, size_t length, uint8_t *output,
                                         size_t room);
@@ -218,17 +239,21 @@ treskibben_answer treskibben_to_section(const uint8_t *listing, size_t length, u
 /*
  * The move of one frame.
  *
- * A frame of a stopped thread: the address that its record has, which is the one that the call in it
- * returns to, and what two registers hold.
+ * A frame of a stopped thread: where its record is, and what two registers hold.
  *
- * rbp: the content of RBP, DWARF register 6.
- * rsp: the content of RSP, DWARF register 7, where the frame's part of the stack begins; the stack
- *      size of its function says how long it is.
+ * address:  for version 3 the address that its record has, which is the one that the call in it returns
+ *           to; for version 1 the instruction offset of its record, which is that address less the
+ *           function's.
+ * rbp:      the content of RBP, DWARF register 6.
+ * rsp:      the content of RSP, DWARF register 7, where the frame's part of the stack begins; the stack
+ *           size of its function says how long it is.
+ * function: for version 1 the number of its function; for version 3 it is not read.
  */
 typedef struct treskibben_frame {
     uint64_t address;
     uint64_t rbp;
     uint64_t rsp;
+    uint64_t function;
 } treskibben_frame;
 
 /*
@@ -263,14 +288,17 @@ typedef struct treskibben_frame {
  *           over 2^64 - 1
  *   14      lists unequal, over 65,536 entries, old starts not       0
  *           strictly rising, or a 0 in either
- *   10      no record of that address                                0
- *   15      more than one record at the address                      0
+ *   10      no record of that address; of version 1, no such         0
+ *           function, or no record at the offset
+ *   15      more than one record at the address; of version 1, at    0
+ *           the offset
  *   12      not a statepoint                                         0
  *   16      stack size unknown (2^64 - 1), or the frame not inside   0
  *           the image
  *   17      over 256 pairs                                           0
  *   18      pair of wrong form: not null, and not two locations of   the pair
- *           kind 3, size 8 and register 6 or 7
+ *           kind 3, size 8 (of version 1, 0 or 8) and register 6
+ *           or 7
  *   19      a slot not wholly inside the frame; nothing wraps        the pair
  *   20      collision: two slots overlap without being equal, or     the pair
  *           a slot is derived from bases that differ, with this
@@ -288,10 +316,10 @@ treskibben_answer treskibben_relocate(const uint8_t *section, size_t length, uin
  * Moves the pointers of a whole thread, all of its frames or none. `value` is the sum of the pairs
  * that their statepoints list, null ones included.
  *
- * The frames are `frames_length` numbers at `frames`, three to a frame: address, RBP, RSP. An array of
- * treskibben_frame is such a list, of three times as many numbers as it has frames. Positions in the
- * list are counted from 0. Everything else is lent as to treskibben_relocate, and the list as its two
- * lists are.
+ * The frames are `frames_length` numbers at `frames`, four to a frame: address (of version 1, offset),
+ * RBP, RSP, function. An array of treskibben_frame is such a list, of four times as many numbers as it
+ * has frames. Positions in the list are counted from 0. Everything else is lent as to
+ * treskibben_relocate, and the list as its two lists are.
  *
  * A frame's extent is its part of the stack: the bytes from RSP on, as many as the stack size of its
  * function. Where the call is accepted, the image is the one that treskibben_relocate leaves when it
@@ -303,7 +331,7 @@ treskibben_answer treskibben_relocate(const uint8_t *section, size_t length, uin
  *   number  when                                                     place
  *   1 to 9  the refusal that treskibben_check gives the section      as there
  *   13, 14  as for treskibben_relocate                               0
- *   25      frames_length not a multiple of three, or over 12,288    0
+ *   25      frames_length not a multiple of four, or over 16,384     0
  *           (4,096 frames)
  *   10, 15, 12, 16 to 21                                             the position of the frame
  *           a frame is refused by itself, on the image as lent:

@@ -1,4 +1,5 @@
-/* Calls the library from C on the worked rows A to H, whose bytes are written out by hand. */
+/* Calls the library from C on the worked rows A to H, whose bytes are written out by hand, and on rows C
+ * to H in version 1, whose letters are small. */
 #include "rows.h"
 #include "tally.h"
 #include "treskibben.h"
@@ -10,10 +11,13 @@
 
 static const uint8_t row_b[15] = {3};
 static const uint8_t row_c[16] = {3};
-static const uint8_t row_d[16] = {1};
+static const uint8_t row_d[16] = {2};
 static const uint8_t row_e[17] = {3};
 static const uint8_t row_f[16] = {3, 0, 0, 0, 0, 0, 0, 0, 0, 0, 0, 0, 1, 0, 0, 0};
 static const uint8_t row_g[16] = {3, 0, 0, 0, 1, 0, 0, 0, 0, 0, 0, 0, 0, 0, 0, 0};
+static const uint8_t row_e_1[17] = {1};
+static const uint8_t row_f_1[16] = {1, 0, 0, 0, 0, 0, 0, 0, 0, 0, 0, 0, 1, 0, 0, 0};
+static const uint8_t row_g_1[16] = {1, 0, 0, 0, 1, 0, 0, 0, 0, 0, 0, 0, 0, 0, 0, 0};
 
 struct row {
     char name;
@@ -32,6 +36,12 @@ static const struct row rows[] = {
     {'F', row_f, sizeof row_f, 5, 12},
     {'G', row_g, sizeof row_g, 4, 16},
     {'H', row_h, sizeof row_h, 0, 0},
+    {'b', row_e_1, 15, 1, 0},
+    {'c', row_e_1, 16, 0, 0},
+    {'e', row_e_1, 17, 9, 16},
+    {'f', row_f_1, sizeof row_f_1, 4, 16},
+    {'g', row_g_1, sizeof row_g_1, 4, 16},
+    {'h', row_h_1, sizeof row_h_1, 0, 0},
 };
 
 /* Checks a copy of the row's bytes, which has no byte to spare and must stay as it is. */

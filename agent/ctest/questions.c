@@ -1,6 +1,6 @@
 /*
  * Asks questions of the library from C: on row H, on a section that is refused, and on one whose
- * every field has bits of its own.
+ * every field has bits of its own; and on row H and such a section in version 1.
  */
 #include "rows.h"
 #include "tally.h"
@@ -73,7 +73,31 @@ static const uint8_t fields[184] = {
     0, 0, 0, 0, 0, 0, 0, 0, 0, 0, 0, 0,
 };
 
-enum question { FIND, RECORD, LOCATION, LIVE_OUT };
+/* Version 1: two functions, and two of three records at one offset. Where the first record is of the
+ * first function, its address is over 2^64 - 1. */
+static const uint8_t fields_1[152] = {
+    /* header: version 1, two functions, one constant, three records */
+    1, 0, 0, 0, 2, 0, 0, 0, 1, 0, 0, 0, 3, 0, 0, 0,
+    /* functions: addresses 2^64 - 1 and 0 */
+    255, 255, 255, 255, 255, 255, 255, 255, 8, 0, 0, 0, 0, 0, 0, 0,
+    0, 0, 0, 0, 0, 0, 0, 0, 8, 0, 0, 0, 0, 0, 0, 0,
+    /* constant 0xfedcba9876543210 */
+    0x10, 0x32, 0x54, 0x76, 0x98, 0xba, 0xdc, 0xfe,
+    /* record: ID 1, offset 2^32 - 1, flags, no locations, zeros, one live-out of register 0xabcd */
+    1, 0, 0, 0, 0, 0, 0, 0, 255, 255, 255, 255, 0, 0, 0, 0, 0, 0, 1, 0, 0xcd, 0xab, 0, 0xef,
+    /* record: ID 2, offset 1, flags, three locations */
+    2, 0, 0, 0, 0, 0, 0, 0, 1, 0, 0, 0, 0, 0, 3, 0,
+    /* Direct 0x1234 - 2^31, Constant -2, ConstIndex 0, of sizes 0xee, 0 and 255 */
+    2, 0xee, 0x34, 0x12, 0, 0, 0, 128,
+    4, 0, 0, 0, 254, 255, 255, 255,
+    5, 255, 0, 0, 0, 0, 0, 0,
+    /* zeros, no live-outs, padding */
+    0, 0, 0, 0, 0, 0, 0, 0,
+    /* record: ID 3, offset 1, flags, no locations, zeros, no live-outs, padding */
+    3, 0, 0, 0, 0, 0, 0, 0, 1, 0, 0, 0, 0, 0, 0, 0, 0, 0, 0, 0, 0, 0, 0, 0,
+};
+
+enum question { FIND, FIND_IN, RECORD, LOCATION, LIVE_OUT };
 
 /* A question and its answer: number, place and the other fields in the order of the struct. */
 struct row {
@@ -87,11 +111,15 @@ struct row {
 #define ON_H row_h, sizeof row_h
 #define ON_E row_e, sizeof row_e
 #define ON_FIELDS fields, sizeof fields
+#define ON_H_1 row_h_1, sizeof row_h_1
+#define ON_FIELDS_1 fields_1, sizeof fields_1
 #define MINUS(n) ((uint64_t)0 - (n))
 
 static const struct row rows[] = {
     {ON_H, FIND, {0x1020, 0}, {0, 0, 0, 0, 1, 0, 0}},
     {ON_H, FIND, {0x1021, 0}, {10, 0, 0, 0, 0, 0, 0}},
+    {ON_H, FIND_IN, {0, 0x20}, {27, 0, 0, 0, 0, 0, 0}},
+    {ON_H, FIND_IN, {1, 0x21}, {27, 0, 0, 0, 0, 0, 0}},
     {ON_H, RECORD, {0, 0}, {0, 0, 40, 112, 0, 0, 0}},
     {ON_H, RECORD, {1, 0}, {10, 0, 0, 0, 0, 0, 0}},
     {ON_H, LOCATION, {0, 0}, {0, 0, 0, 0, 8, 0, 4}},
@@ -106,6 +134,7 @@ static const struct row rows[] = {
     {ON_H, LIVE_OUT, {0, 0}, {11, 0, 0, 0, 0, 0, 0}},
     {ON_H, LIVE_OUT, {1, 0}, {10, 0, 0, 0, 0, 0, 0}},
     {ON_E, FIND, {0, 0}, {9, 16, 0, 0, 0, 0, 0}},
+    {ON_E, FIND_IN, {0, 0}, {9, 16, 0, 0, 0, 0, 0}},
     {ON_E, RECORD, {0, 0}, {9, 16, 0, 0, 0, 0, 0}},
     {ON_E, LOCATION, {0, 0}, {9, 16, 0, 0, 0, 0, 0}},
     {ON_E, LIVE_OUT, {0, 0}, {9, 16, 0, 0, 0, 0, 0}},
@@ -120,6 +149,31 @@ static const struct row rows[] = {
     {ON_FIELDS, LOCATION, {1, MINUS(1)}, {11, 0, 0, 0, 0, 0, 0}},
     {ON_FIELDS, LIVE_OUT, {0, 0}, {0, 0, 0xabcd, 0xef, 0, 0, 0}},
     {ON_FIELDS, LIVE_OUT, {0, 1}, {11, 0, 0, 0, 0, 0, 0}},
+    {ON_H_1, FIND_IN, {0, 0x20}, {0, 0, 0, 0, 1, 0, 0}},
+    {ON_H_1, FIND_IN, {0, 0x21}, {10, 0, 0, 0, 0, 0, 0}},
+    {ON_H_1, FIND_IN, {0, 0x1020}, {10, 0, 0, 0, 0, 0, 0}},
+    {ON_H_1, FIND_IN, {1, 0x20}, {10, 0, 0, 0, 0, 0, 0}},
+    {ON_H_1, FIND_IN, {0, ((uint64_t)1 << 32) + 0x20}, {10, 0, 0, 0, 0, 0, 0}},
+    {ON_H_1, FIND_IN, {(uint64_t)1 << 32, 0x20}, {10, 0, 0, 0, 0, 0, 0}},
+    {ON_H_1, FIND, {0x1020, 0}, {27, 0, 0, 0, 0, 0, 0}},
+    {ON_H_1, FIND, {0x20, 0}, {27, 0, 0, 0, 0, 0, 0}},
+    {ON_H_1, RECORD, {0, 0}, {0, 0, 32, 80, 0, 0, 0}},
+    {ON_H_1, LOCATION, {0, 2}, {0, 0, 0, 0, 8, 0, 4}},
+    {ON_H_1, LOCATION, {0, 6}, {0, 0, 0, 16, 8, 7, 3}},
+    {ON_H_1, LIVE_OUT, {0, 0}, {11, 0, 0, 0, 0, 0, 0}},
+    {ON_FIELDS_1, FIND_IN, {0, 1}, {0, 0, 1, 0, 2, 0, 0}},
+    {ON_FIELDS_1, FIND_IN, {1, 1}, {0, 0, 1, 1, 2, 0, 0}},
+    {ON_FIELDS_1, FIND_IN, {2, 1}, {10, 0, 0, 0, 0, 0, 0}},
+    {ON_FIELDS_1, FIND_IN, {0, 0xffffffff}, {0, 0, 0, 0, 1, 0, 0}},
+    {ON_FIELDS_1, FIND_IN, {0, MINUS(1)}, {10, 0, 0, 0, 0, 0, 0}},
+    {ON_FIELDS_1, RECORD, {1, 0}, {0, 0, 80, 48, 0, 0, 0}},
+    {ON_FIELDS_1, RECORD, {2, 0}, {0, 0, 128, 24, 0, 0, 0}},
+    {ON_FIELDS_1, RECORD, {3, 0}, {10, 0, 0, 0, 0, 0, 0}},
+    {ON_FIELDS_1, LOCATION, {1, 0}, {0, 0, 0, MINUS(0x80000000), 0xee, 0x1234, 2}},
+    {ON_FIELDS_1, LOCATION, {1, 1}, {0, 0, MINUS(2), MINUS(2), 0, 0, 4}},
+    {ON_FIELDS_1, LOCATION, {1, 2}, {0, 0, 0xfedcba9876543210, 0, 255, 0, 5}},
+    {ON_FIELDS_1, LOCATION, {1, 3}, {11, 0, 0, 0, 0, 0, 0}},
+    {ON_FIELDS_1, LIVE_OUT, {0, 0}, {0, 0, 0xabcd, 0xef, 0, 0, 0}},
 };
 
 /* Writes an answer's first fields, which all have, and gives where the others go. */
@@ -135,8 +189,10 @@ static void ask(const struct row *row, const uint8_t *bytes, uint64_t *out)
 {
     const uint64_t one = row->asked[0], two = row->asked[1];
 
-    if (row->question == FIND) {
-        treskibben_find_answer answer = treskibben_find(bytes, row->length, one);
+    if (row->question == FIND || row->question == FIND_IN) {
+        treskibben_find_answer answer =
+            row->question == FIND ? treskibben_find(bytes, row->length, one)
+                                  : treskibben_find_in_function(bytes, row->length, one, two);
         out = begin(out, answer.number, answer.place);
         out[0] = answer.index;
         out[1] = answer.function;

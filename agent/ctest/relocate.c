@@ -17,10 +17,11 @@
                                    ? 1                                                             \
                                    : -1]
 
-typedef char whole_frame[sizeof(treskibben_frame) == 24 ? 1 : -1];
+typedef char whole_frame[sizeof(treskibben_frame) == 32 ? 1 : -1];
 FIELD(address, 0);
 FIELD(rbp, 8);
 FIELD(rsp, 16);
+FIELD(function, 24);
 
 /* Where the first pair of row H stands, and the bytes of a location and of a pair. */
 enum { PAIRS = 92, LOCATION = 12, PAIR = 24, LAST_OFFSET = 136, SLOTS = 3 };
@@ -42,7 +43,9 @@ struct row {
     uint64_t after[2];
 };
 
-#define AT_I 0x7000, {0x1020, 0, 0x7000}
+/* A frame of version 3, whose function is not read: there is none of this number. */
+#define FRAME(address, rsp) {address, 0, rsp, 9}
+#define AT_I 0x7000, FRAME(0x1020, 0x7000)
 
 static const struct row rows[] = {
     {"I", 0, 16, {0x50000, 0x54e20}, 0x90000, 1, 1, AT_I, {0, 0, 2}, {0x90000, 0x94e20}},
@@ -58,16 +61,16 @@ static const struct row rows[] = {
     {"fewer old", 0, 16, {0x50000, 0x54e20}, 0x90000, 0, 1, AT_I, {14, 0, 0}, {0x50000, 0x54e20}},
     {"fewer new", 0, 16, {0x50000, 0x54e20}, 0x90000, 1, 0, AT_I, {14, 0, 0}, {0x50000, 0x54e20}},
     {"new start 0", 0, 16, {0x50000, 0x54e20}, 0, 1, 1, AT_I, {14, 0, 0}, {0x50000, 0x54e20}},
-    {"no record", 0, 16, {0x50000, 0x54e20}, 0x90000, 1, 1, 0x7000, {0x1021, 0, 0x7000},
+    {"no record", 0, 16, {0x50000, 0x54e20}, 0x90000, 1, 1, 0x7000, FRAME(0x1021, 0x7000),
      {10, 0, 0}, {0x50000, 0x54e20}},
-    {"RSP above", 0, 16, {0x50000, 0x54e20}, 0x90000, 1, 1, 0x7000, {0x1020, 0, 0x7001},
+    {"RSP above", 0, 16, {0x50000, 0x54e20}, 0x90000, 1, 1, 0x7000, FRAME(0x1020, 0x7001),
      {16, 0, 0}, {0x50000, 0x54e20}},
-    {"RSP below", 0, 16, {0x50000, 0x54e20}, 0x90000, 1, 1, 0x7000, {0x1020, 0, 0x6fff},
+    {"RSP below", 0, 16, {0x50000, 0x54e20}, 0x90000, 1, 1, 0x7000, FRAME(0x1020, 0x6fff),
      {16, 0, 0}, {0x50000, 0x54e20}},
     {"top", 0, 16, {0x50000, 0x54e20}, 0x90000, 1, 1, (uint64_t)0 - 25,
-     {0x1020, 0, (uint64_t)0 - 25}, {0, 0, 2}, {0x90000, 0x94e20}},
+     FRAME(0x1020, (uint64_t)0 - 25), {0, 0, 2}, {0x90000, 0x94e20}},
     {"past the top", 0, 16, {0x50000, 0x54e20}, 0x90000, 1, 1, (uint64_t)0 - 24,
-     {0x1020, 0, (uint64_t)0 - 24}, {13, 0, 0}, {0x50000, 0x54e20}},
+     FRAME(0x1020, (uint64_t)0 - 24), {13, 0, 0}, {0x50000, 0x54e20}},
 };
 
 static void put_slots(uint8_t *image, const uint64_t *slots)
@@ -107,7 +110,7 @@ static int passes(const struct row *row)
 static int passes_with(size_t count, uint64_t number)
 {
     static const uint64_t old_start = 0x50000, new_start = 0x90000, slots[2] = {0x50000, 0x54e20};
-    static const treskibben_frame frame = {0x1020, 0, 0x7000};
+    static const treskibben_frame frame = FRAME(0x1020, 0x7000);
     const size_t locations = 3 + 2 * count, length = PAIRS + PAIR * count + LOCATION;
     const uint64_t moved[2] = {count > 0 && number == 0 ? new_start : slots[0], slots[1]};
     const uint64_t expected[3] = {number, 0, number == 0 ? count : 0};

@@ -19,37 +19,39 @@ enum { SLOTS = 9, EXTENT = 24, MOST = 4096 };
 #define NEW UINT64_C(0x90000)
 #define DERIVED UINT64_C(0x4e20) /* how far the second slot points behind its base */
 
-/* Row I's frame at an RSP, and one at an address that no record has. */
-#define AT(rsp) 0x1020, 0, (rsp)
-#define NOWHERE 0x1021, 0, 0x7000
+/* Row I's frame at an RSP, and one at an address that no record has. Their functions are not read. */
+#define AT(rsp) 0x1020, 0, (rsp), 9
+#define NOWHERE 0x1021, 0, 0x7000, 0
 
 /* A list on the short stack: its numbers, the answer, and whether the first frame is moved. */
 struct row {
     const char *name;
     size_t length;
-    uint64_t list[12];
+    uint64_t list[16];
     uint64_t answer[3];
     int moved;
 };
 
 static const struct row rows[] = {
     {"none", 0, {0}, {0, 0, 0}, 0},
-    {"one", 3, {AT(0x7000)}, {0, 0, 2}, 1},
-    {"two", 6, {AT(0x7000), AT(0x7018)}, {0, 0, 4}, 1},
-    {"two, the other first", 6, {AT(0x7018), AT(0x7000)}, {0, 0, 4}, 1},
-    {"three", 9, {AT(0x7030), AT(0x7000), AT(0x7018)}, {0, 0, 6}, 1},
+    {"one", 4, {AT(0x7000)}, {0, 0, 2}, 1},
+    {"two", 8, {AT(0x7000), AT(0x7018)}, {0, 0, 4}, 1},
+    {"two, the other first", 8, {AT(0x7018), AT(0x7000)}, {0, 0, 4}, 1},
+    {"three", 12, {AT(0x7030), AT(0x7000), AT(0x7018)}, {0, 0, 6}, 1},
     {"one number", 1, {AT(0x7000)}, {25, 0, 0}, 0},
     {"two numbers", 2, {AT(0x7000)}, {25, 0, 0}, 0},
-    {"four numbers", 4, {NOWHERE, 0x1020}, {25, 0, 0}, 0},
-    {"no record", 6, {AT(0x7000), NOWHERE}, {10, 1, 0}, 0},
-    {"no record first", 6, {NOWHERE, AT(0x7008)}, {10, 0, 0}, 0},
-    {"a base of no object first", 6, {AT(0x7008), NOWHERE}, {21, 0, 0}, 0},
-    {"outside", 9, {AT(0x7000), AT(0x7018), AT(0x7031)}, {16, 2, 0}, 0},
-    {"outside, and one twice", 9, {AT(0x7000), AT(0x7000), AT(0x6fff)}, {16, 2, 0}, 0},
-    {"one twice", 6, {AT(0x7000), AT(0x7000)}, {26, 1, 0}, 0},
-    {"one byte shared", 6, {AT(0x7000), AT(0x7017)}, {26, 1, 0}, 0},
-    {"shared with the first of three", 9, {AT(0x7000), AT(0x7030), AT(0x7017)}, {26, 2, 0}, 0},
-    {"two shared", 12, {AT(0x7018), AT(0x7000), AT(0x7019), AT(0x7000)}, {26, 2, 0}, 0},
+    {"three numbers", 3, {AT(0x7000)}, {25, 0, 0}, 0},
+    {"five numbers", 5, {NOWHERE, 0x1020}, {25, 0, 0}, 0},
+    {"six numbers", 6, {AT(0x7000), NOWHERE}, {25, 0, 0}, 0},
+    {"no record", 8, {AT(0x7000), NOWHERE}, {10, 1, 0}, 0},
+    {"no record first", 8, {NOWHERE, AT(0x7008)}, {10, 0, 0}, 0},
+    {"a base of no object first", 8, {AT(0x7008), NOWHERE}, {21, 0, 0}, 0},
+    {"outside", 12, {AT(0x7000), AT(0x7018), AT(0x7031)}, {16, 2, 0}, 0},
+    {"outside, and one twice", 12, {AT(0x7000), AT(0x7000), AT(0x6fff)}, {16, 2, 0}, 0},
+    {"one twice", 8, {AT(0x7000), AT(0x7000)}, {26, 1, 0}, 0},
+    {"one byte shared", 8, {AT(0x7000), AT(0x7017)}, {26, 1, 0}, 0},
+    {"shared with the first of three", 12, {AT(0x7000), AT(0x7030), AT(0x7017)}, {26, 2, 0}, 0},
+    {"two shared", 16, {AT(0x7018), AT(0x7000), AT(0x7019), AT(0x7000)}, {26, 2, 0}, 0},
 };
 
 static const uint64_t old_start = OLD, new_start = NEW;
@@ -66,7 +68,7 @@ static void put_frame(uint8_t *bytes, uint64_t base)
 static int passes(const struct row *row)
 {
     uint8_t image[8 * SLOTS] = {0}, after[8 * SLOTS] = {0};
-    uint64_t list[12];
+    uint64_t list[16];
     treskibben_answer answer;
     int same;
 
@@ -95,9 +97,10 @@ static int passes_with(size_t count, size_t more, size_t bad, const uint64_t *ex
         frames[i].address = i == bad ? 0x1021 : 0x1020;
         frames[i].rbp = 0;
         frames[i].rsp = FIRST + EXTENT * i;
+        frames[i].function = i;
     }
     answer = treskibben_thread(row_h, sizeof row_h, image, sizeof image, FIRST, &old_start, 1,
-                               &new_start, 1, (const uint64_t *)frames, 3 * count + more);
+                               &new_start, 1, (const uint64_t *)frames, 4 * count + more);
     sprintf(name, "%u frames and %u numbers", (unsigned)count, (unsigned)more);
     return passed(name, expected, answer, memcmp(image, after, sizeof image) == 0);
 }
@@ -105,12 +108,12 @@ static int passes_with(size_t count, size_t more, size_t bad, const uint64_t *ex
 /* What all frames share is refused first, whatever the list. */
 static int passes_before(size_t length, size_t old_count, uint64_t first, uint64_t number)
 {
-    const uint64_t list[3] = {NOWHERE}, expected[3] = {number, number == 4 ? 40 : 0, 0};
+    const uint64_t list[4] = {NOWHERE}, expected[3] = {number, number == 4 ? 40 : 0, 0};
     uint8_t image[8 * SLOTS] = {0}, after[8 * SLOTS] = {0};
     treskibben_answer answer;
 
     answer = treskibben_thread(row_h, length, image, sizeof image, first, &old_start, old_count,
-                               &new_start, 1, list, 2);
+                               &new_start, 1, list, 3);
     return passed("before the list", expected, answer, memcmp(image, after, sizeof image) == 0);
 }
 
@@ -118,7 +121,7 @@ int main(void)
 {
     static const uint64_t most[3] = {0, 0, 2 * MOST}, less[3] = {0, 0, 2 * MOST - 2};
     static const uint64_t long_list[3] = {25, 0, 0}, last[3] = {10, MOST - 1, 0};
-    const size_t count = sizeof rows / sizeof rows[0] + 9;
+    const size_t count = sizeof rows / sizeof rows[0] + 10;
     size_t passed = 0;
     size_t i;
 
@@ -130,6 +133,7 @@ int main(void)
     passed += (size_t)passes_with(MOST, 0, MOST - 1, last);
     passed += (size_t)passes_with(MOST, 1, 0, long_list);
     passed += (size_t)passes_with(MOST, 2, 0, long_list);
+    passed += (size_t)passes_with(MOST, 3, 0, long_list);
     passed += (size_t)passes_with(MOST + 1, 0, 0, long_list);
     passed += (size_t)passes_before(sizeof row_h - 1, 0, (uint64_t)0 - 72, 4);
     passed += (size_t)passes_before(sizeof row_h, 0, (uint64_t)0 - 72, 13);

@@ -1,13 +1,14 @@
 //! What the questions on a section answer.
 
-/// The answer to the question by address, [`find`](crate::find).
+/// The answer to the question by address, [`find`](crate::find), and to the one by function and offset,
+/// [`find_in_function`](crate::find_in_function).
 #[derive(Clone, Copy, Debug, PartialEq, Eq, Hash)]
 pub struct Found {
-    /// The number of the first record with the address, in section order.
+    /// The number of the first record with the address or at the offset, in section order.
     pub record: u64,
-    /// The number of that record's function.
+    /// The number of that record's function; of version 1, the one that was asked for.
     pub function: u64,
-    /// How many records have the address, the first one included.
+    /// How many records have the address or are at the offset, the first one included.
     pub sharing: u64,
 }
 
@@ -59,7 +60,7 @@ impl LocationKind {
 pub struct Location {
     /// What the location stands for.
     pub kind: LocationKind,
-    /// The value's size in bytes.
+    /// The value's size in bytes. Of version 1, the location's second byte, which may hold any number.
     pub size: u16,
     /// The register's DWARF number; constants don't use it.
     pub register: u16,

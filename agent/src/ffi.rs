@@ -40,7 +40,7 @@ impl Answer {
     }
 }
 
-/// What the question by address answers: the struct `treskibben_find_answer`.
+/// What the questions by address and by function and offset answer: the struct `treskibben_find_answer`.
 #[repr(C)]
 pub(crate) struct Found {
     pub(crate) verdict: Verdict,
@@ -89,14 +89,21 @@ const _: () = {
     assert!(offset_of!(Location, register) == 30 && offset_of!(Location, kind) == 32);
     assert!(size_of::<LiveOut>() == 24 && offset_of!(LiveOut, register) == 16);
     assert!(offset_of!(LiveOut, size) == 18);
-    assert!(size_of::<Frame>() == 24 && offset_of!(Frame, address) == 0);
+    assert!(size_of::<Frame>() == 32 && offset_of!(Frame, address) == 0);
     assert!(offset_of!(Frame, rbp) == 8 && offset_of!(Frame, rsp) == 16);
+    assert!(offset_of!(Frame, function) == 24);
     assert!(align_of::<Frame>() == align_of::<u64>());
 };
 
 extern "C" {
     fn treskibben_check(section: *const u8, length: usize) -> Answer;
     fn treskibben_find(section: *const u8, length: usize, address: u64) -> Found;
+    fn treskibben_find_in_function(
+        section: *const u8,
+        length: usize,
+        function: u64,
+        offset: u64,
+    ) -> Found;
     fn treskibben_record(section: *const u8, length: usize, record: u64) -> Stands;
     fn treskibben_location(
         section: *const u8,
@@ -162,6 +169,12 @@ pub(crate) fn check(section: &[u8]) -> Answer {
 pub(crate) fn find(section: &[u8], address: u64) -> Found {
     // SAFETY: as in `check`. Every address may be asked for.
     unsafe { treskibben_find(section.as_ptr(), section.len(), address) }
+}
+
+/// The question by function and offset.
+pub(crate) fn find_in_function(section: &[u8], function: u64, offset: u64) -> Found {
+    // SAFETY: as in `check`. Every function number and every offset may be asked for.
+    unsafe { treskibben_find_in_function(section.as_ptr(), section.len(), function, offset) }
 }
 
 /// The question by record number.
@@ -264,8 +277,8 @@ pub(crate) fn thread(
 
 /// The numbers of frames, in the order of the struct.
 pub(crate) fn numbers(frames: &[Frame]) -> &[u64] {
-    // SAFETY: a `Frame` is three `u64` one after the other and nothing else, as asserted above, and is
-    // aligned as a `u64` is: so the bytes of the slice are those of three times as many `u64`, in the
+    // SAFETY: a `Frame` is four `u64` one after the other and nothing else, as asserted above, and is
+    // aligned as a `u64` is: so the bytes of the slice are those of four times as many `u64`, in the
     // same allocation, borrowed for as long. Their length in bytes is the slice's own.
-    unsafe { std::slice::from_raw_parts(frames.as_ptr().cast(), 3 * frames.len()) }
+    unsafe { std::slice::from_raw_parts(frames.as_ptr().cast(), 4 * frames.len()) }
 }

@@ -1,4 +1,5 @@
-//! LLVM stack map sections, version 3: a safe interface to a library whose every function is proved.
+//! LLVM stack map sections, versions 3 and 1: a safe interface to a library whose every function is
+//! proved.
 //!
 //! [`check`] says whether a section keeps the layout, and of one that doesn't, which rule it breaks
 //! and at which byte. The questions read a section without decoding it: [`find`] a record by its
@@ -7,6 +8,10 @@
 //! [`relocate()`] moves the pointers of one stopped frame in a copy of its stack, and
 //! [`relocate_thread`] those of a whole thread, all of its frames or none. Every slice of bytes gets
 //! an answer; none makes a function panic, read or write beyond its slices or run without end.
+//!
+//! A section's first byte is its version. Version 1 doesn't say which function has a record: there
+//! [`find_in_function`] takes the place of [`find`], and a [`Frame`] tells its function. All else is
+//! asked of both versions alike.
 //!
 //! ```
 //! // A section of no functions, no constants and no records: version 3 and fifteen zeros.
@@ -34,22 +39,22 @@ mod thread;
 
 pub use answers::{Found, LiveOut, Location, LocationKind};
 pub use conversions::{listing_of, section_of, to_listing, to_section};
-pub use questions::{find, live_out, location, record};
+pub use questions::{find, find_in_function, live_out, location, record};
 pub use refusal::Refusal;
 pub use relocate::{relocate, Frame, MoveTable};
 pub use thread::{relocate_thread, Frames, ThreadRefusal};
 
-/// Checks that `section` is a whole version 3 stack map section and nothing else.
+/// Checks that `section` is a whole stack map section, of version 3 or 1, and nothing else.
 ///
 /// # Errors
 ///
 /// The first of these faults, in the order of the check: the length and the header, the functions
-/// and constants, then record after record, and last the end.
+/// and constants, then record after record, and last the end. 5 and 8 are of version 3 alone.
 ///
 /// | Number | Cause | Place |
 /// |---|---|---|
 /// | 1 | section under 16 or over 16,777,216 bytes | 0 |
-/// | 2 | version not 3 | 0 |
+/// | 2 | version neither 1 nor 3 | 0 |
 /// | 3 | a byte required to be zero isn't | that byte |
 /// | 4 | a function, constant or record isn't wholly inside | its first byte |
 /// | 5 | record counts, added exactly, differ from NumRecords | 12 |
@@ -64,6 +69,11 @@ pub use thread::{relocate_thread, Frames, ThreadRefusal};
 /// // 15 bytes are fewer than a header has.
 /// let refusal = treskibben::check(&[3; 15]).unwrap_err();
 /// assert_eq!((refusal.number(), refusal.place()), (1, 0));
+///
+/// // A header of version 1, and one of version 2.
+/// assert_eq!(treskibben::check(&[1, 0, 0, 0, 0, 0, 0, 0, 0, 0, 0, 0, 0, 0, 0, 0]), Ok(()));
+/// let refusal = treskibben::check(&[2, 0, 0, 0, 0, 0, 0, 0, 0, 0, 0, 0, 0, 0, 0, 0]).unwrap_err();
+/// assert_eq!(refusal.to_string(), "refused 2 at 0: version neither 1 nor 3");
 /// ```
 pub fn check(section: &[u8]) -> Result<(), Refusal> {
     ffi::check(section).outcome().map(|_| ())

@@ -8,12 +8,13 @@ use crate::{ffi, Refusal};
 /// The first record with this address, in section order.
 ///
 /// A record's address is its function's address plus its instruction offset. Several records may
-/// have the same; the answer says how many.
+/// have the same; the answer says how many. The question is for version 3: version 1 doesn't say which
+/// function has a record, and has [`find_in_function`] instead.
 ///
 /// # Errors
 ///
-/// The refusal of [`check`](crate::check) if the section has a fault, and 10 exactly if no record
-/// has the address.
+/// The refusal of [`check`](crate::check) if the section has a fault, 27 if it is of version 1, and 10
+/// exactly if no record has the address.
 ///
 /// # Examples
 ///
@@ -26,18 +27,50 @@ use crate::{ffi, Refusal};
 /// assert_eq!((found.record, found.function, found.sharing), (0, 0, 1));
 ///
 /// let refusal = treskibben::find(&section, 0x1021).unwrap_err();
-/// assert_eq!(refusal.to_string(), "refused 10 at 0: no record of that number or address");
+/// assert_eq!((refusal.number(), refusal.place()), (10, 0));
 /// # Ok(())
 /// # }
 /// ```
 pub fn find(section: &[u8], address: u64) -> Result<Found, Refusal> {
-    let answer = ffi::find(section, address);
-    answer.verdict.accepted()?;
-    Ok(Found {
-        record: answer.index,
-        function: answer.function,
-        sharing: answer.sharing,
-    })
+    found(ffi::find(section, address))
+}
+
+/// The first record at this instruction offset, in section order, asked for by the number of a
+/// function.
+///
+/// The question is for version 1, which doesn't say which function has a record: every function of the
+/// section finds the same records. Several records may be at the offset; the answer says how many.
+/// Functions are numbered from 0.
+///
+/// # Errors
+///
+/// The refusal of [`check`](crate::check) if the section has a fault, 27 if it is of version 3, and 10
+/// exactly if there is no such function or no record at the offset.
+///
+/// # Examples
+///
+/// ```
+/// # fn main() -> Result<(), Box<dyn std::error::Error>> {
+/// // One function and one record, at offset 0x20.
+/// let section = std::fs::read("../samples/h-version-1.section")?;
+///
+/// let found = treskibben::find_in_function(&section, 0, 0x20)?;
+/// assert_eq!((found.record, found.function, found.sharing), (0, 0, 1));
+///
+/// for (function, offset) in [(1, 0x20), (0, 0x21)] {
+///     let refusal = treskibben::find_in_function(&section, function, offset).unwrap_err();
+///     assert_eq!((refusal.number(), refusal.place()), (10, 0));
+/// }
+///
+/// // Each version has its own question.
+/// assert_eq!(treskibben::find(&section, 0x1020).unwrap_err().number(), 27);
+/// let newer = std::fs::read("../samples/h-statepoint.section")?;
+/// assert_eq!(treskibben::find_in_function(&newer, 0, 0x20).unwrap_err().number(), 27);
+/// # Ok(())
+/// # }
+/// ```
+pub fn find_in_function(section: &[u8], function: u64, offset: u64) -> Result<Found, Refusal> {
+    found(ffi::find_in_function(section, function, offset))
 }
 
 /// The bytes of the record with this number, from its ID to its last padding byte: a part of
@@ -145,6 +178,16 @@ pub fn live_out(section: &[u8], record: u64, number: u64) -> Result<LiveOut, Ref
     Ok(LiveOut {
         register: answer.register,
         size: answer.size,
+    })
+}
+
+/// The answer of a search, or its refusal.
+fn found(answer: ffi::Found) -> Result<Found, Refusal> {
+    answer.verdict.accepted()?;
+    Ok(Found {
+        record: answer.index,
+        function: answer.function,
+        sharing: answer.sharing,
     })
 }
 

@@ -15,9 +15,9 @@ pub struct Refusal {
 }
 
 /// The cause of each refusal; the first is number 1.
-const CAUSES: [&str; 26] = [
+const CAUSES: [&str; 28] = [
     "section under 16 or over 16,777,216 bytes, or listing over 33,554,432 bytes",
-    "version not 3",
+    "version neither 1 nor 3",
     "a byte required to be zero isn't",
     "a function, constant or record isn't wholly inside",
     "record counts, added exactly, differ from NumRecords",
@@ -25,12 +25,12 @@ const CAUSES: [&str; 26] = [
     "ConstIndex offset negative or not below NumConstants",
     "record address over 2^64 - 1",
     "bytes after the last record",
-    "no record of that number or address",
+    "no record of that number or address, or no such function or offset",
     "no location or live-out of that number",
     "not a statepoint",
     "image over 1,048,576 bytes, or first address + length over 2^64 - 1",
     "lists unequal, over 65,536 entries, old starts not strictly rising, or a 0 in either",
-    "more than one record at the address",
+    "more than one record at the address or offset",
     "stack size unknown, or extent not inside the image",
     "over 256 pairs",
     "pair of wrong form",
@@ -40,8 +40,10 @@ const CAUSES: [&str; 26] = [
     "listing breaks its grammar",
     "over 65,535 locations or live-outs in a record",
     "output shorter than the whole result",
-    "list of frames not a multiple of three numbers, or over 4,096 frames",
+    "list of frames not a multiple of four numbers, or over 4,096 frames",
     "extent shares a byte with that of an earlier frame",
+    "question by address of version 1, or by function and offset of version 3",
+    "version 1 listing with a record count not 0 or a size over 255",
 ];
 
 impl Refusal {
@@ -106,6 +108,7 @@ mod tests {
     #[test]
     fn words_stand_beside_their_own_number() {
         let words = [
+            (2, "neither 1 nor 3"),
             (10, "no record"),
             (13, "image"),
             (17, "256 pairs"),
@@ -115,6 +118,8 @@ mod tests {
             (24, "output"),
             (25, "4,096 frames"),
             (26, "earlier frame"),
+            (27, "question by address"),
+            (28, "version 1 listing"),
         ];
         for (number, start) in words {
             let refusal = Refusal::new(number, 3);
@@ -127,7 +132,7 @@ mod tests {
 
     #[test]
     fn numbers_beyond_the_table_still_print() {
-        for number in [0, 27, u64::MAX] {
+        for number in [0, 29, u64::MAX] {
             let text = Refusal::new(number, 4).to_string();
             assert!(
                 text.starts_with(&format!("refused {number} at 4: a cause")),

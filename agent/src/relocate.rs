@@ -2,16 +2,60 @@
 
 use crate::{ffi, Refusal};
 
-/// A frame of a stopped thread: the address that its record has, and what two registers hold.
+/// A frame of a stopped thread: where its record is, and what two registers hold.
+///
+/// The two versions of a section name a record each in its own way. For version 3 a frame has the
+/// record's address, as [`Frame::new`] makes it; for version 1 it has the number of the function and
+/// the record's instruction offset, as [`Frame::in_function`] makes it.
+///
+/// # Examples
+///
+/// ```
+/// use treskibben::Frame;
+///
+/// let frame = Frame::new(0x1020, 0, 0x7000);
+/// assert_eq!(frame, Frame { address: 0x1020, rbp: 0, rsp: 0x7000, function: 0 });
+///
+/// let frame = Frame::in_function(5, 0x20, 0, 0x7000);
+/// assert_eq!(frame, Frame { address: 0x20, rbp: 0, rsp: 0x7000, function: 5 });
+/// ```
 #[derive(Clone, Copy, Debug, PartialEq, Eq, Hash)]
 #[repr(C)]
 pub struct Frame {
-    /// The address of its record: the one that the call in it returns to.
+    /// For version 3 the address of its record: the one that the call in it returns to. For version 1
+    /// the instruction offset of its record: that address less the function's.
     pub address: u64,
     /// The content of RBP (DWARF 6).
     pub rbp: u64,
     /// The content of RSP (DWARF 7), where the frame's part of the stack begins.
     pub rsp: u64,
+    /// For version 1 the number of its function in the section, counted from 0. For version 3 it is not
+    /// read.
+    pub function: u64,
+}
+
+impl Frame {
+    /// The frame whose record has this address, for a section of version 3. Its function is 0, which is
+    /// not read.
+    pub const fn new(address: u64, rbp: u64, rsp: u64) -> Frame {
+        Frame {
+            address,
+            rbp,
+            rsp,
+            function: 0,
+        }
+    }
+
+    /// The frame of the function with this number whose record is at this offset, for a section of
+    /// version 1.
+    pub const fn in_function(function: u64, offset: u64, rbp: u64, rsp: u64) -> Frame {
+        Frame {
+            address: offset,
+            rbp,
+            rsp,
+            function,
+        }
+    }
 }
 
 /// Where each object was and where it is now: two lists of starts, which belong together entry by
@@ -79,6 +123,11 @@ impl<'a> From<&'a (Vec<u64>, Vec<u64>)> for MoveTable<'a> {
 /// the image as it was before the call. A base of 0 stays 0. All other bytes of the image are left
 /// as they are, also those of a base slot that no pair derives.
 ///
+/// The frame's part of the stack begins at RSP and is as long as the stack size of its function says.
+/// The function is that of the record in version 3, and the one that the frame names in version 1, which
+/// doesn't say whether the record is that function's: the caller has to know. A pair's slots have size 8,
+/// and in version 1 also size 0.
+///
 /// # Errors
 ///
 /// The first of these that holds, and 18 to 21 each over all pairs before the next. A refusal
@@ -89,8 +138,8 @@ impl<'a> From<&'a (Vec<u64>, Vec<u64>)> for MoveTable<'a> {
 /// | 1 to 9 | the refusal of [`check`](crate::check) | as there |
 /// | 13 | image over 1,048,576 bytes, or first address + length over 2^64 - 1 | 0 |
 /// | 14 | lists unequal, over 65,536 entries, old starts not strictly rising, or a 0 in either | 0 |
-/// | 10 | no record of that address | 0 |
-/// | 15 | more than one record at the address | 0 |
+/// | 10 | no record of that address; of version 1, no such function, or no record at the offset | 0 |
+/// | 15 | more than one record at the address; of version 1, at the offset | 0 |
 /// | 12 | not a statepoint | 0 |
 /// | 16 | stack size unknown, or the frame not inside the image | 0 |
 /// | 17 | over 256 pairs | 0 |
@@ -109,7 +158,7 @@ impl<'a> From<&'a (Vec<u64>, Vec<u64>)> for MoveTable<'a> {
 /// // A statepoint at 0x1020 in a function with 24 bytes of stack. It has two pairs: the slot at
 /// // RSP + 8 with itself as base, and the one at RSP + 16, which is derived from that.
 /// let section = std::fs::read("../samples/h-statepoint.section")?;
-/// let frame = Frame { address: 0x1020, rbp: 0, rsp: 0x7000 };
+/// let frame = Frame::new(0x1020, 0, 0x7000);
 ///
 /// // The object at 0x50000 has been moved to 0x90000.
 /// let table = MoveTable::new(&[0x50000], &[0x90000]);
@@ -121,6 +170,13 @@ impl<'a> From<&'a (Vec<u64>, Vec<u64>)> for MoveTable<'a> {
 /// // The frame is moved now: its base is no old start any more.
 /// let refusal = relocate(&section, &mut image, 0x7000, table, frame).unwrap_err();
 /// assert_eq!(refusal.to_string(), "refused 21 at 0: base neither 0 nor an old start");
+/// assert_eq!(image, stack([7, 0x90000, 0x94e20]));
+///
+/// // The same statepoint in a section of version 1, at offset 0x20 of function 0.
+/// let older = std::fs::read("../samples/h-version-1.section")?;
+/// let frame = Frame::in_function(0, 0x20, 0, 0x7000);
+/// let mut image = stack([7, 0x50000, 0x54e20]);
+/// assert_eq!(relocate(&older, &mut image, 0x7000, table, frame), Ok(2));
 /// assert_eq!(image, stack([7, 0x90000, 0x94e20]));
 /// # Ok(())
 /// # }

@@ -10,22 +10,20 @@ mod tests;
 /// The most frames of a thread.
 const MOST_FRAMES: usize = 4_096;
 
-/// The frames of a stopped thread as one list of numbers, three to a frame: address, RBP, RSP.
+/// The frames of a stopped thread as one list of numbers, four to a frame: address, RBP, RSP, function.
 ///
-/// Nothing is tested here. [`relocate_thread`] refuses a list by 25 whose length isn't a multiple of
-/// three, or that holds over 4,096 frames.
+/// The numbers are the fields of a [`Frame`]: for version 1 the first is the instruction offset, and for
+/// version 3 the last is not read. Nothing is tested here. [`relocate_thread`] refuses a list by 25 whose
+/// length isn't a multiple of four, or that holds over 4,096 frames.
 ///
 /// # Examples
 ///
 /// ```
 /// use treskibben::{Frame, Frames};
 ///
-/// let frames = [
-///     Frame { address: 0x1020, rbp: 0, rsp: 0x7000 },
-///     Frame { address: 0x1020, rbp: 0, rsp: 0x7018 },
-/// ];
+/// let frames = [Frame::new(0x1020, 0, 0x7000), Frame::in_function(5, 0x20, 0, 0x7018)];
 /// let list = Frames::from(&frames);
-/// assert_eq!(list, Frames::of_numbers(&[0x1020, 0, 0x7000, 0x1020, 0, 0x7018]));
+/// assert_eq!(list, Frames::of_numbers(&[0x1020, 0, 0x7000, 0, 0x20, 0, 0x7018, 5]));
 /// ```
 #[derive(Clone, Copy, Debug, Default, PartialEq, Eq)]
 pub struct Frames<'a> {
@@ -39,7 +37,7 @@ impl<'a> Frames<'a> {
         Frames { numbers }
     }
 
-    /// The list of these numbers: address, RBP and RSP of the first frame, then of the next.
+    /// The list of these numbers: address, RBP, RSP and function of the first frame, then of the next.
     pub fn of_numbers(numbers: &'a [u64]) -> Frames<'a> {
         Frames { numbers }
     }
@@ -138,7 +136,7 @@ impl Error for ThreadRefusal {}
 /// |---|---|---|
 /// | 1 to 9 | the refusal of [`check`](crate::check) | as there |
 /// | 13, 14 | as of [`relocate`](crate::relocate()) | 0 |
-/// | 25 | the list's length not a multiple of three, or over 4,096 frames | 0 |
+/// | 25 | the list's length not a multiple of four, or over 4,096 frames | 0 |
 /// | 10, 12, 15 to 21 | the first frame of the list that is refused by itself, on the image as lent: by the number that `relocate` gives it | its position |
 /// | 26 | the first frame whose extent shares a byte with that of an earlier one; empty extents share nothing | its position |
 ///
@@ -150,7 +148,7 @@ impl Error for ThreadRefusal {}
 /// // A statepoint at 0x1020 in a function with 24 bytes of stack, which has called itself. It has two
 /// // pairs: the slot at RSP + 8 with itself as base, and the one at RSP + 16, derived from that.
 /// let section = std::fs::read("../samples/h-statepoint.section")?;
-/// let frame = |rsp| Frame { address: 0x1020, rbp: 0, rsp };
+/// let frame = |rsp| Frame::new(0x1020, 0, rsp);
 /// let table = MoveTable::new(&[0x50000], &[0x90000]);
 /// let stack = |slots: [u64; 6]| slots.map(u64::to_le_bytes).concat();
 /// let mut image = stack([7, 0x50000, 0x54e20, 8, 0, 0x1234]);

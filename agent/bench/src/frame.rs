@@ -54,7 +54,7 @@ fn on_large(rounds: usize, bytes: &[u8]) -> Vec<Row> {
     let Ok(read) = reference::section::read(bytes) else { panic!("the second implementation refuses the section") };
     let mut image = vec![0; 1_048_576];
     let mut relocate = |address: u64| {
-        let frame = Frame { address: black_box(address), rbp: 0, rsp: STACK };
+        let frame = Frame::new(black_box(address), 0, STACK);
         treskibben::relocate(black_box(bytes), &mut image, STACK, MoveTable::default(), frame)
     };
     let addresses = read.records.iter().rev().map(|record| record.address);
@@ -84,7 +84,7 @@ impl Stack {
             image.extend([base, base + 24].map(u64::to_le_bytes).concat());
         }
         let section = statepoint_with_pairs(pairs);
-        Stack { section, image, olds, news, frame: Frame { address: STATEPOINT, rbp: 0, rsp: STACK } }
+        Stack { section, image, olds, news, frame: Frame::new(STATEPOINT, 0, STACK) }
     }
 
     fn by_library(&mut self) {
@@ -97,8 +97,8 @@ impl Stack {
     }
 
     fn by_reference(&mut self) {
-        let Frame { address, rbp, rsp } = self.frame;
-        let frame = reference::Frame { address, rbp, rsp };
+        let Frame { address, rbp, rsp, function } = self.frame;
+        let frame = reference::Frame { address, rbp, rsp, function };
         for _ in 0..TIMES {
             let section = black_box(&self.section);
             let moved = reference::relocate(section, &mut self.image, STACK, &self.olds, &self.news, frame);

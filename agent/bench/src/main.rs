@@ -10,6 +10,7 @@ mod parser;
 mod section;
 mod svg;
 mod thread;
+mod version_1;
 mod words;
 
 use measure::{measure, say, table};
@@ -42,6 +43,7 @@ fn main() {
     conversions::rows(rounds, &bytes);
     frame::rows(rounds, &bytes);
     thread::rows(rounds, &bytes, LIMIT);
+    version_1::rows(rounds, &bytes);
 }
 
 /// The last record: its number and its address, which is the highest.

@@ -116,7 +116,7 @@ impl Stack {
         let (mut frames, mut bytes, mut pairs) = (Vec::new(), 0, 0);
         for nth in 0..FRAMES {
             let (address, size, own) = all[nth * all.len() / FRAMES];
-            frames.push(Frame { address, rbp: 0, rsp: STACK + bytes });
+            frames.push(Frame::new(address, 0, STACK + bytes));
             bytes += size;
             pairs += own;
         }
@@ -125,7 +125,7 @@ impl Stack {
 
     /// Frames of one word, all at the record of a section with one pair.
     fn at_one_record() -> Stack {
-        let frame = |nth| Frame { address: section::STATEPOINT, rbp: 0, rsp: STACK + WORD * nth };
+        let frame = |nth| Frame::new(section::STATEPOINT, 0, STACK + WORD * nth);
         Stack::of((0..FRAMES as u64).map(frame).collect(), WORD * FRAMES as u64, FRAMES)
     }
 
@@ -183,9 +183,9 @@ mod tests {
         for (bytes, stack) in all {
             assert!(stack.pairs >= FRAMES && stack.image.len() <= 1_048_576);
             for list in stack.lists() {
-                let numbers: Vec<u64> = list.iter().flat_map(|frame| [frame.address, frame.rbp, frame.rsp]).collect();
+                let numbers = treskibben::Frames::new(&list).numbers();
                 let mut image = stack.image.clone();
-                let moved = reference::thread(&bytes, &mut image, STACK, &stack.objects, &stack.objects, &numbers);
+                let moved = reference::thread(&bytes, &mut image, STACK, &stack.objects, &stack.objects, numbers);
                 assert!(moved.is_ok_and(|pairs| list.len() == 1 || pairs == stack.pairs as u64), "{moved:?}");
                 assert!(image == stack.image);
             }

@@ -1,6 +1,6 @@
 //! The arguments of a command.
 
-use crate::numbers::hexadecimal;
+use crate::numbers::{hexadecimal, in_function};
 use crate::trouble::Trouble;
 use std::ffi::{OsStr, OsString};
 use std::os::unix::ffi::OsStrExt;
@@ -126,6 +126,17 @@ impl Arguments {
             return Err(self.wrong(&format!("{name} is missing")));
         }
         Ok(self.plain.iter().map(PathBuf::from).collect())
+    }
+
+    /// The function's number and the offset that an argument writes.
+    pub fn in_function(&self, text: &OsStr) -> Result<(u64, u64), Trouble> {
+        let why = || {
+            let text = text.display();
+            format!(
+                "'{text}' is not a decimal number, '+' and a hexadecimal one of at most 64 bits"
+            )
+        };
+        in_function(text.as_bytes()).ok_or_else(|| self.wrong(&why()))
     }
 
     /// The address that an argument writes.

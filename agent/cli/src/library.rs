@@ -12,7 +12,7 @@ pub struct Refusal {
     pub cause: &'static str,
 }
 
-/// The record that has an address, and a stopped frame.
+/// The record that is found, and a stopped frame.
 pub use treskibben::{Found, Frame};
 
 impl From<treskibben::Refusal> for Refusal {
@@ -30,9 +30,15 @@ pub fn check(section: &[u8]) -> Result<(), Refusal> {
     Ok(treskibben::check(section)?)
 }
 
-/// The question by address: 10 where no record has it.
+/// The question by address: 27 of a version 1 section, 10 where no record has it.
 pub fn find(section: &[u8], address: u64) -> Result<Found, Refusal> {
     Ok(treskibben::find(section, address)?)
+}
+
+/// The question by function and offset: 27 of a version 3 section, 10 where there is no such function or
+/// no record at the offset.
+pub fn find_in_function(section: &[u8], function: u64, offset: u64) -> Result<Found, Refusal> {
+    Ok(treskibben::find_in_function(section, function, offset)?)
 }
 
 /// The listing of a section.
@@ -40,7 +46,7 @@ pub fn listing_of(section: &[u8]) -> Result<Vec<u8>, Refusal> {
     Ok(treskibben::listing_of(section)?)
 }
 
-/// The section of a listing: refusals 1, 22, 23, and 5 to 8 of the section to be built.
+/// The section of a listing: refusals 1, 22, 23, 28, and 5 to 8 of the section to be built.
 pub fn section_of(listing: &[u8]) -> Result<Vec<u8>, Refusal> {
     Ok(treskibben::section_of(listing)?)
 }

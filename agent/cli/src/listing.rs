@@ -35,6 +35,8 @@ pub struct LiveOut {
 
 /// A listing: its tables read, its records still bytes.
 pub struct Listing<'a> {
+    /// Whether it is of version 1, which doesn't say which function has a record.
+    pub version_1: bool,
     pub functions: Vec<Function>,
     pub constants: Vec<u64>,
     records: Items<'a>,
@@ -44,6 +46,7 @@ impl<'a> Listing<'a> {
     /// Reads the tables of a listing.
     pub fn read(bytes: &'a [u8]) -> Listing<'a> {
         let mut items = Items(bytes);
+        let version_1 = items.next_of::<1>(7).is_some();
         let mut functions = Vec::new();
         while let Some(body) = items.next_of::<24>(1) {
             functions.push(Function {
@@ -57,21 +60,26 @@ impl<'a> Listing<'a> {
             constants.push(u64::from_le_bytes(*body));
         }
         Listing {
+            version_1,
             functions,
             constants,
             records: items,
         }
     }
 
-    /// The records in order, each with the number of its function.
-    pub fn records(&self) -> impl Iterator<Item = (usize, Record)> + use<'a, '_> {
-        let owners = self
+    /// The records in order, each with the number of its function; of version 1, whose functions count no
+    /// records, without.
+    pub fn records(&self) -> impl Iterator<Item = (Option<usize>, Record)> + use<'a, '_> {
+        let mut owners = self
             .functions
             .iter()
             .enumerate()
             .flat_map(|(number, function)| (0..function.record_count).map(move |_| number));
         let mut items = Items(self.records.0);
-        owners.map_while(move |owner| Some((owner, items.record()?)))
+        std::iter::from_fn(move || {
+            let record = items.record()?;
+            Some((owners.next(), record))
+        })
     }
 
     /// The 64-bit constant of a location that is one, of kind 4 or 5.

@@ -1,5 +1,5 @@
-//! Lists of numbers in plain text: one entry a line, hexadecimal numbers between blanks. A `#`
-//! begins a comment that runs to the end of its line; lines without numbers are passed over.
+//! Lists of numbers in plain text: one entry a line, its words between blanks. A `#` begins a comment
+//! that runs to the end of its line; lines without words are passed over.
 
 use crate::files;
 use crate::numbers::{count, hexadecimal};
@@ -11,61 +11,93 @@ const LIMIT: u64 = 16_777_216;
 
 /// One line of a list.
 #[derive(Clone, Copy, Debug, PartialEq, Eq)]
-pub struct Entry<const N: usize> {
+pub struct Entry<T> {
     /// The line's number in the file, from 1.
     pub line: usize,
-    pub numbers: [u64; N],
+    /// What it says.
+    pub value: T,
 }
 
-/// Reads a list whose lines have `N` numbers each; `form` names them.
-pub fn read<const N: usize>(path: &Path, form: &str) -> Result<Vec<Entry<N>>, Trouble> {
+/// What the lines of a list look like.
+pub struct Form<T> {
+    /// The names of the words, as they are told where a line is bad.
+    pub names: &'static str,
+    /// How many words a line has.
+    pub words: usize,
+    /// Takes a word to the line's value, by its number in the line, which may be any. Says why it is bad
+    /// where it is.
+    pub take: fn(&mut T, usize, &[u8]) -> Result<(), String>,
+}
+
+impl<const N: usize> Form<[u64; N]> {
+    /// Lines of `N` hexadecimal numbers with these names.
+    pub fn numbers(names: &'static str) -> Self {
+        Form {
+            names,
+            words: N,
+            take: |numbers, nth, word| {
+                let number = number(word)?;
+                if let Some(place) = numbers.get_mut(nth) {
+                    *place = number;
+                }
+                Ok(())
+            },
+        }
+    }
+}
+
+/// Reads a list whose lines look so.
+pub fn read<T: Default>(path: &Path, form: &Form<T>) -> Result<Vec<Entry<T>>, Trouble> {
     let text = files::read(path, LIMIT)?;
     if text.len() as u64 > LIMIT {
         let why = format!("a list has at most {LIMIT} bytes");
         return Err(Trouble::file(path, "is too long", why));
     }
     let bad = |line: usize, why: String| {
-        let path = path.display();
-        Trouble::File(format!("{path}:{line}: {why}; a line has the form {form}"))
+        let (path, names) = (path.display(), form.names);
+        Trouble::File(format!("{path}:{line}: {why}; a line has the form {names}"))
     };
     let mut entries = Vec::new();
     for (index, text) in text.split(|&byte| byte == b'\n').enumerate() {
         let line = index + 1;
-        if let Some(numbers) = entry(text).map_err(|why| bad(line, why))? {
-            entries.push(Entry { line, numbers });
+        if let Some(value) = entry(text, form).map_err(|why| bad(line, why))? {
+            entries.push(Entry { line, value });
         }
     }
     Ok(entries)
 }
 
-/// The numbers of a line; nothing where it is blank, and why it is bad where it is.
-fn entry<const N: usize>(line: &[u8]) -> Result<Option<[u64; N]>, String> {
+/// The value of a line; nothing where it is blank, and why it is bad where it is.
+pub fn entry<T: Default>(line: &[u8], form: &Form<T>) -> Result<Option<T>, String> {
     let text = line.split(|&byte| byte == b'#').next().unwrap_or(line);
     let words = text
         .split(u8::is_ascii_whitespace)
         .filter(|word| !word.is_empty());
-    let mut numbers = [0; N];
+    let mut value = T::default();
     let mut length = 0;
     for word in words {
-        let number = hexadecimal(word).ok_or_else(|| not_a_number(word))?;
-        if let Some(place) = numbers.get_mut(length) {
-            *place = number;
-        }
+        (form.take)(&mut value, length, word)?;
         length += 1;
     }
     match length {
         0 => Ok(None),
-        length if length == N => Ok(Some(numbers)),
-        length => Err(count(length as u64, "number")),
+        length if length == form.words => Ok(Some(value)),
+        length => Err(count(length as u64, "word")),
     }
 }
 
-/// Says of a word that it is no number; of a long word, only the beginning is shown.
-fn not_a_number(word: &[u8]) -> String {
+/// The hexadecimal number that a word writes.
+pub fn number(word: &[u8]) -> Result<u64, String> {
+    let number = hexadecimal(word);
+    number.ok_or_else(|| is_not(word, "a hexadecimal number of at most 64 bits"))
+}
+
+/// Says of a word what it is not; of a long word, only the beginning is shown.
+pub fn is_not(word: &[u8], what: &str) -> String {
     const SHOWN: usize = 32;
     let text = word[..word.len().min(SHOWN)].escape_ascii();
     let dots = if word.len() > SHOWN { ".." } else { "" };
-    format!("'{text}{dots}' is not a hexadecimal number of at most 64 bits")
+    format!("'{text}{dots}' is not {what}")
 }
 
 #[cfg(test)]
@@ -74,7 +106,7 @@ mod tests {
 
     #[test]
     fn lines() {
-        let good = |text: &str| entry::<2>(text.as_bytes()).unwrap();
+        let good = |text: &str| entry(text.as_bytes(), &Form::<[u64; 2]>::numbers("")).unwrap();
         for text in ["", "   ", "# 1 2", "\t#", "\r", "#"] {
             assert_eq!(good(text), None, "{text:?}");
         }
@@ -93,10 +125,10 @@ mod tests {
 
     #[test]
     fn bad_lines() {
-        let bad = |text: &[u8]| entry::<2>(text).unwrap_err();
-        assert_eq!(bad(b"1"), "1 number");
-        assert_eq!(bad(b"1 2 3"), "3 numbers");
-        assert_eq!(bad(b"1 2 3 4 # 5"), "4 numbers");
+        let bad = |text: &[u8]| entry(text, &Form::<[u64; 2]>::numbers("")).unwrap_err();
+        assert_eq!(bad(b"1"), "1 word");
+        assert_eq!(bad(b"1 2 3"), "3 words");
+        assert_eq!(bad(b"1 2 3 4 # 5"), "4 words");
         assert!(bad(b"1 2, 3").starts_with("'2,' is not"));
         assert!(bad(b"1 \x1b[2J").starts_with("'\\x1b[2J' is not"));
         assert!(bad(&[0; 5000]).starts_with(&format!("'{}..' is not", "\\x00".repeat(32))));

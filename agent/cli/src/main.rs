@@ -9,6 +9,7 @@
 mod arguments;
 mod commands;
 mod files;
+mod frames;
 mod library;
 mod listing;
 mod lists;
@@ -60,8 +61,8 @@ fn run(mut arguments: Vec<OsString>) -> Result<Status, Trouble> {
 /// The help of the whole program.
 fn help() -> String {
     let mut text = String::from(
-        "LLVM stack map sections, version 3: checked, listed, built, searched, cut; and the frames of
-a stopped thread moved to where its heap has come back.
+        "LLVM stack map sections, versions 3 and 1: checked, listed, built, searched, cut; and the frames
+of a stopped thread moved to where its heap has come back.
 
 usage: treskibben COMMAND ARGUMENT..
 

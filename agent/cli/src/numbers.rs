@@ -16,6 +16,24 @@ pub fn hexadecimal(text: &[u8]) -> Option<u64> {
     })
 }
 
+/// The number that decimal digits write; nothing where it has other characters or more than 64 bits.
+pub fn decimal(text: &[u8]) -> Option<u64> {
+    if text.is_empty() {
+        return None;
+    }
+    text.iter().try_fold(0u64, |number, &digit| {
+        let digit = char::from(digit).to_digit(10)?;
+        number.checked_mul(10)?.checked_add(digit.into())
+    })
+}
+
+/// A function's number and an offset, as `FUNCTION+OFFSET` writes them: the number in decimal, as the
+/// listings tell it, the offset in hexadecimal. Nothing where it is not of this form.
+pub fn in_function(text: &[u8]) -> Option<(u64, u64)> {
+    let plus = text.iter().position(|&byte| byte == b'+')?;
+    Some((decimal(&text[..plus])?, hexadecimal(&text[plus + 1..])?))
+}
+
 /// A number of things, in words: `1 record`, `2 records`.
 pub fn count(number: u64, thing: &str) -> String {
     let plural = if number == 1 { "" } else { "s" };
@@ -61,6 +79,42 @@ mod tests {
             "0x1ffffffffffffffff",
         ] {
             assert_eq!(hexadecimal(text.as_bytes()), None, "{text}");
+        }
+    }
+
+    #[test]
+    fn functions_are_decimal_and_offsets_hexadecimal() {
+        for (text, parts) in [
+            ("0+0", (0, 0)),
+            ("10+20", (10, 0x20)),
+            ("007+0x0020", (7, 0x20)),
+            (
+                "18446744073709551615+ffffffffffffffff",
+                (u64::MAX, u64::MAX),
+            ),
+        ] {
+            assert_eq!(in_function(text.as_bytes()), Some(parts), "{text}");
+        }
+        for text in [
+            "",
+            "+",
+            "1",
+            "0x1020",
+            "1+",
+            "+1",
+            "a+1",
+            "0x1+1",
+            "1++1",
+            "+1+1",
+            "1+1+1",
+            "1 +1",
+            "1+-1",
+            "1+g",
+            "18446744073709551616+0",
+            "0+10000000000000000",
+            "-1+0",
+        ] {
+            assert_eq!(in_function(text.as_bytes()), None, "{text}");
         }
     }
 }

@@ -1,6 +1,6 @@
 //! A listing in words, for people.
 
-use crate::listing::{role, Function, Listing, Location, Record, Role};
+use crate::listing::{role, Listing, Location, Record, Role};
 use crate::numbers::count;
 use crate::registers::Machine;
 use std::io::{self, Write};
@@ -8,36 +8,39 @@ use std::io::{self, Write};
 /// The stack size that means not known.
 const UNKNOWN: u64 = u64::MAX;
 
-/// Writes all that a section says: its functions with their records, then its constants.
+/// Writes all that a section says: its functions with their records, then its constants. Of version 1 all
+/// records come after the functions.
 pub fn section(
     out: &mut dyn Write,
     listing: &Listing,
     length: usize,
     machine: Machine,
 ) -> io::Result<()> {
-    let total: u64 = listing
-        .functions
-        .iter()
-        .map(|function| function.record_count)
-        .sum();
     writeln!(
         out,
-        "section: {}, {}, {}, {}",
+        "section: {}{}, {}, {}, {}",
+        if listing.version_1 { "version 1, " } else { "" },
         count(length as u64, "byte"),
         count(listing.functions.len() as u64, "function"),
         count(listing.constants.len() as u64, "constant"),
-        count(total, "record"),
+        count(listing.records().count() as u64, "record"),
     )?;
-    let mut records = listing.records().enumerate().peekable();
+    let mut records = listing.records().zip(0..).peekable();
     for (number, function) in listing.functions.iter().enumerate() {
-        self::function(out, number, function)?;
-        while let Some((index, (_, record))) = records.next_if(|(_, (owner, _))| *owner == number) {
-            let title = Title {
-                index: index as u64,
-                address: function.address.wrapping_add(record.offset.into()),
-            };
-            self::record(out, listing, &title, &record, machine)?;
+        self::function(out, listing, number)?;
+        while let Some(((_, record), index)) =
+            records.next_if(|((owner, _), _)| *owner == Some(number))
+        {
+            let address = Some(function.address.wrapping_add(record.offset.into()));
+            self::record(out, listing, &Title { index, address }, &record, machine)?;
         }
+    }
+    for ((_, record), index) in records {
+        let title = Title {
+            index,
+            address: None,
+        };
+        self::record(out, listing, &title, &record, machine)?;
     }
     for (number, constant) in listing.constants.iter().enumerate() {
         writeln!(out, "constant {number}: {constant} ({constant:#x})")?;
@@ -45,27 +48,31 @@ pub fn section(
     Ok(())
 }
 
-/// Writes what a section says of a function.
-pub fn function(out: &mut dyn Write, number: usize, function: &Function) -> io::Result<()> {
+/// Writes what a section says of the function with this number.
+pub fn function(out: &mut dyn Write, listing: &Listing, number: usize) -> io::Result<()> {
+    let function = &listing.functions[number];
     let stack_size = match function.stack_size {
         UNKNOWN => "not known".to_string(),
         known => known.to_string(),
     };
+    let records = match listing.version_1 {
+        true => String::new(),
+        false => format!(", {}", count(function.record_count, "record")),
+    };
+    let address = function.address;
     writeln!(
         out,
-        "function {number} at {:#x}: stack size {stack_size}, {}",
-        function.address,
-        count(function.record_count, "record"),
+        "function {number} at {address:#x}: stack size {stack_size}{records}"
     )
 }
 
-/// The number of a record and its address.
+/// The number of a record and, where its function is known, its address.
 pub struct Title {
     pub index: u64,
-    pub address: u64,
+    pub address: Option<u64>,
 }
 
-/// Writes what a section says of a record.
+/// Writes what a section says of a record: indented, as the function's own, where that is known.
 pub fn record(
     out: &mut dyn Write,
     listing: &Listing,
@@ -73,7 +80,11 @@ pub fn record(
     record: &Record,
     machine: Machine,
 ) -> io::Result<()> {
-    let (index, address) = (title.index, title.address);
+    let index = title.index;
+    let (indent, at) = match title.address {
+        Some(address) => ("  ", format!(" at {address:#x}")),
+        None => ("", String::new()),
+    };
     let (id, offset) = (record.id, record.offset);
     let kind = match record.pairs() {
         Some(pairs) => format!(", statepoint of {}", count(pairs as u64, "pair")),
@@ -81,7 +92,7 @@ pub fn record(
     };
     writeln!(
         out,
-        "  record {index} at {address:#x}: ID {id}, offset {offset:#x}{kind}"
+        "{indent}record {index}{at}: ID {id}, offset {offset:#x}{kind}"
     )?;
     for (number, location) in record.locations.iter().enumerate() {
         let place = place(listing, location, machine);
@@ -90,13 +101,16 @@ pub fn record(
             Some(deopt) => purpose(listing, record, role(number, deopt), deopt),
             None => String::new(),
         };
-        writeln!(out, "    location {number}: {place}, size {size}{purpose}")?;
+        writeln!(
+            out,
+            "{indent}  location {number}: {place}, size {size}{purpose}"
+        )?;
     }
     for (number, live_out) in record.live_outs.iter().enumerate() {
         let register = machine.register(live_out.register);
         writeln!(
             out,
-            "    live-out {number}: {register}, size {}",
+            "{indent}  live-out {number}: {register}, size {}",
             live_out.size
         )?;
     }

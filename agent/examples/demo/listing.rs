@@ -3,13 +3,14 @@
 use treskibben::Refusal;
 
 /// The items of a listing, by kind from 1: name and number of bytes.
-const ITEMS: [(&str, usize); 6] = [
+const ITEMS: [(&str, usize); 7] = [
     ("function", 25),
     ("constant", 9),
     ("record", 13),
     ("location", 10),
     ("live-out", 4),
     ("end", 1),
+    ("version", 2),
 ];
 
 /// Bytes of a section to a line.

@@ -118,11 +118,7 @@ unsafe fn caller(stopped: &Stopped, chained: bool) -> Frame {
     }
     // SAFETY: the word is the one after the frame.
     let address = unsafe { word(end) };
-    Frame {
-        address,
-        rbp,
-        rsp: end + 8,
-    }
+    Frame::new(address, rbp, end + 8)
 }
 
 /// # Safety

@@ -5,9 +5,9 @@
 
 use crate::heap::Table;
 use crate::image::Image;
-use treskibben::MoveTable;
+use treskibben::{Frames, MoveTable};
 
-/// A stopped frame: its address, RBP and RSP.
+/// A stopped frame: its address, RBP and RSP. The maps are of version 3, which reads no function of it.
 pub use treskibben::Frame;
 
 /// A refusal: its number and its place.
@@ -109,9 +109,8 @@ pub fn second_thread(
     frames: &[Frame],
 ) -> Result<u64, Refusal> {
     let Image { first, bytes } = image;
-    let numbers = |frame: &Frame| [frame.address, frame.rbp, frame.rsp];
-    let list: Vec<u64> = frames.iter().flat_map(numbers).collect();
-    reference::thread(map, bytes, *first, &table.old, &table.new, &list).map_err(second_plain)
+    let list = Frames::new(frames).numbers();
+    reference::thread(map, bytes, *first, &table.old, &table.new, list).map_err(second_plain)
 }
 
 fn plain(refusal: treskibben::Refusal) -> Refusal {

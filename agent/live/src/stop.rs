@@ -82,11 +82,7 @@ extern "C" fn stopped(saved: *const Saved, rsp: u64) {
         rbp,
         ..
     } = unsafe { saved.read() };
-    let deepest = Frame {
-        address: return_address,
-        rbp,
-        rsp,
-    };
+    let deepest = Frame::new(return_address, rbp, rsp);
     RUNNING.with_borrow_mut(|running| {
         let running = running.as_mut().expect("a run is under way");
         // SAFETY: the frame is the one that called `live_stop`, and waits until it returns.

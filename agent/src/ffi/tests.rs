@@ -99,6 +99,7 @@ fn a_refused_move_has_0_pairs_and_an_accepted_one_no_place() {
             address: stop.address,
             rbp: stop.rbp,
             rsp: stop.rsp,
+            function: stop.function,
         };
         let (olds, news) = (&scene.table.olds, &scene.table.news);
         let answer = relocate(&section, &mut scene.image, scene.first, olds, news, frame);

@@ -7,7 +7,7 @@ fn refusal(number: u64, place: u64) -> ThreadRefusal {
 
 #[test]
 fn numbers_of_a_frame_have_its_position_and_no_others() {
-    for number in 1..=26 {
+    for number in 1..=28 {
         let of_frame = [10, 12, 15, 16, 17, 18, 19, 20, 21, 26].contains(&number);
         let position = refusal(number, 7).position();
         assert_eq!(position, of_frame.then_some(7), "{number}");
@@ -23,26 +23,27 @@ fn the_position_stands_behind_the_cause() {
     );
     assert_eq!(
         text(25, 0),
-        "refused 25 at 0: list of frames not a multiple of three numbers, or over 4,096 frames"
+        "refused 25 at 0: list of frames not a multiple of four numbers, or over 4,096 frames"
     );
-    assert_eq!(text(2, 0), "refused 2 at 0: version not 3");
+    assert_eq!(text(2, 0), "refused 2 at 0: version neither 1 nor 3");
     assert_eq!(
-        text(10, 4095),
-        "refused 10 at 4095: no record of that number or address (frame 4095)"
+        text(15, 4095),
+        "refused 15 at 4095: more than one record at the address or offset (frame 4095)"
     );
 }
 
 #[test]
-fn frames_are_a_list_of_three_numbers_each() {
+fn frames_are_a_list_of_four_numbers_each() {
     let frame = |number| Frame {
         address: number,
         rbp: number + 1,
         rsp: number + 2,
+        function: number + 3,
     };
-    let frames: Vec<Frame> = (0..5).map(|nth| frame(3 * nth)).collect();
-    let numbers: Vec<u64> = (0..15).collect();
+    let frames: Vec<Frame> = (0..5).map(|nth| frame(4 * nth)).collect();
+    let numbers: Vec<u64> = (0..20).collect();
     assert_eq!(Frames::from(&frames), Frames::of_numbers(&numbers));
-    assert_eq!(Frames::new(&frames[1..3]).numbers(), &numbers[3..9]);
+    assert_eq!(Frames::new(&frames[1..3]).numbers(), &numbers[4..12]);
     assert_eq!(Frames::new(&[]), Frames::default());
-    assert_eq!(Frames::from(&[frame(7)]).numbers(), [7, 8, 9]);
+    assert_eq!(Frames::from(&[frame(7)]).numbers(), [7, 8, 9, 10]);
 }

@@ -14,10 +14,10 @@ pub const COMMAND: Command = Command {
     help: "\
 usage: treskibben check FILE..
 
-Says of each file whether it is a whole version 3 stack map section and nothing else. 'FILE:
-accepted' goes to standard output. A refusal goes to standard error: a line 'refused NUMBER at
-PLACE', and a line with the file and the cause in words. All files are looked at, whatever is found
-in the earlier ones.
+Says of each file whether it is a whole stack map section, of version 3 or 1, and nothing else.
+'FILE: accepted' goes to standard output. A refusal goes to standard error: a line 'refused NUMBER
+at PLACE', and a line with the file and the cause in words. All files are looked at, whatever is
+found in the earlier ones.
 
 A linker puts the maps of several objects one after the other. Such a file is refused by 9 at the
 second map: 'treskibben cut' takes it apart.

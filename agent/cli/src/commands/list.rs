@@ -18,7 +18,9 @@ usage: treskibben list [--text] [--machine NAME] [--output FILE] FILE
 Writes the listing of a section: the raw bytes that 'treskibben build' makes the section from again.
 
   --text           for people: functions, their records with addresses, locations by kind and
-                   register, what they are for in a statepoint, live-outs, and the constants
+                   register, what they are for in a statepoint, live-outs, and the constants. A
+                   section of version 1 doesn't say which function has a record: all records come
+                   after the functions there, with their offsets alone
   --machine NAME   whose register names the text has: x86-64 (the default) or aarch64
   --output FILE    writes to a file instead of standard output; nothing is written on a refusal
 ",

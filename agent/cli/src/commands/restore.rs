@@ -2,8 +2,9 @@
 
 use super::Command;
 use crate::arguments::{Arguments, Form};
+use crate::frames::Naming;
 use crate::library::{self, Frame, Refusal, Table};
-use crate::lists::{self, Entry};
+use crate::lists::{self, Entry, Form as Lines};
 use crate::numbers::count;
 use crate::replace::Held;
 use crate::trouble::{Status, Trouble};
@@ -24,10 +25,11 @@ or a fault the image file stays byte for byte as it was.
   --image FILE      the bytes of the stack, which are replaced; at most 1,048,576
   --first ADDRESS   the address of the image's first byte
   --moves FILE      where the objects of the heap were and are: lines 'OLD NEW', old starts rising
-  --frames FILE     the stopped frames: lines 'ADDRESS RBP RSP'; at most 4,096
+  --frames FILE     the stopped frames: lines 'ADDRESS RBP RSP'; at most 4,096. For a section of
+                    version 1 the lines are 'FUNCTION+OFFSET RBP RSP'
 
-Numbers are hexadecimal, with or without 0x. In the lists, '#' begins a comment, and blank lines
-are passed over.
+Numbers are hexadecimal, with or without 0x; a function's number is decimal, as 'list --text' tells
+it. In the lists, '#' begins a comment, and blank lines are passed over.
 
 Refusals come in this order: 1 to 9 of the section, 13 of the image, 14 of the moves, 25 of the
 frames as a list; then the first frame of the list that is refused by itself, by 10, 15, 12, or 16
@@ -68,15 +70,16 @@ fn run(arguments: Vec<OsString>) -> Result<Status, Trouble> {
 fn restore(call: &Call, first: u64) -> Result<(), Trouble> {
     let section = files::read(&call.section, files::SECTION)?;
     let table = table(&call.moves)?;
-    let lines = lists::read::<3>(&call.frames, "ADDRESS RBP RSP")?;
-    let frames: Vec<Frame> = lines.iter().map(frame).collect();
+    let naming = Naming::of(&section);
+    let lines = naming.read(&call.frames)?;
+    let frames: Vec<Frame> = lines.iter().map(|entry| entry.value).collect();
     let mut held = Held::open(&call.image)?;
     let mut image = held.read(files::IMAGE)?;
     let moved = library::relocate_thread(&section, &mut image, first, &table, &frames);
     let pairs = moved.map_err(|(refusal, position)| {
         let frame = position.map(|position| {
             let pair = library::pair_at_fault(&section, &image, first, &table, frames[position]);
-            call.frame(position, &lines[position], pair)
+            call.frame(position, &lines[position], naming, pair)
         });
         call.words(refusal, frame)
     })?;
@@ -89,25 +92,26 @@ fn restore(call: &Call, first: u64) -> Result<(), Trouble> {
 }
 
 fn table(path: &Path) -> Result<Table, Trouble> {
-    let moves = lists::read::<2>(path, "OLD NEW")?;
+    let moves = lists::read(path, &Lines::<[u64; 2]>::numbers("OLD NEW"))?;
     Ok(Table {
-        old: moves.iter().map(|entry| entry.numbers[0]).collect(),
-        new: moves.iter().map(|entry| entry.numbers[1]).collect(),
+        old: moves.iter().map(|entry| entry.value[0]).collect(),
+        new: moves.iter().map(|entry| entry.value[1]).collect(),
     })
-}
-
-fn frame(entry: &Entry<3>) -> Frame {
-    let [address, rbp, rsp] = entry.numbers;
-    Frame { address, rbp, rsp }
 }
 
 impl Call {
     /// A frame of the list, by its position, its line and, where there is one, the pair at fault.
-    fn frame(&self, position: usize, entry: &Entry<3>, pair: Option<u64>) -> String {
-        let [address, rbp, rsp] = entry.numbers;
+    fn frame(
+        &self,
+        position: usize,
+        entry: &Entry<Frame>,
+        naming: Naming,
+        pair: Option<u64>,
+    ) -> String {
+        let words = naming.words(&entry.value);
         let (file, line) = (self.frames.display(), entry.line);
         let pair = pair.map_or(String::new(), |pair| format!(", pair {pair}"));
-        format!("frame {position} ({file}:{line}, address {address:#x}, RBP {rbp:#x}, RSP {rsp:#x}){pair}")
+        format!("frame {position} ({file}:{line}, {words}){pair}")
     }
 
     /// What is said of a refused restore, by a frame or by a file.

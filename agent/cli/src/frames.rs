@@ -1,0 +1,161 @@
+//! The list of stopped frames. Where a frame stands is told by an address or, for a section of version
+//! 1, by the number of its function and an offset: each version has lines of its own.
+
+use crate::library::Frame;
+use crate::lists::{is_not, number, read, Entry, Form};
+use crate::numbers::in_function;
+use crate::trouble::Trouble;
+use std::path::Path;
+
+/// How a section names the place of a frame.
+#[derive(Clone, Copy, Debug, PartialEq, Eq)]
+pub enum Naming {
+    Address,
+    InFunction,
+}
+
+/// The numbers of a line in the library's order: address or offset, RBP, RSP, function.
+type Numbers = [u64; 4];
+
+impl Naming {
+    /// The naming of a section, which its first byte, the version, decides. Whether it is a section at all
+    /// is not asked here.
+    pub fn of(section: &[u8]) -> Naming {
+        match section.first() {
+            Some(1) => Naming::InFunction,
+            _ => Naming::Address,
+        }
+    }
+
+    /// What a line looks like.
+    fn form(self) -> Form<Numbers> {
+        match self {
+            Naming::Address => Form {
+                names: "ADDRESS RBP RSP",
+                words: 3,
+                take: other_word,
+            },
+            Naming::InFunction => Form {
+                names: "FUNCTION+OFFSET RBP RSP",
+                words: 3,
+                take: |numbers, nth, word| match nth {
+                    0 => first_word(numbers, word),
+                    _ => other_word(numbers, nth, word),
+                },
+            },
+        }
+    }
+
+    /// The frames of a list.
+    pub fn read(self, path: &Path) -> Result<Vec<Entry<Frame>>, Trouble> {
+        let entries = read(path, &self.form())?;
+        let frame = |Entry { line, value }: Entry<Numbers>| {
+            let [address, rbp, rsp, function] = value;
+            let value = Frame {
+                address,
+                rbp,
+                rsp,
+                function,
+            };
+            Entry { line, value }
+        };
+        Ok(entries.into_iter().map(frame).collect())
+    }
+
+    /// A frame in words.
+    pub fn words(self, frame: &Frame) -> String {
+        let Frame {
+            address,
+            rbp,
+            rsp,
+            function,
+        } = frame;
+        let place = match self {
+            Naming::Address => format!("address {address:#x}"),
+            Naming::InFunction => format!("function {function}, offset {address:#x}"),
+        };
+        format!("{place}, RBP {rbp:#x}, RSP {rsp:#x}")
+    }
+}
+
+/// Takes the first word of a line that names a function.
+fn first_word(numbers: &mut Numbers, word: &[u8]) -> Result<(), String> {
+    let what = "a function's decimal number, '+' and a hexadecimal offset";
+    let (function, offset) = in_function(word).ok_or_else(|| is_not(word, what))?;
+    (numbers[0], numbers[3]) = (offset, function);
+    Ok(())
+}
+
+/// Takes a word that is a hexadecimal number. No word beyond the third is kept.
+fn other_word(numbers: &mut Numbers, nth: usize, word: &[u8]) -> Result<(), String> {
+    let number = number(word)?;
+    if let Some(place) = numbers[..3].get_mut(nth) {
+        *place = number;
+    }
+    Ok(())
+}
+
+#[cfg(test)]
+mod tests {
+    use super::*;
+    use crate::lists::entry;
+
+    fn numbers(naming: Naming, line: &str) -> Result<Option<Numbers>, String> {
+        entry(line.as_bytes(), &naming.form())
+    }
+
+    #[test]
+    fn the_version_decides() {
+        for (section, naming) in [
+            (&[][..], Naming::Address),
+            (&[3], Naming::Address),
+            (&[1, 3], Naming::InFunction),
+            (&[2], Naming::Address),
+        ] {
+            assert_eq!(Naming::of(section), naming, "{section:?}");
+        }
+    }
+
+    #[test]
+    fn each_version_has_its_lines() {
+        let address = |line| numbers(Naming::Address, line);
+        let function = |line| numbers(Naming::InFunction, line);
+        assert_eq!(address("1020 1 0x7000"), Ok(Some([0x1020, 1, 0x7000, 0])));
+        assert_eq!(
+            function("10+20 1 0x7000 # 5"),
+            Ok(Some([0x20, 1, 0x7000, 10]))
+        );
+        assert_eq!(address(" # 1 2 3"), Ok(None));
+        assert_eq!(function(" # 1+2 3 4"), Ok(None));
+        assert_eq!(address("1 2 3 4"), Err("4 words".to_string()));
+        assert_eq!(function("1+2 3"), Err("2 words".to_string()));
+        assert_eq!(function("1+2 3 4 5"), Err("4 words".to_string()));
+        for (line, bad) in [("0+20 0 7000", "0+20"), ("20 0 7000+1", "7000+1")] {
+            let start = format!("'{bad}' is not a hexadecimal number");
+            assert!(
+                address(line).is_err_and(|why| why.starts_with(&start)),
+                "{line}"
+            );
+        }
+        for (line, bad) in [
+            ("1020 0 7000", "1020"),
+            ("a+20 0 7000", "a+20"),
+            ("0+ 20 0", "0+"),
+        ] {
+            let start = format!("'{bad}' is not a function's decimal number");
+            assert!(
+                function(line).is_err_and(|why| why.starts_with(&start)),
+                "{line}"
+            );
+        }
+    }
+
+    #[test]
+    fn frames_in_words() {
+        let frame = Frame::in_function(10, 0x20, 1, 0x7000);
+        let words = Naming::InFunction.words(&frame);
+        assert_eq!(words, "function 10, offset 0x20, RBP 0x1, RSP 0x7000");
+        let words = Naming::Address.words(&frame);
+        assert_eq!(words, "address 0x20, RBP 0x1, RSP 0x7000");
+    }
+}

@@ -1,0 +1,155 @@
+/*
+ * Moves frames and whole threads of version 1 from C: row I's frame by function and offset, those beside
+ * it that are refused, and lists of them.
+ */
+#include "moves.h"
+#include "rows.h"
+#include "tally.h"
+#include "treskibben.h"
+
+#include <stdio.h>
+#include <string.h>
+
+/* Where row H has what the rows change: its number of records, the stack size, the record and its length,
+ * and the sizes of the last pair's locations. */
+enum { RECORDS = 12, STACK_SIZE = 24, RECORD = 32, RECORD_LENGTH = 80 };
+enum { BASE_SIZE = 89, DERIVED_SIZE = 97 };
+
+/* Slots on the stack, of which the first three are row I's frame. */
+enum { SLOTS = 6 };
+
+#define FIRST UINT64_C(0x7000)
+#define OLD UINT64_C(0x50000)
+#define NEW UINT64_C(0x90000)
+#define DERIVED UINT64_C(0x4e20) /* how far the second slot points behind its base */
+#define HIGH ((uint64_t)1 << 32)
+
+/* What differs from row H: the sizes of the last pair's locations, how many times the record stands
+ * there, and whether the stack size is not known. */
+struct section {
+    uint8_t base_size, derived_size;
+    uint8_t records;
+    int unknown;
+};
+
+#define AS_H {8, 8, 1, 0}
+
+/* A frame, the answer to its move, and whether it is moved. */
+struct row {
+    const char *name;
+    struct section section;
+    treskibben_frame frame;
+    uint64_t answer[3];
+    int moved;
+};
+
+static const struct row rows[] = {
+    {"I", AS_H, {0x20, 0, 0x7000, 0}, {0, 0, 2}, 1},
+    {"base size 0", {0, 8, 1, 0}, {0x20, 0, 0x7000, 0}, {0, 0, 2}, 1},
+    {"derived size 0", {8, 0, 1, 0}, {0x20, 0, 0x7000, 0}, {0, 0, 2}, 1},
+    {"sizes 0", {0, 0, 1, 0}, {0x20, 0, 0x7000, 0}, {0, 0, 2}, 1},
+    {"base size 16", {16, 8, 1, 0}, {0x20, 0, 0x7000, 0}, {18, 1, 0}, 0},
+    {"derived size 255", {8, 255, 1, 0}, {0x20, 0, 0x7000, 0}, {18, 1, 0}, 0},
+    {"another offset", AS_H, {0x21, 0, 0x7000, 0}, {10, 0, 0}, 0},
+    {"an address", AS_H, {0x1020, 0, 0x7000, 0}, {10, 0, 0}, 0},
+    {"an offset of 33 bits", AS_H, {HIGH + 0x20, 0, 0x7000, 0}, {10, 0, 0}, 0},
+    {"no such function", AS_H, {0x20, 0, 0x7000, 1}, {10, 0, 0}, 0},
+    {"a function of 33 bits", AS_H, {0x20, 0, 0x7000, HIGH}, {10, 0, 0}, 0},
+    {"two records", {8, 8, 2, 0}, {0x20, 0, 0x7000, 0}, {15, 0, 0}, 0},
+    {"two records, no such function", {8, 8, 2, 0}, {0x20, 0, 0x7000, 1}, {10, 0, 0}, 0},
+    {"stack size unknown", {8, 8, 1, 1}, {0x20, 0, 0x7000, 0}, {16, 0, 0}, 0},
+    {"outside", AS_H, {0x20, 0, 0x6fff, 0}, {16, 0, 0}, 0},
+    {"base of no object", AS_H, {0x20, 0, 0x7008, 0}, {21, 0, 0}, 0},
+};
+
+/* Row I's frame at an RSP, and one of a function that isn't there. */
+#define AT(rsp) 0x20, 0, (rsp), 0
+#define NOWHERE 0x20, 0, 0x7000, 1
+
+/* A list of frames, the answer, and whether they are moved. */
+struct list {
+    const char *name;
+    size_t length;
+    uint64_t numbers[12];
+    uint64_t answer[3];
+    int moved;
+};
+
+static const struct list lists[] = {
+    {"none", 0, {0}, {0, 0, 0}, 0},
+    {"one", 4, {AT(0x7000)}, {0, 0, 2}, 1},
+    {"two", 8, {AT(0x7018), AT(0x7000)}, {0, 0, 4}, 1},
+    {"three numbers", 3, {AT(0x7000)}, {25, 0, 0}, 0},
+    {"six numbers", 6, {AT(0x7000), AT(0x7018)}, {25, 0, 0}, 0},
+    {"nine numbers", 9, {AT(0x7000), AT(0x7018), 0}, {25, 0, 0}, 0},
+    {"no such function", 8, {AT(0x7000), NOWHERE}, {10, 1, 0}, 0},
+    {"no such function first", 8, {NOWHERE, AT(0x7008)}, {10, 0, 0}, 0},
+    {"outside", 12, {AT(0x7000), AT(0x7018), AT(0x7019)}, {16, 2, 0}, 0},
+    {"one twice", 8, {AT(0x7000), AT(0x7000)}, {26, 1, 0}, 0},
+    {"one byte shared", 8, {AT(0x7000), AT(0x7017)}, {26, 1, 0}, 0},
+};
+
+static const uint64_t old_start = OLD, new_start = NEW;
+
+/* Writes the section, and gives its length. */
+static size_t build(uint8_t *bytes, const struct section *section)
+{
+    memcpy(bytes, row_h_1, sizeof row_h_1);
+    memcpy(bytes + sizeof row_h_1, row_h_1 + RECORD, RECORD_LENGTH);
+    bytes[RECORDS] = section->records;
+    bytes[BASE_SIZE] = section->base_size;
+    bytes[DERIVED_SIZE] = section->derived_size;
+    if (section->unknown) {
+        memset(bytes + STACK_SIZE, 255, 8);
+    }
+    return RECORD + (size_t)RECORD_LENGTH * section->records;
+}
+
+/* The stack with row I's frame and zeros. */
+static void put_stack(uint8_t *image, uint64_t base)
+{
+    memset(image, 0, 8 * SLOTS);
+    put(image, 7);
+    put(image + 8, base);
+    put(image + 16, base + DERIVED);
+}
+
+static int passes(const struct row *row)
+{
+    uint8_t section[sizeof row_h_1 + RECORD_LENGTH], image[8 * SLOTS], after[8 * SLOTS];
+    const size_t length = build(section, &row->section);
+    treskibben_answer answer;
+
+    put_stack(image, OLD);
+    put_stack(after, row->moved ? NEW : OLD);
+    answer = treskibben_relocate(section, length, image, sizeof image, FIRST, &old_start, 1,
+                                 &new_start, 1, row->frame);
+    return passed(row->name, row->answer, answer, memcmp(image, after, sizeof image) == 0);
+}
+
+static int list_passes(const struct list *list)
+{
+    uint8_t image[8 * SLOTS], after[8 * SLOTS];
+    treskibben_answer answer;
+
+    put_stack(image, OLD);
+    put_stack(after, list->moved ? NEW : OLD);
+    answer = treskibben_thread(row_h_1, sizeof row_h_1, image, sizeof image, FIRST, &old_start, 1,
+                               &new_start, 1, list->numbers, list->length);
+    return passed(list->name, list->answer, answer, memcmp(image, after, sizeof image) == 0);
+}
+
+int main(void)
+{
+    const size_t frames = sizeof rows / sizeof rows[0], threads = sizeof lists / sizeof lists[0];
+    size_t passed = 0;
+    size_t i;
+
+    for (i = 0; i < frames; i++) {
+        passed += (size_t)passes(&rows[i]);
+    }
+    for (i = 0; i < threads; i++) {
+        passed += (size_t)list_passes(&lists[i]);
+    }
+    return tally(passed, frames + threads);
+}
