@@ -1,7 +1,7 @@
 //! Damages that aim at one refusal. On a section without fault each gives exactly that refusal,
 //! and says at which place.
 
-use crate::layout::{Built, Section, CONSTANT, COUNTS, FUNCTION, HEADER};
+use crate::layout::{Built, Section, Version, CONSTANT, COUNTS, HEADER};
 use crate::rng::Rng;
 
 /// The largest number of locations, or of live-outs, that a record can state.
@@ -10,9 +10,20 @@ const MOST: usize = 65_535;
 /// Kinds that no location has.
 pub(crate) const WRONG_KINDS: [u8; 6] = [0, 6, 7, 0x80, 0x85, 0xff];
 
+/// The first bytes, of all 254, that are most easily taken for a version.
+const WRONG_VERSIONS: [u64; 8] = [0, 2, 4, 7, 0x13, 0x81, 0x83, 0xff];
+
+/// The refusals that a section of this version can have.
+pub fn numbers(version: Version) -> &'static [u64] {
+    match version {
+        Version::One => &[1, 2, 3, 4, 6, 7, 9],
+        Version::Three => &[1, 2, 3, 4, 5, 6, 7, 8, 9],
+    }
+}
+
 /// Damages `built`, the bytes of `section`, so that the check gives this refusal, 1 to 9, and says
-/// at which place it does. `None` where the section has no part that can be damaged so; its bytes
-/// are then as they were.
+/// at which place it does. `None` where the section has no part that can be damaged so, as none of
+/// version 1 can be for 5 and 8; its bytes are then as they were.
 pub fn aim(rng: &mut Rng, number: u64, section: &Section, built: &mut Built) -> Option<usize> {
     match number {
         1 => short(rng, built),
@@ -34,7 +45,16 @@ fn short(rng: &mut Rng, built: &mut Built) -> Option<usize> {
 }
 
 fn version(rng: &mut Rng, built: &mut Built) -> Option<usize> {
-    let version = rng.pick(&[0, 1, 2, 4, 0x83, 0xff]);
+    let any = loop {
+        let any = rng.byte();
+        if !Version::ALL.iter().any(|version| version.number() == any) {
+            break any.into();
+        }
+    };
+    let version = match rng.below(2) {
+        0 => any,
+        _ => rng.pick(&WRONG_VERSIONS),
+    };
     built.set(0, 1, version);
     Some(0)
 }
@@ -63,6 +83,7 @@ fn not_inside(rng: &mut Rng, section: &Section, built: &mut Built) -> Option<usi
         1 => many_constants(rng, section, built),
         2 => many_locations(rng, built),
         3 => many_live_outs(rng, built),
+        4 if section.version == Version::One => many_records(rng, section, built),
         _ => cut(rng, section, built),
     }
 }
@@ -79,18 +100,26 @@ fn above(rng: &mut Rng, most: usize, bits: u32) -> Option<u64> {
 }
 
 fn many_functions(rng: &mut Rng, built: &mut Built) -> Option<usize> {
-    let inside = built.bytes.len().checked_sub(HEADER)? / FUNCTION;
+    let function = built.version.function();
+    let inside = built.bytes.len().checked_sub(HEADER)? / function;
     let count = above(rng, inside, 32)?;
     built.set(COUNTS[0], 4, count);
-    Some(HEADER + FUNCTION * inside)
+    Some(HEADER + function * inside)
 }
 
 fn many_constants(rng: &mut Rng, section: &Section, built: &mut Built) -> Option<usize> {
-    let start = HEADER + FUNCTION * section.functions.len();
+    let start = section.constants_at();
     let inside = built.bytes.len().checked_sub(start)? / CONSTANT;
     let count = above(rng, inside, 32)?;
     built.set(COUNTS[1], 4, count);
     Some(start + CONSTANT * inside)
+}
+
+/// More records than there are, which version 1 misses at the section's end.
+fn many_records(rng: &mut Rng, section: &Section, built: &mut Built) -> Option<usize> {
+    let count = above(rng, section.records.len(), 32)?;
+    built.set(COUNTS[2], 4, count);
+    Some(built.bytes.len())
 }
 
 fn many_locations(rng: &mut Rng, built: &mut Built) -> Option<usize> {
@@ -98,7 +127,7 @@ fn many_locations(rng: &mut Rng, built: &mut Built) -> Option<usize> {
         .records
         .get(rng.below(built.records.len().max(1)))?
         .start;
-    let inside = built.bytes.len().checked_sub(start + 20)? / 12;
+    let inside = built.bytes.len().checked_sub(start + 20)? / built.version.location();
     let count = above(rng, inside.min(MOST), 16)?;
     built.set(start + 14, 2, count);
     Some(start)
@@ -128,10 +157,9 @@ fn cut(rng: &mut Rng, section: &Section, built: &mut Built) -> Option<usize> {
 
 /// The first byte of the item that the byte at `place`, behind the header, is a part of.
 pub fn item_at(section: &Section, built: &Built, place: usize) -> usize {
-    let constants = HEADER + FUNCTION * section.functions.len();
-    let records = constants + CONSTANT * section.constants.len();
+    let (constants, records) = (section.constants_at(), section.records_at());
     if place < constants {
-        place - (place - HEADER) % FUNCTION
+        place - (place - HEADER) % section.version.function()
     } else if place < records {
         place - (place - constants) % CONSTANT
     } else {
@@ -144,6 +172,9 @@ pub fn item_at(section: &Section, built: &Built, place: usize) -> usize {
 
 /// Counts whose exact sum isn't NumRecords, also where it is so modulo 2^32 or 2^64.
 fn counts(rng: &mut Rng, section: &Section, built: &mut Built) -> Option<usize> {
+    if section.version == Version::One {
+        return None;
+    }
     let functions = section.functions.len();
     let records = section.records.len() as u64;
     match rng.below(3) {
@@ -157,7 +188,7 @@ fn counts(rng: &mut Rng, section: &Section, built: &mut Built) -> Option<usize> 
             } else {
                 rng.pick(&large)
             };
-            built.set(HEADER + FUNCTION * nth + 16, 8, new);
+            built.set(built.functions[nth] + 16, 8, new);
         }
         _ => {
             let new = if rng.one_in(2) {
@@ -189,8 +220,8 @@ fn wrapping_counts(rng: &mut Rng, section: &Section, built: &mut Built) {
     let second = (first + 1 + rng.below(functions - 1)) % functions;
     let both = section.functions[first].record_count + section.functions[second].record_count;
     let large = rng.pick(&[1 << 63, u64::MAX, u64::MAX - 1, both + 1, (1 << 32) + both]);
-    built.set(HEADER + FUNCTION * first + 16, 8, large);
-    built.set(HEADER + FUNCTION * second + 16, 8, both.wrapping_sub(large));
+    built.set(built.functions[first] + 16, 8, large);
+    built.set(built.functions[second] + 16, 8, both.wrapping_sub(large));
 }
 
 fn kind(rng: &mut Rng, built: &mut Built) -> Option<usize> {
@@ -209,7 +240,7 @@ fn const_index(rng: &mut Rng, section: &Section, built: &mut Built) -> Option<us
         .get(rng.below(built.locations.len().max(1)))?;
     let index = large_index(rng, section.constants.len());
     built.set(place, 1, 5);
-    built.set(place + 8, 4, index.into());
+    built.set(place + built.version.offset(), 4, index.into());
     Some(place)
 }
 
@@ -243,14 +274,15 @@ fn address(rng: &mut Rng, section: &Section, built: &mut Built) -> Option<usize>
     } else {
         least + rng.number(32).min(u64::MAX - least)
     };
-    built.set(HEADER + FUNCTION * owner, 8, address);
+    built.set(built.functions[owner], 8, address);
     let beyond = |r: &usize| u64::from(offsets[*r]) > u64::MAX - address;
     (first..=record)
         .find(beyond)
         .map(|r| built.records[r].start)
 }
 
-/// The function that a record belongs to, and the first record of that function.
+/// The function that a record belongs to, and the first record of that function. In version 1 a
+/// record belongs to none.
 pub(crate) fn owner(section: &Section, record: usize) -> Option<(usize, usize)> {
     let mut first: usize = 0;
     for (nth, function) in section.functions.iter().enumerate() {
@@ -263,9 +295,15 @@ pub(crate) fn owner(section: &Section, record: usize) -> Option<(usize, usize)> 
     None
 }
 
-/// Bytes after the last record: zeros, any, or the section a second time.
+/// Bytes after the last record: zeros, any, or the section a second time; in version 1 also records
+/// that are not counted.
 fn growth(rng: &mut Rng, built: &mut Built) -> Option<usize> {
     let end = built.bytes.len();
+    if built.version == Version::One && !built.records.is_empty() && rng.one_in(3) {
+        let count = rng.below(built.records.len());
+        built.set(COUNTS[2], 4, count as u64);
+        return Some(built.records[count].start);
+    }
     if rng.one_in(4) {
         built.bytes.extend_from_within(..);
         return Some(end);

@@ -160,6 +160,7 @@ pub fn every_question(section: &Section) -> Vec<Question> {
         .flat_map(beside)
         .map(Question::Find)
         .collect();
+    questions.extend(in_functions(section));
     for record in numbers(section.records.len()) {
         let there = usize::try_from(record)
             .ok()
@@ -172,6 +173,32 @@ pub fn every_question(section: &Section) -> Vec<Question> {
         questions.extend(numbers(outs).map(|number| Question::LiveOut(record, number)));
     }
     questions
+}
+
+/// The offset of each record and those beside it, in functions that are there and ones that are not.
+fn in_functions(section: &Section) -> Vec<Question> {
+    let offsets = section
+        .records
+        .iter()
+        .map(|record| u64::from(record.offset));
+    let mut offsets: Vec<u64> = offsets.chain([0, u64::from(u32::MAX)]).collect();
+    offsets.sort();
+    offsets.dedup();
+    let count = section.functions.len() as u64;
+    let functions = [0, 1, count.wrapping_sub(1), count, 1 << 32, u64::MAX];
+    let beside = |own: u64| {
+        [
+            own,
+            own.wrapping_sub(1),
+            own + 1,
+            own + (1 << 32),
+            own + (1 << 63),
+        ]
+    };
+    let offsets = offsets.into_iter().flat_map(beside);
+    offsets
+        .flat_map(|offset| functions.map(|function| Question::FindIn(function, offset)))
+        .collect()
 }
 
 /// The numbers of `count` items, of many only the first and the last, and numbers past them.

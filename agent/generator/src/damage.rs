@@ -1,6 +1,6 @@
 //! Damages of any kind, with no word on what they do: bits, bytes, numbers and pieces.
 
-use crate::layout::{Built, COUNTS};
+use crate::layout::{Built, Version, COUNTS};
 use crate::rng::Rng;
 
 /// Bytes that mean something somewhere in a section.
@@ -8,10 +8,11 @@ const BYTES: [u8; 12] = [0, 1, 2, 3, 4, 5, 6, 7, 0x7f, 0x80, 0xfe, 0xff];
 
 /// Damages the section once. `other` is where pieces come from.
 pub fn damage(rng: &mut Rng, built: &mut Built, other: &[u8]) {
-    match rng.below(10) {
+    match rng.below(12) {
         0 => swap_counts(rng, built),
         1 | 2 => set_number(rng, built),
         3 => scramble(rng, built),
+        4 => set_version(rng, built),
         _ => damage_bytes(rng, &mut built.bytes, other),
     }
 }
@@ -72,10 +73,17 @@ fn grow(rng: &mut Rng, bytes: &mut Vec<u8>, other: &[u8]) {
     bytes.splice(place..place, piece);
 }
 
+/// Has the section state the other version, or any.
+fn set_version(rng: &mut Rng, built: &mut Built) {
+    let version = rng.pick(&[1, 3, 1, 3, 2, 0]);
+    built.set(0, 1, version);
+}
+
 /// Exchanges two counts of the header, of two functions, or of one record.
 fn swap_counts(rng: &mut Rng, built: &mut Built) {
+    let counted = built.version == Version::Three && !built.functions.is_empty();
     let (one, two, width) = match rng.below(3) {
-        0 if !built.functions.is_empty() => (
+        0 if counted => (
             rng.pick(&built.functions) + 16,
             rng.pick(&built.functions) + 16,
             8,
@@ -150,7 +158,7 @@ fn move_piece(rng: &mut Rng, bytes: &mut Vec<u8>) {
 fn scramble(rng: &mut Rng, built: &mut Built) {
     let end = built.bytes.len();
     let (start, count) = match rng.below(4) {
-        0 if !built.locations.is_empty() => (rng.pick(&built.locations), 12),
+        0 if !built.locations.is_empty() => (rng.pick(&built.locations), built.version.location()),
         1 if !built.records.is_empty() => {
             (built.records[rng.below(built.records.len())].start + 8, 8)
         }

@@ -1,4 +1,4 @@
-//! Small sections at the edges of the rules, the same in every run.
+//! Small version 3 sections at the edges of the rules, the same in every run.
 
 use crate::aimed::item_at;
 use crate::layout::{Function, LiveOut, Location, Record, Section, COUNTS, HEADER};
@@ -118,8 +118,8 @@ fn counted(counts: &[u64], records: u32) -> Vec<u8> {
     };
     let section = Section {
         functions: counts.iter().map(function).collect(),
-        constants: vec![],
         records: vec![record(0, 1, 1)],
+        ..Section::default()
     };
     let mut bytes = section.encode();
     bytes[COUNTS[2]..16].copy_from_slice(&records.to_le_bytes());
@@ -215,6 +215,7 @@ pub fn every_part() -> Section {
             record(4, 2, 1),
             record(9, 1, 0),
         ],
+        ..Section::default()
     };
     for (i, location) in section.records[1].locations.iter_mut().enumerate() {
         *location = Location {
@@ -277,8 +278,8 @@ pub(crate) fn addresses() -> Vec<Answered> {
                 stack_size: MAX,
                 ..function(address, 1)
             }],
-            constants: vec![],
             records: vec![record(offset, 2, 3)],
+            ..Section::default()
         };
         (section, number, if number == 0 { 0 } else { 40 })
     };

@@ -1,5 +1,6 @@
 //! Stopped frames: sections with statepoints, the image of a stack with frames on it, and a move
-//! table. A scene is made whole, so that every frame of it is accepted; [`faults`] aims at the
+//! table. In version 1 a frame names its function, and has its offset in place of the address; the
+//! records then stand in any order, whatever that of the functions is. A scene is made whole, so that every frame of it is accepted; [`faults`] aims at the
 //! refusals of a frame, [`guests`] adds frames that share bytes with others, and [`plain`] says how a
 //! frame is answered and what becomes of the image. [`thread`] makes lists of frames.
 
@@ -9,11 +10,14 @@ pub mod faults;
 mod functions;
 pub mod guests;
 pub mod plain;
+mod pool;
 mod table;
 pub mod thread;
 
-use crate::layout::Section;
+use crate::layout::{Section, Version};
+use crate::questions::addresses;
 use crate::rng::Rng;
+use pool::Pool;
 pub use table::Table;
 
 /// The most bytes of an image.
@@ -32,12 +36,16 @@ pub(crate) const RSP: u16 = 7;
 /// A frame, and where its statepoint stands in the section.
 #[derive(Clone, Copy, Debug, PartialEq, Eq)]
 pub struct Stop {
+    /// The address of its record; in version 1 the offset.
     pub address: u64,
     pub rbp: u64,
     pub rsp: u64,
     /// The number of its record, and that of its function.
     pub record: usize,
     pub function: usize,
+    /// The function number that is handed in: in version 1 that of its function, and in version 3,
+    /// which doesn't read it, any.
+    pub named: u64,
 }
 
 /// Frames on a stack.
@@ -79,6 +87,23 @@ impl Size {
     }
 }
 
+/// A function number that is handed in for a frame of this function, where there are so many.
+fn named(rng: &mut Rng, version: Version, function: usize, functions: usize) -> u64 {
+    match (version, rng.below(4)) {
+        (Version::One, _) | (Version::Three, 0) => function as u64,
+        (Version::Three, 1) => functions as u64 + rng.number(3),
+        (Version::Three, _) => rng.number(64),
+    }
+}
+
+/// What a frame at each record has as its address: in version 1 the offset.
+pub(crate) fn keys(section: &Section) -> Vec<u64> {
+    match section.version {
+        Version::One => section.records.iter().map(|r| r.offset.into()).collect(),
+        Version::Three => addresses(section).map(|(_, address)| address).collect(),
+    }
+}
+
 impl Scene {
     /// One frame.
     pub fn one(rng: &mut Rng) -> Scene {
@@ -93,9 +118,15 @@ impl Scene {
         Scene::of(rng, table, &sizes)
     }
 
-    /// Frames of these sizes.
+    /// Frames of these sizes, with a section of either version.
     pub fn of(rng: &mut Rng, table: Table, sizes: &[Size]) -> Scene {
-        let noise = functions::noise(rng);
+        let version = rng.pick(&Version::ALL);
+        Scene::of_version(rng, version, table, sizes)
+    }
+
+    /// Frames of these sizes, with a section of this version.
+    pub fn of_version(rng: &mut Rng, version: Version, table: Table, sizes: &[Size]) -> Scene {
+        let noise = functions::noise(rng, version);
         loop {
             if let Some(scene) = building::build(rng, &table, sizes, &noise) {
                 return scene;
@@ -108,9 +139,24 @@ impl Scene {
         i128::from(self.stops[stop].rsp) - i128::from(self.first)
     }
 
-    /// The stack size of a frame's function.
-    pub(crate) fn stack_size(&self, stop: usize) -> u64 {
-        self.section.functions[self.stops[stop].function].stack_size
+    /// The constants of the section, and its version.
+    pub(crate) fn pool(&self) -> Pool<'_> {
+        Pool {
+            version: self.section.version,
+            constants: &self.section.constants,
+        }
+    }
+
+    /// The stack size of a frame's function: in version 1 of the one that is handed in, where there
+    /// is one.
+    pub fn stack_size(&self, stop: usize) -> u64 {
+        let (functions, own) = (&self.section.functions, self.stops[stop]);
+        let handed_in = match self.section.version {
+            Version::One => usize::try_from(own.named).ok(),
+            Version::Three => None,
+        };
+        let function = handed_in.and_then(|named| functions.get(named));
+        function.unwrap_or(&functions[own.function]).stack_size
     }
 
     /// The section with the pairs of every statepoint in another order.

@@ -1,8 +1,8 @@
 //! Sections of the largest length, and ones that are a byte too long.
 
 use crate::edges::{record, Visit};
-use crate::layout::{Function, Section, LARGEST};
-use crate::{valid, Case, Rng};
+use crate::layout::{Function, Section, Version, LARGEST};
+use crate::{of_length_in, Case, Rng};
 
 /// Hands over all of them; the seed decides the one that is random.
 pub fn all(seed: u64, visit: Visit) {
@@ -18,17 +18,19 @@ pub fn all(seed: u64, visit: Visit) {
 }
 
 /// Hands over whole sections of exactly the largest length, with as many functions, constants or
-/// records as there can be, and a random one.
+/// records as there can be, and a random one; four of each version.
 pub fn sections(seed: u64, visit: &mut dyn FnMut(&Section)) {
-    visit(&functions());
-    visit(&constants());
-    visit(&records());
-    visit(&valid::of_length(&mut Rng::new(seed), LARGEST));
+    for version in Version::ALL {
+        visit(&functions(version));
+        visit(&constants(version));
+        visit(&records(version));
+        visit(&of_length_in(&mut Rng::new(seed), version, LARGEST));
+    }
 }
 
 /// Zeros after a first byte.
 fn zeros(visit: Visit) {
-    for (first, number, place) in [(0, 2, 0), (3, 9, 16)] {
+    for (first, number, place) in [(0, 2, 0), (1, 9, 16), (2, 2, 0), (3, 9, 16)] {
         let mut bytes = vec![0; LARGEST];
         bytes[0] = first;
         visit(Case::known("largest, zeros", bytes.clone(), number, place));
@@ -46,27 +48,37 @@ fn function(record_count: u64) -> Function {
 }
 
 /// As many functions as there can be.
-fn functions() -> Section {
+fn functions(version: Version) -> Section {
+    let count = match version {
+        Version::One => 1_048_575,
+        Version::Three => 699_050,
+    };
     Section {
-        functions: vec![function(0); 699_050],
+        version,
+        functions: vec![function(0); count],
         ..Section::default()
     }
 }
 
 /// As many constants as there can be.
-fn constants() -> Section {
+fn constants(version: Version) -> Section {
     Section {
+        version,
         constants: vec![5; 2_097_150],
         ..Section::default()
     }
 }
 
-/// As many records as there can be.
-fn records() -> Section {
-    let records = vec![record(3, 0, 0); 699_049];
+/// As many records as there can be. In version 3 they need a function.
+fn records(version: Version) -> Section {
+    let (functions, count) = match version {
+        Version::One => (vec![], 699_050),
+        Version::Three => (vec![function(699_049)], 699_049),
+    };
     Section {
-        functions: vec![function(699_049)],
-        records,
+        version,
+        functions,
+        records: vec![record(3, 0, 0); count],
         ..Section::default()
     }
 }

@@ -3,8 +3,6 @@
 
 /// Bytes of the header.
 pub const HEADER: usize = 16;
-/// Bytes of a function.
-pub const FUNCTION: usize = 24;
 /// Bytes of a constant.
 pub const CONSTANT: usize = 8;
 /// The length of the largest section that is accepted.
@@ -12,7 +10,57 @@ pub const LARGEST: usize = 16_777_216;
 /// Where NumFunctions, NumConstants and NumRecords stand.
 pub const COUNTS: [usize; 3] = [4, 8, 12];
 
-/// A function and how many of the records are its own.
+/// Which layout a section has.
+#[derive(Clone, Copy, Debug, Default, PartialEq, Eq)]
+pub enum Version {
+    One,
+    #[default]
+    Three,
+}
+
+impl Version {
+    /// Both of them.
+    pub const ALL: [Version; 2] = [Version::One, Version::Three];
+
+    /// The number that a section begins with.
+    pub fn number(self) -> u8 {
+        match self {
+            Version::One => 1,
+            Version::Three => 3,
+        }
+    }
+
+    /// Bytes of a function. Version 1 has no record count.
+    pub fn function(self) -> usize {
+        match self {
+            Version::One => 16,
+            Version::Three => 24,
+        }
+    }
+
+    /// Bytes of a location.
+    pub fn location(self) -> usize {
+        match self {
+            Version::One => 8,
+            Version::Three => 12,
+        }
+    }
+
+    /// Bytes of padding after so many locations. Version 1 has none.
+    pub fn padding(self, locations: usize) -> usize {
+        match self {
+            Version::One => 0,
+            Version::Three => 4 * (locations % 2),
+        }
+    }
+
+    /// Where a location's offset stands in it.
+    pub fn offset(self) -> usize {
+        self.location() - 4
+    }
+}
+
+/// A function and how many of the records are its own, which version 1 doesn't say: there it is 0.
 #[derive(Clone, Debug)]
 pub struct Function {
     pub address: u64,
@@ -20,7 +68,8 @@ pub struct Function {
     pub record_count: u64,
 }
 
-/// Where a value is. The offset is a signed number, but for ConstIndex a pool entry's number.
+/// Where a value is. The offset is a signed number, but for ConstIndex a pool entry's number. In
+/// version 1 the size is at most 255.
 #[derive(Clone, Debug)]
 pub struct Location {
     pub kind: u8,
@@ -46,16 +95,18 @@ pub struct Record {
 }
 
 impl Record {
-    /// The number of bytes that the record takes.
-    pub fn length(&self) -> usize {
+    /// The number of bytes that the record takes in a section of this version.
+    pub fn length(&self, version: Version) -> usize {
         let (locations, outs) = (self.locations.len(), self.live_outs.len());
-        16 + 12 * locations + 4 * (locations % 2) + 4 + 4 * outs + 4 * (1 - outs % 2)
+        let padded = version.location() * locations + version.padding(locations);
+        16 + padded + 4 + 4 * outs + 4 * (1 - outs % 2)
     }
 }
 
 /// A section.
 #[derive(Clone, Debug, Default)]
 pub struct Section {
+    pub version: Version,
     pub functions: Vec<Function>,
     pub constants: Vec<u64>,
     pub records: Vec<Record>,
@@ -73,6 +124,7 @@ pub struct Spot {
 /// A section's bytes, and where everything stands that a damage may aim at.
 #[derive(Clone, Debug, Default)]
 pub struct Built {
+    pub version: Version,
     pub bytes: Vec<u8>,
     /// Whether the lists below are kept: they are a multiple of the bytes.
     marked: bool,
@@ -116,10 +168,18 @@ impl Built {
             self.locations.push(self.bytes.len());
         }
         self.number(1, location.kind.into());
-        self.zeros(1);
-        self.number(2, location.size.into());
-        self.number(2, location.register.into());
-        self.zeros(2);
+        match self.version {
+            Version::One => {
+                self.number(1, location.size.into());
+                self.number(2, location.register.into());
+            }
+            Version::Three => {
+                self.zeros(1);
+                self.number(2, location.size.into());
+                self.number(2, location.register.into());
+                self.zeros(2);
+            }
+        }
         self.number(4, location.offset.into());
     }
 
@@ -129,7 +189,9 @@ impl Built {
         }
         self.number(8, function.address);
         self.number(8, function.stack_size);
-        self.number(8, function.record_count);
+        if self.version == Version::Three {
+            self.number(8, function.record_count);
+        }
     }
 
     fn record(&mut self, record: &Record) {
@@ -139,7 +201,7 @@ impl Built {
         self.zeros(2);
         self.number(2, record.locations.len() as u64);
         record.locations.iter().for_each(|l| self.location(l));
-        self.zeros(4 * (record.locations.len() % 2) + 2);
+        self.zeros(self.version.padding(record.locations.len()) + 2);
         let out_count = self.bytes.len();
         self.number(2, record.live_outs.len() as u64);
         for out in &record.live_outs {
@@ -157,8 +219,18 @@ impl Built {
 impl Section {
     /// The number of bytes that the section takes.
     pub fn length(&self) -> usize {
-        let records: usize = self.records.iter().map(Record::length).sum();
-        HEADER + FUNCTION * self.functions.len() + CONSTANT * self.constants.len() + records
+        let records = self.records.iter().map(|r| r.length(self.version));
+        self.records_at() + records.sum::<usize>()
+    }
+
+    /// Where the constants begin.
+    pub fn constants_at(&self) -> usize {
+        HEADER + self.version.function() * self.functions.len()
+    }
+
+    /// Where the records begin.
+    pub fn records_at(&self) -> usize {
+        self.constants_at() + CONSTANT * self.constants.len()
     }
 
     /// The section's bytes and where its parts stand.
@@ -173,11 +245,12 @@ impl Section {
 
     fn written(&self, marked: bool) -> Built {
         let mut built = Built {
+            version: self.version,
             marked,
             ..Built::default()
         };
         built.bytes.reserve_exact(self.length());
-        built.number(1, 3);
+        built.number(1, self.version.number().into());
         built.zeros(3);
         built.number(4, self.functions.len() as u64);
         built.number(4, self.constants.len() as u64);

@@ -1,4 +1,5 @@
-//! Random stack map sections and listings for tests and benchmarks: whole ones, and damaged ones.
+//! Random stack map sections and listings for tests and benchmarks, of versions 1 and 3: whole ones,
+//! and damaged ones.
 //!
 //! Everything is made from a seed, so that a run can be had again. The encoder is this package's
 //! own: where it says what a section must be answered, that is one more opinion beside those of
@@ -12,11 +13,12 @@ pub mod frames;
 pub mod largest;
 pub mod layout;
 pub mod listings;
+pub mod older;
 pub mod questions;
 pub mod rng;
 pub mod valid;
 
-pub use layout::Section;
+pub use layout::{Section, Version};
 pub use rng::Rng;
 
 /// The bytes of a section, whole or not.
@@ -49,13 +51,45 @@ impl Case {
     }
 }
 
-/// A random case: whole, aimed at one refusal or at several, damaged at random, or noise.
+/// A random case of either version: whole, aimed at one refusal or at several, damaged at random, or
+/// noise.
 pub fn case(rng: &mut Rng) -> Case {
+    let version = rng.pick(&Version::ALL);
+    case_in(rng, version)
+}
+
+/// A random case that is made of a section of this version.
+pub fn case_in(rng: &mut Rng, version: Version) -> Case {
     let section = match rng.below(4_096) {
-        0 => medium(rng),
-        _ => valid::section(rng),
+        0 => medium(rng, version),
+        _ => section_in(rng, version),
     };
     case_of(rng, &section)
+}
+
+/// A random whole section of this version.
+pub fn section_in(rng: &mut Rng, version: Version) -> Section {
+    match version {
+        Version::One => older::section(rng),
+        Version::Three => valid::section(rng),
+    }
+}
+
+/// A random whole section of this version, many of whose records have the same address or offset.
+pub fn crowded_in(rng: &mut Rng, version: Version) -> Section {
+    match version {
+        Version::One => older::crowded(rng),
+        Version::Three => valid::crowded(rng),
+    }
+}
+
+/// A random whole section of this version with exactly so many bytes, as `of_length` of its module
+/// makes it.
+pub fn of_length_in(rng: &mut Rng, version: Version, length: usize) -> Section {
+    match version {
+        Version::One => older::of_length(rng, length),
+        Version::Three => valid::of_length(rng, length),
+    }
 }
 
 /// A random case that is made of this section. Where it is known to be accepted, its bytes are
@@ -65,21 +99,21 @@ pub fn case_of(rng: &mut Rng, section: &Section) -> Case {
         0 | 1 => Case::known("whole", section.encode(), 0, 0),
         2..=8 => aimed(rng, section),
         9 | 10 => aimed_twice(rng, section),
-        11 => Case::open("noise", noise(rng)),
+        11 => Case::open("noise", noise(rng, section.version)),
         _ => damaged(rng, section),
     }
 }
 
 /// A whole section of up to 64 kB.
-fn medium(rng: &mut Rng) -> Section {
+fn medium(rng: &mut Rng, version: Version) -> Section {
     let length = layout::HEADER + 8 * rng.below(8_192);
-    valid::of_length(rng, length)
+    of_length_in(rng, version, length)
 }
 
 /// A case with one fault.
 fn aimed(rng: &mut Rng, section: &Section) -> Case {
     let mut built = section.build();
-    let number = 1 + rng.below(9) as u64;
+    let number = rng.pick(aimed::numbers(section.version));
     match aimed::aim(rng, number, section, &mut built) {
         Some(place) => Case::known("one fault", built.bytes, number, place),
         None => Case::known("whole", built.bytes, 0, 0),
@@ -90,7 +124,7 @@ fn aimed(rng: &mut Rng, section: &Section) -> Case {
 fn aimed_twice(rng: &mut Rng, section: &Section) -> Case {
     let mut built = section.build();
     for _ in 0..2 + rng.below(2) {
-        let number = 2 + rng.below(8) as u64;
+        let number = rng.pick(&aimed::numbers(section.version)[1..]);
         aimed::aim(rng, number, section, &mut built);
     }
     Case::open("several faults", built.bytes)
@@ -99,7 +133,8 @@ fn aimed_twice(rng: &mut Rng, section: &Section) -> Case {
 /// A case with one to three damages.
 fn damaged(rng: &mut Rng, section: &Section) -> Case {
     let mut built = section.build();
-    let other = valid::section(rng).encode();
+    let version = rng.pick(&Version::ALL);
+    let other = section_in(rng, version).encode();
     for _ in 0..=rng.below(3) {
         damage::damage(rng, &mut built, &other);
     }
@@ -107,8 +142,8 @@ fn damaged(rng: &mut Rng, section: &Section) -> Case {
 }
 
 /// Bytes that are no section, after a header with small counts that is mostly right.
-fn noise(rng: &mut Rng) -> Vec<u8> {
-    let mut bytes = vec![3, 0, 0, 0];
+fn noise(rng: &mut Rng, version: Version) -> Vec<u8> {
+    let mut bytes = vec![version.number(), 0, 0, 0];
     for _ in 0..3 {
         let count = rng.pick(&[0u32, 0, 1, 1, 2, u32::MAX]);
         bytes.extend_from_slice(&count.to_le_bytes());
@@ -143,8 +178,11 @@ mod tests {
     fn lengths_are_as_asked_for() {
         let mut rng = Rng::new(1);
         for length in (16..4_000).step_by(8) {
-            let section = valid::of_length(&mut rng, length);
-            assert_eq!((section.length(), section.encode().len()), (length, length));
+            for version in Version::ALL {
+                let section = of_length_in(&mut rng, version, length);
+                assert_eq!((section.length(), section.encode().len()), (length, length));
+                assert_eq!(section.encode()[0], version.number());
+            }
         }
     }
 
@@ -152,12 +190,29 @@ mod tests {
     fn aims_leave_a_section_whole_where_they_fail() {
         let mut rng = Rng::new(1);
         for number in 1..=9 {
-            for _ in 0..500 {
-                let section = valid::section(&mut rng);
+            for _ in 0..1_000 {
+                let version = rng.pick(&Version::ALL);
+                let section = section_in(&mut rng, version);
                 let mut built = section.build();
                 let hit = aimed::aim(&mut rng, number, &section, &mut built).is_some();
                 assert_eq!(hit, built.bytes != section.encode(), "{number}");
+                assert!(!hit || aimed::numbers(version).contains(&number));
             }
+        }
+    }
+
+    #[test]
+    fn sections_of_version_1_say_nothing_that_it_has_no_room_for() {
+        let mut rng = Rng::new(1);
+        for nth in 0..2_000 {
+            let section = match nth % 3 {
+                0 => older::section(&mut rng),
+                1 => older::crowded(&mut rng),
+                _ => older::of_length(&mut rng, 16 + 8 * nth),
+            };
+            assert!(section.functions.iter().all(|f| f.record_count == 0));
+            let mut locations = section.records.iter().flat_map(|r| &r.locations);
+            assert!(locations.all(|location| location.size <= 255));
         }
     }
 }

@@ -1,6 +1,6 @@
 //! Questions on a section, mostly at the edges of its parts, and what a whole section answers them.
 
-use crate::layout::{Section, CONSTANT, FUNCTION, HEADER};
+use crate::layout::{Record, Section, Version};
 use crate::rng::Rng;
 use std::iter::repeat_n;
 
@@ -9,6 +9,8 @@ use std::iter::repeat_n;
 pub enum Question {
     /// By address.
     Find(u64),
+    /// By function number and offset.
+    FindIn(u64, u64),
     /// By record number.
     Record(u64),
     /// By record and location number.
@@ -57,7 +59,13 @@ const NO_ENTRY: Answer = Answer::Refused {
     place: 0,
 };
 
-/// The function and the address of each record.
+/// The refusal of a question that the other version has.
+const OTHER_VERSION: Answer = Answer::Refused {
+    number: 27,
+    place: 0,
+};
+
+/// The function and the address of each record. Those of version 1 have none.
 pub fn addresses(section: &Section) -> impl Iterator<Item = (usize, u64)> + '_ {
     let functions = section.functions.iter().enumerate();
     let owners = functions
@@ -76,6 +84,7 @@ fn entry<T>(entries: &[T], number: u64) -> Option<&T> {
 pub fn answer(section: &Section, question: Question) -> Answer {
     match question {
         Question::Find(address) => find(section, address),
+        Question::FindIn(function, offset) => find_in(section, function, offset),
         Question::Record(record) => stretch(section, record),
         Question::Location(record, number) => location(section, record, number),
         Question::LiveOut(record, number) => live_out(section, record, number),
@@ -83,6 +92,9 @@ pub fn answer(section: &Section, question: Question) -> Answer {
 }
 
 fn find(section: &Section, address: u64) -> Answer {
+    if section.version == Version::One {
+        return OTHER_VERSION;
+    }
     let mut there = addresses(section)
         .enumerate()
         .filter(|(_, (_, own))| *own == address);
@@ -96,15 +108,31 @@ fn find(section: &Section, address: u64) -> Answer {
     }
 }
 
+fn find_in(section: &Section, function: u64, offset: u64) -> Answer {
+    if section.version == Version::Three {
+        return OTHER_VERSION;
+    }
+    let records = section.records.iter().enumerate();
+    let mut there = records.filter(|(_, record)| u64::from(record.offset) == offset);
+    match (entry(&section.functions, function), there.next()) {
+        (Some(_), Some((record, _))) => Answer::Found {
+            record: record as u64,
+            function,
+            sharing: 1 + there.count() as u64,
+        },
+        _ => NO_RECORD,
+    }
+}
+
 fn stretch(section: &Section, number: u64) -> Answer {
     let Some(record) = entry(&section.records, number) else {
         return NO_RECORD;
     };
-    let tables = HEADER + FUNCTION * section.functions.len() + CONSTANT * section.constants.len();
-    let before = &section.records[..number as usize];
+    let length = |record: &Record| record.length(section.version);
+    let before = section.records[..number as usize].iter().map(length);
     Answer::Record {
-        first: tables + before.iter().map(|record| record.length()).sum::<usize>(),
-        length: record.length(),
+        first: section.records_at() + before.sum::<usize>(),
+        length: length(record),
     }
 }
 
@@ -146,7 +174,13 @@ fn live_out(section: &Section, record: u64, number: u64) -> Answer {
 pub fn question(rng: &mut Rng, section: &Section) -> Question {
     let record = number(rng, section.records.len());
     let record_there = entry(&section.records, record);
+    // Mostly the question that the version has.
+    let first = (section.version == Version::One) != rng.one_in(8);
     match rng.below(8) {
+        0..=2 if first => {
+            let function = number(rng, section.functions.len());
+            Question::FindIn(function, offset(rng, section))
+        }
         0..=2 => Question::Find(address(rng, section)),
         3 => Question::Record(record),
         4..=6 => {
@@ -192,6 +226,28 @@ fn address(rng: &mut Rng, section: &Section) -> u64 {
         }
         12 => 0,
         13 => u64::MAX,
+        _ => rng.number(64),
+    }
+}
+
+/// The offset of a record; or one beside it, one where a narrower number would be equal, what would
+/// be its address in some function, or one that has nothing to do with the section.
+fn offset(rng: &mut Rng, section: &Section) -> u64 {
+    let records = &section.records;
+    let there = match records.len() {
+        0 => 0,
+        count => u64::from(records[rng.below(count)].offset),
+    };
+    match rng.below(16) {
+        0..=8 => there,
+        9 => there + 1,
+        10 => there.wrapping_sub(1),
+        11 => there + rng.pick(&[1 << 32, 1 << 33, 1 << 63]),
+        12 if !section.functions.is_empty() => {
+            let function = &section.functions[rng.below(section.functions.len())];
+            function.address.wrapping_add(there)
+        }
+        13 => rng.pick(&[0, u64::from(u32::MAX), 1 << 32, u64::MAX]),
         _ => rng.number(64),
     }
 }

@@ -1,6 +1,7 @@
-//! Random sections that keep every rule, with numbers at their edges wherever a rule leaves them free.
+//! Random version 3 sections that keep every rule, with numbers at their edges wherever a rule leaves
+//! them free.
 
-use crate::layout::{Function, LiveOut, Location, Record, Section, CONSTANT, FUNCTION, HEADER};
+use crate::layout::{Function, LiveOut, Location, Record, Section, CONSTANT, HEADER};
 use crate::rng::Rng;
 
 /// How many functions, constants and records there may be, and locations and live-outs in a record.
@@ -14,7 +15,7 @@ pub struct Shape {
 }
 
 /// A shape, mostly small; now and then with many of one part.
-fn shape(rng: &mut Rng) -> Shape {
+pub(crate) fn shape(rng: &mut Rng) -> Shape {
     let mut shape = Shape {
         functions: rng.pick(&[0, 1, 1, 2, 2, 3, 4, 6]),
         constants: rng.pick(&[0, 0, 1, 2, 3, 8]),
@@ -34,7 +35,7 @@ fn shape(rng: &mut Rng) -> Shape {
 }
 
 /// An address: anywhere, but often near 0, near 2^32 or near 2^64 - 1.
-fn address(rng: &mut Rng) -> u64 {
+pub(crate) fn address(rng: &mut Rng) -> u64 {
     match rng.below(6) {
         0 => rng.number(64),
         1 => u64::MAX - rng.number(16),
@@ -45,7 +46,7 @@ fn address(rng: &mut Rng) -> u64 {
 }
 
 /// A stack size: 2^64 - 1 is the one that means not known.
-fn stack_size(rng: &mut Rng) -> u64 {
+pub(crate) fn stack_size(rng: &mut Rng) -> u64 {
     match rng.below(4) {
         0 => u64::MAX - rng.number(1),
         1 => rng.number(64),
@@ -54,7 +55,7 @@ fn stack_size(rng: &mut Rng) -> u64 {
 }
 
 /// A location of a section with so many constants.
-fn location(rng: &mut Rng, constants: usize) -> Location {
+pub(crate) fn location(rng: &mut Rng, constants: usize) -> Location {
     let kinds: &[u8] = if constants > 0 {
         &[1, 2, 3, 4, 5, 5]
     } else {
@@ -90,12 +91,15 @@ fn record(rng: &mut Rng, shape: &Shape, address: u64) -> Record {
         locations: (0..locations)
             .map(|_| location(rng, shape.constants))
             .collect(),
-        live_outs: (0..live_outs)
-            .map(|_| LiveOut {
-                register: rng.number(16) as u16,
-                size: rng.number(8) as u8,
-            })
-            .collect(),
+        live_outs: (0..live_outs).map(|_| live_out(rng)).collect(),
+    }
+}
+
+/// A live-out.
+pub(crate) fn live_out(rng: &mut Rng) -> LiveOut {
+    LiveOut {
+        register: rng.number(16) as u16,
+        size: rng.number(8) as u8,
     }
 }
 
@@ -185,20 +189,22 @@ pub fn of_length(rng: &mut Rng, length: usize) -> Section {
 
 /// Adds functions and records until the next one would not fit in what is left.
 fn fill(rng: &mut Rng, shape: &Shape, section: &mut Section, left: &mut usize) {
-    while *left >= FUNCTION {
+    let function = section.version.function();
+    while *left >= function {
         let address = address(rng);
         section.functions.push(Function {
             address,
             stack_size: stack_size(rng),
             record_count: 0,
         });
-        *left -= FUNCTION;
+        *left -= function;
         for _ in 0..rng.below(17) {
             let record = record(rng, shape, address);
-            if record.length() > *left {
+            let length = record.length(section.version);
+            if length > *left {
                 return;
             }
-            *left -= record.length();
+            *left -= length;
             section.records.push(record);
             section
                 .functions

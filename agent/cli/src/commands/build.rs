@@ -13,10 +13,11 @@ pub const COMMAND: Command = Command {
     help: "\
 usage: treskibben build [--output FILE] LISTING
 
-Writes the section that a raw listing describes: of version 1 where it begins with an item 7, else of
-version 3. 22 is said at the listing's byte where its grammar is broken, 23 at the record with too
-many locations or live-outs, 28 at what a section of version 1 cannot hold: a record count that isn't
-0, or a size over 255. 5 to 8 are what the section would be refused by, at the place in the section.
+Writes the section that a raw listing describes: of version 1 where it begins with an item 7, else
+of version 3. 22 is said at the listing's byte where its grammar is broken, 23 at the record with
+too many locations or live-outs, 28 at what a section of version 1 cannot hold: a record count that
+isn't 0, or a size over 255. 5 to 8 are what the section would be refused by, at the place in the
+section.
 
   --output FILE    writes to a file instead of standard output; nothing is written on a refusal
 ",

@@ -67,6 +67,7 @@ fn refusals_of_a_listing() {
         0,
         "over 65,535 locations or live-outs in a record",
     );
+    refused(&[7, 3, 6], 22, 0, grammar);
     let kind = with(h_listing(), 25 + 13 + 1, 9);
     refused(&kind, 6, 56, "location kind not 1 to 5");
     let count = with(h_listing(), 17, 2);

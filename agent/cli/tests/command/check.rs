@@ -10,7 +10,8 @@ fn each_sample_gets_its_answer() {
     let folder = Folder::new();
     for (name, answer) in [
         ("c-empty", None),
-        ("d-version-1", Some((2, 0, "version not 3"))),
+        ("c-version-1", None),
+        ("d-version-2", Some((2, 0, "version neither 1 nor 3"))),
         ("e-byte-after", Some((9, 16, "bytes after the last record"))),
         (
             "f-record-missing",
@@ -25,6 +26,7 @@ fn each_sample_gets_its_answer() {
             Some((4, 16, "a function, constant or record isn't wholly inside")),
         ),
         ("h-statepoint", None),
+        ("h-version-1", None),
     ] {
         let path = sample(&format!("{name}.section"));
         let shown = path.display();

@@ -58,7 +58,7 @@ fn a_bad_part_is_named_and_nothing_is_written() {
     let folder = Folder::new();
     let good = "part 0 from byte 0: 152 bytes, accepted\n";
     for (part, number, place, cause) in [
-        (with(C.to_vec(), 0, 1), 2, 0, "version not 3"),
+        (with(C.to_vec(), 0, 2), 2, 0, "version neither 1 nor 3"),
         (with(row_h(), 56, 9), 6, 56, "location kind not 1 to 5"),
         (
             vec![3],
@@ -193,7 +193,8 @@ fn a_part_over_the_limit() {
     folder.put_sparse("zeros", &C, 1 << 42);
     let mut command = folder.shell("ulimit -v 262144");
     let ran = Ran::of(command.args(["cut", "zeros"]));
-    ran.refused(2, 0, "zeros, part 1 from byte 16: version not 3");
+    let words = "zeros, part 1 from byte 16: version neither 1 nor 3";
+    ran.refused(2, 0, words);
 }
 
 #[test]

@@ -5,6 +5,9 @@ use crate::run::{sample, Folder};
 use generator::layout::{Function, LiveOut, Record, Section};
 use std::fs;
 
+/// What 10 says.
+pub const NO_RECORD: &str = "no record of that number or address, or no such function or offset";
+
 /// The listing of row H. The library's own tests hold the file to the bytes of document 01.
 pub fn h_listing() -> Vec<u8> {
     fs::read(sample("h-statepoint.listing")).unwrap()
@@ -237,13 +240,13 @@ fn addresses_that_no_record_has() {
     folder.put("h", row_h());
     for address in ["0", "1000", "1021", "ffffffffffffffff"] {
         let ran = folder.run(["find", "h", address]);
-        ran.refused(10, 0, "h: no record of that number or address");
+        ran.refused(10, 0, &format!("h: {NO_RECORD}"));
         assert_eq!(ran.out, b"");
     }
     folder.put("bad", with(row_h(), 0, 4));
     folder
         .run(["find", "bad", "1020"])
-        .refused(2, 0, "bad: version not 3");
+        .refused(2, 0, "bad: version neither 1 nor 3");
 }
 
 #[test]

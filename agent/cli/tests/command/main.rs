@@ -10,3 +10,4 @@ mod restore;
 mod run;
 mod terminal;
 mod usage;
+mod version_1;

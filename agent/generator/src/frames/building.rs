@@ -3,9 +3,8 @@
 
 use super::cells::Cells;
 use super::functions::{self, Group, Taken};
-use super::{shuffle, Scene, Size, Stop, Table};
-use crate::layout::Section;
-use crate::questions::addresses;
+use super::{keys, named, shuffle, Pool, Scene, Size, Stop, Table};
+use crate::layout::{Record, Section, Version};
 use crate::rng::Rng;
 use std::ops::Range;
 
@@ -74,7 +73,10 @@ struct Building<'a> {
     constants: Vec<u64>,
     image: Vec<u8>,
     first: u64,
+    version: Version,
     groups: Vec<Group>,
+    /// Records that belong to no function, as all do in version 1.
+    strays: Vec<Record>,
     taken: Taken,
     /// RBP minus RSP of each frame, modulo 2^64.
     distances: Vec<u64>,
@@ -100,11 +102,13 @@ pub(super) fn build(
         constants,
         first: first_address(rng, image.len()),
         image,
+        version: noise.version,
         groups: functions::groups_of(noise),
-        taken: Taken::new(
-            addresses(noise).map(|(_, address)| address),
-            std::iter::empty(),
-        ),
+        strays: match noise.version {
+            Version::One => noise.records.clone(),
+            Version::Three => Vec::new(),
+        },
+        taken: Taken::new(keys(noise).into_iter(), std::iter::empty()),
         distances: Vec::new(),
     };
     for (nth, frame) in frames.iter().enumerate() {
@@ -123,19 +127,23 @@ impl Building<'_> {
     /// Makes the frame's statepoint, and gives RBP minus RSP.
     fn stand(&mut self, rng: &mut Rng, frame: &Laid) -> u64 {
         let rsp = self.first + frame.at as u64;
-        let mut record = functions::statepoint(rng, &self.constants);
+        let pool = Pool {
+            version: self.version,
+            constants: &self.constants,
+        };
+        let mut record = functions::statepoint(rng, pool);
         let rbp = frame.cells.rbp(rng, rsp);
         frame.cells.pairs(
             rng,
             frame.pairs,
             [rbp, rsp],
-            &self.constants,
+            pool,
             &self.image[frame.stretch()],
             self.table,
             &mut record,
         );
-        let length = frame.cells.length as u64;
-        let group = functions::standing(rng, length, &record, frame.of, &mut self.taken);
+        let (version, length) = (self.version, frame.cells.length as u64);
+        let group = functions::standing(rng, version, length, &record, frame.of, &mut self.taken);
         self.groups.push(group);
         rbp.wrapping_sub(rsp)
     }
@@ -164,9 +172,11 @@ impl Building<'_> {
                 rsp,
                 record: 0,
                 function: 0,
+                named: 0,
             });
         }
         let section = Section {
+            version: self.version,
             constants: self.constants,
             ..Section::default()
         };
@@ -177,22 +187,56 @@ impl Building<'_> {
             table: self.table.clone(),
             stops,
         };
-        place(rng, &mut scene, self.groups);
+        place(rng, &mut scene, self.groups, self.strays);
         Some(scene)
     }
 }
 
-/// Puts the functions into the section in any order, and notes where the statepoints stand.
-fn place(rng: &mut Rng, scene: &mut Scene, mut groups: Vec<Group>) {
+/// Puts the functions into the section in any order, and the records with them, or in version 1 in an
+/// order of their own; and notes where the statepoints stand.
+fn place(rng: &mut Rng, scene: &mut Scene, mut groups: Vec<Group>, strays: Vec<Record>) {
     shuffle(rng, &mut groups);
-    for group in groups {
+    let count = groups.len();
+    // Each record, and the frames that stand at it.
+    let mut records: Vec<(Record, Vec<usize>)> = Vec::new();
+    for (function, group) in groups.into_iter().enumerate() {
         for stop in &group.stops {
             let stop = &mut scene.stops[*stop];
-            stop.record = scene.section.records.len() + group.at;
-            stop.function = scene.section.functions.len();
+            stop.function = function;
+            stop.named = named(rng, group.version, function, count);
             stop.address = group.address();
         }
+        let at = |nth: usize| match nth == group.at {
+            true => group.stops.clone(),
+            false => Vec::new(),
+        };
+        let own = group.records.iter().cloned().enumerate();
+        records.extend(own.map(|(nth, record)| (record, at(nth))));
         scene.section.functions.push(group.function);
-        scene.section.records.extend(group.records);
     }
+    records.extend(strays.into_iter().map(|record| (record, Vec::new())));
+    if scene.section.version == Version::One {
+        shuffle(rng, &mut records);
+        add_twin(rng, scene);
+    }
+    for (nth, (record, stops)) in records.into_iter().enumerate() {
+        stops
+            .iter()
+            .for_each(|stop| scene.stops[*stop].record = nth);
+        scene.section.records.push(record);
+    }
+}
+
+/// Sometimes adds a function of the same stack size as some frame's, which that frame names from then
+/// on: its record is found whatever function is handed in.
+fn add_twin(rng: &mut Rng, scene: &mut Scene) {
+    if scene.stops.is_empty() || !rng.one_in(3) {
+        return;
+    }
+    let nth = rng.below(scene.stops.len());
+    let functions = &mut scene.section.functions;
+    let twin = functions[scene.stops[nth].function].clone();
+    scene.stops[nth].function = functions.len();
+    scene.stops[nth].named = functions.len() as u64;
+    functions.push(twin);
 }

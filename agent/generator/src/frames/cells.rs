@@ -1,6 +1,6 @@
 //! The slots of a frame, their contents, and the pairs that name them.
 
-use super::{Table, RBP, RSP};
+use super::{Pool, Table, RBP, RSP};
 use crate::layout::{Location, Record};
 use crate::rng::Rng;
 
@@ -71,7 +71,7 @@ impl Cells {
         rng: &mut Rng,
         count: usize,
         registers: [u64; 2],
-        constants: &[u64],
+        pool: Pool,
         stretch: &[u8],
         table: &Table,
         record: &mut Record,
@@ -90,8 +90,7 @@ impl Cells {
         let mut derived_from: Vec<(usize, u64)> = Vec::new();
         for _ in 0..count {
             if bases.is_empty() || rng.one_in(nulls) {
-                let null = [null(rng, constants), null(rng, constants)];
-                record.locations.extend(null);
+                record.locations.extend([pool.null(rng), pool.null(rng)]);
                 continue;
             }
             let base = rng.pick(&bases);
@@ -103,19 +102,20 @@ impl Cells {
             let old = content(base);
             let before = derived_from.iter().find(|(place, _)| *place == derived);
             if before.is_some_and(|(_, other)| *other != old) {
-                let null = [null(rng, constants), null(rng, constants)];
-                record.locations.extend(null);
+                record.locations.extend([pool.null(rng), pool.null(rng)]);
                 continue;
             }
             derived_from.push((derived, old));
-            record.locations.push(slot(rng, base, registers));
-            record.locations.push(slot(rng, derived, registers));
+            for place in [base, derived] {
+                let location = slot(rng, pool, place, registers);
+                record.locations.push(location);
+            }
         }
     }
 }
 
 /// The location of a slot, from RSP or, where it can be reached, from RBP.
-fn slot(rng: &mut Rng, place: usize, [rbp, rsp]: [u64; 2]) -> Location {
+fn slot(rng: &mut Rng, pool: Pool, place: usize, [rbp, rsp]: [u64; 2]) -> Location {
     let from_rbp = i128::from(rsp) + place as i128 - i128::from(rbp);
     let (register, offset) = match i32::try_from(from_rbp) {
         Ok(offset) if rng.one_in(2) => (RBP, offset),
@@ -123,25 +123,8 @@ fn slot(rng: &mut Rng, place: usize, [rbp, rsp]: [u64; 2]) -> Location {
     };
     Location {
         kind: 3,
-        size: 8,
+        size: pool.slot_size(rng),
         register,
         offset: offset as u32,
-    }
-}
-
-/// A constant 0, in the location or in the pool; of any size and register.
-pub(super) fn null(rng: &mut Rng, constants: &[u64]) -> Location {
-    let zeros: Vec<usize> = (0..constants.len())
-        .filter(|nth| constants[*nth] == 0)
-        .collect();
-    let (kind, offset) = match zeros.is_empty() || rng.one_in(2) {
-        true => (4, 0),
-        false => (5, rng.pick(&zeros) as u32),
-    };
-    Location {
-        kind,
-        size: rng.number(16) as u16,
-        register: rng.number(16) as u16,
-        offset,
     }
 }

@@ -1,11 +1,12 @@
 //! Faults that aim at one refusal of a frame. On a scene without fault each gives exactly that
 //! refusal, and says at which place.
 
-use super::cells::null;
-use super::{plain, Scene, MOST_IMAGE, MOST_MOVES, MOST_PAIRS, RBP, RSP};
-use crate::layout::{Function, LiveOut, Location, Record};
-use crate::questions::addresses;
+mod standing;
+
+use super::{plain, Pool, Scene, MOST_IMAGE, MOST_MOVES, MOST_PAIRS, RBP, RSP};
+use crate::layout::{LiveOut, Location, Record};
 use crate::rng::Rng;
+use standing::{extent, no_record, shared};
 
 /// The refusals of a frame that are not its section's.
 pub const NUMBERS: [u64; 11] = [10, 12, 13, 14, 15, 16, 17, 18, 19, 20, 21];
@@ -52,31 +53,13 @@ pub fn scatter(rng: &mut Rng, scene: &mut Scene, many: usize) {
     }
 }
 
-/// An address that no record has.
-fn no_record(rng: &mut Rng, scene: &mut Scene, stop: usize) -> Option<u64> {
-    let own = scene.stops[stop].address;
-    let function = scene.section.functions[scene.stops[stop].function].address;
-    loop {
-        let address = match rng.below(6) {
-            0 => own.wrapping_add(1),
-            1 => own.wrapping_sub(1),
-            2 => own ^ 1 << rng.below(64),
-            3 => function,
-            _ => rng.number(64),
-        };
-        if addresses(&scene.section).all(|(_, there)| there != address) {
-            scene.stops[stop].address = address;
-            return Some(0);
-        }
-    }
-}
-
 fn record_of(scene: &mut Scene, stop: usize) -> &mut Record {
     &mut scene.section.records[scene.stops[stop].record]
 }
 
 fn no_statepoint(rng: &mut Rng, scene: &mut Scene, stop: usize) -> Option<u64> {
     let pool = scene.section.constants.len();
+    let odd = scene.pool().null(rng);
     let record = record_of(scene, stop);
     let count = record.locations.len();
     let past = count as u64 - 2;
@@ -94,7 +77,7 @@ fn no_statepoint(rng: &mut Rng, scene: &mut Scene, stop: usize) -> Option<u64> {
         3 => record.locations[2].offset = (past + rng.number(30)).min(i32::MAX as u64) as u32,
         4 if count > 3 && record.locations[2].offset > 0 => record.locations[2].offset -= 1,
         4 if count > 3 => record.locations[2].offset += 1,
-        4 => record.locations.push(null(rng, &[])),
+        4 => record.locations.push(odd),
         _ => {
             let live_out = LiveOut {
                 register: 7,
@@ -150,70 +133,24 @@ fn table(rng: &mut Rng, scene: &mut Scene) -> Option<u64> {
     Some(0)
 }
 
-/// One more record with the address, before all others or behind them.
-fn shared(rng: &mut Rng, scene: &mut Scene, stop: usize) -> Option<u64> {
-    let address = scene.stops[stop].address;
-    let below = rng.pick(&[0, 1, u64::from(u32::MAX)]).min(address);
-    let stack_size = scene.stack_size(stop);
-    let function = Function {
-        address: address - below,
-        stack_size,
-        record_count: 1,
-    };
-    let mut record = record_of(scene, stop).clone();
-    record.offset = below as u32;
-    if rng.one_in(2) {
-        record.locations.clear();
-    }
-    if rng.one_in(2) {
-        scene.section.functions.push(function);
-        scene.section.records.push(record);
-    } else {
-        scene.section.functions.insert(0, function);
-        scene.section.records.insert(0, record);
-        for stop in &mut scene.stops {
-            stop.function += 1;
-            stop.record += 1;
-        }
-    }
-    Some(0)
-}
-
-fn extent(rng: &mut Rng, scene: &mut Scene, stop: usize) -> Option<u64> {
-    let end = scene.first + scene.image.len() as u64;
-    let size = scene.stack_size(stop);
-    let far = rng.number(24);
-    let near = rng.below(9) as u64;
-    let (first, own) = (scene.first, scene.stops[stop]);
-    let function = &mut scene.section.functions[own.function];
-    match rng.below(6) {
-        0 => function.stack_size = u64::MAX,
-        1 => function.stack_size = u64::MAX - 1 - rng.number(4),
-        2 => function.stack_size = end - own.rsp + 1 + near,
-        3 if first > 0 => scene.stops[stop].rsp = first - 1 - near.min(first - 1),
-        4 => match (end - size).checked_add(1 + near + far) {
-            Some(rsp) => scene.stops[stop].rsp = rsp,
-            None => function.stack_size = u64::MAX,
-        },
-        // The extent would be inside if it could wrap.
-        _ => function.stack_size = 0u64.wrapping_sub(own.rsp - first).max(1 << 32),
-    }
-    Some(0)
-}
-
 fn many_pairs(rng: &mut Rng, scene: &mut Scene, stop: usize) -> Option<u64> {
-    let constants = scene.section.constants.clone();
-    let record = record_of(scene, stop);
-    let first = plain::first_pair(record)?;
+    let nth = scene.stops[stop].record;
+    let mut locations = scene.section.records[nth].locations.clone();
+    let first = plain::first_pair(&scene.section.records[nth])?;
     let count = MOST_PAIRS + 1 + rng.pick(&[0, 0, 1, 255]);
-    while record.locations.len() < first + 2 * count {
-        record.locations.push(null(rng, &constants));
+    while locations.len() < first + 2 * count {
+        locations.push(scene.pool().null(rng));
     }
+    scene.section.records[nth].locations = locations;
     Some(0)
 }
 
 fn form(rng: &mut Rng, scene: &mut Scene, stop: usize) -> Option<u64> {
     let constants = scene.section.constants.clone();
+    let pool = Pool {
+        version: scene.section.version,
+        constants: &constants,
+    };
     let record = record_of(scene, stop);
     let first = plain::first_pair(record)?;
     let count = (record.locations.len() - first) / 2;
@@ -223,37 +160,33 @@ fn form(rng: &mut Rng, scene: &mut Scene, stop: usize) -> Option<u64> {
     let mut lowest = count;
     for _ in 0..1 + rng.below(2) {
         let pair = rng.below(count);
-        wrong_form(
-            rng,
-            &constants,
-            &mut record.locations[first + 2 * pair..][..2],
-        );
+        wrong_form(rng, pool, &mut record.locations[first + 2 * pair..][..2]);
         lowest = lowest.min(pair);
     }
     Some(lowest as u64)
 }
 
 /// Gives a pair a wrong form, whatever it is before.
-fn wrong_form(rng: &mut Rng, constants: &[u64], pair: &mut [Location]) {
+fn wrong_form(rng: &mut Rng, pool: Pool, pair: &mut [Location]) {
     let one = rng.below(2);
     let mut slot = Location {
         kind: 3,
-        size: 8,
+        size: pool.slot_size(rng),
         register: RSP,
         offset: 8,
     };
     match rng.below(5) {
         0 => slot.kind = rng.pick(&[1, 2]),
-        1 => slot.size = rng.pick(&[0, 4, 7, 9, 16, 0x108, 0x800]),
+        1 => slot.size = pool.wrong_size(rng),
         2 => slot.register = rng.pick(&[0, 5, 8, 16, 0x106, 0x107, 0x600, u16::MAX]),
         3 => {
             pair[1 - one] = slot;
-            pair[one] = null(rng, constants);
+            pair[one] = pool.null(rng);
             return;
         }
         _ => {
-            let pool = constants.iter().position(|constant| *constant != 0);
-            (slot.kind, slot.offset) = match pool {
+            let constant = pool.constants.iter().position(|constant| *constant != 0);
+            (slot.kind, slot.offset) = match constant {
                 Some(nth) if rng.one_in(2) => (5, nth as u32),
                 _ => (4, rng.pick(&[1, u32::MAX, 1 << 31])),
             };

@@ -1,13 +1,16 @@
 //! The functions of a scene's section: those with the statepoints that frames stand at, and others.
 
-use super::RSP;
-use crate::layout::{Function, LiveOut, Location, Record, Section};
+use super::{Pool, RSP};
+use crate::layout::{Function, LiveOut, Location, Record, Section, Version};
 use crate::rng::Rng;
-use crate::valid::{self, Shape};
+use crate::valid::Shape;
+use crate::{older, valid};
 use std::collections::BTreeSet;
 
-/// A function of the section with its records, and the frames that stand at one of them.
+/// A function of the section with its records, and the frames that stand at one of them. In version 1
+/// nothing but the frames says that they belong together.
 pub(super) struct Group {
+    pub(super) version: Version,
     pub(super) function: Function,
     pub(super) records: Vec<Record>,
     /// The number of that record among these, and those of the frames.
@@ -16,21 +19,27 @@ pub(super) struct Group {
 }
 
 impl Group {
-    /// The addresses of the records.
+    /// The addresses of the records; in version 1 the offsets.
     fn addresses(&self) -> impl Iterator<Item = u64> + '_ {
-        let start = self.function.address;
-        let offsets = self.records.iter().map(|record| record.offset);
-        offsets.map(move |offset| start + u64::from(offset))
+        self.records.iter().map(|record| self.address_of(record))
+    }
+
+    fn address_of(&self, record: &Record) -> u64 {
+        let start = match self.version {
+            Version::One => 0,
+            Version::Three => self.function.address,
+        };
+        start + u64::from(record.offset)
     }
 
     /// The address of the record that frames stand at.
     pub(super) fn address(&self) -> u64 {
-        self.function.address + u64::from(self.records[self.at].offset)
+        self.address_of(&self.records[self.at])
     }
 }
 
-/// The addresses that records have, and those of them at which frames stand: these have to be the
-/// address of one record only.
+/// The addresses that records have, in version 1 the offsets, and those of them at which frames stand:
+/// these have to be the address of one record only.
 #[derive(Default)]
 pub(super) struct Taken {
     all: BTreeSet<u64>,
@@ -64,7 +73,7 @@ impl Taken {
 }
 
 /// Functions, constants and records that have nothing to do with the frames.
-pub(super) fn noise(rng: &mut Rng) -> Section {
+pub(super) fn noise(rng: &mut Rng, version: Version) -> Section {
     let shape = Shape {
         functions: rng.below(3),
         constants: rng.below(3),
@@ -72,13 +81,17 @@ pub(super) fn noise(rng: &mut Rng) -> Section {
         locations: 5,
         live_outs: 2,
     };
-    valid::shaped(rng, &shape)
+    match version {
+        Version::One => older::shaped(rng, &shape),
+        Version::Three => valid::shaped(rng, &shape),
+    }
 }
 
-/// The functions of a section, each with its records; no frame stands at any.
+/// The functions of a section, each with its records, in version 1 with none; no frame stands at any.
 pub(super) fn groups_of(section: &Section) -> Vec<Group> {
     let mut records = section.records.iter().cloned();
     let group = |function: &Function| Group {
+        version: section.version,
         function: function.clone(),
         records: records
             .by_ref()
@@ -107,6 +120,7 @@ fn function(rng: &mut Rng, stack_size: u64) -> Function {
 /// that of the frame of this number.
 pub(super) fn standing(
     rng: &mut Rng,
+    version: Version,
     stack_size: u64,
     record: &Record,
     stop: usize,
@@ -114,7 +128,7 @@ pub(super) fn standing(
 ) -> Group {
     loop {
         let function = function(rng, stack_size);
-        let group = group(rng, function, record.clone(), stop);
+        let group = group(rng, version, function, record.clone(), stop);
         if taken.add(&group) {
             return group;
         }
@@ -122,12 +136,22 @@ pub(super) fn standing(
 }
 
 /// A function with the statepoint and, sometimes, records before and after it.
-fn group(rng: &mut Rng, mut function: Function, mut record: Record, stop: usize) -> Group {
-    let room = (u64::MAX - function.address).min(u64::from(u32::MAX)) as usize;
-    record.offset = if rng.one_in(4) {
-        room as u32
-    } else {
-        rng.below(room + 1) as u32
+fn group(
+    rng: &mut Rng,
+    version: Version,
+    mut function: Function,
+    mut record: Record,
+    stop: usize,
+) -> Group {
+    let most = match version {
+        Version::One => u64::MAX,
+        Version::Three => u64::MAX - function.address,
+    };
+    let room = most.min(u64::from(u32::MAX)) as usize;
+    record.offset = match rng.below(8) {
+        0 | 1 => room as u32,
+        2 => rng.below(room.min(64) + 1) as u32,
+        _ => rng.below(room + 1) as u32,
     };
     let at = rng.pick(&[0, 0, 1, 2]);
     let mut records = Vec::new();
@@ -149,8 +173,11 @@ fn group(rng: &mut Rng, mut function: Function, mut record: Record, stop: usize)
         });
     }
     records.insert(at, record);
-    function.record_count = records.len() as u64;
+    if version == Version::Three {
+        function.record_count = records.len() as u64;
+    }
     Group {
+        version,
         function,
         records,
         at,
@@ -159,12 +186,12 @@ fn group(rng: &mut Rng, mut function: Function, mut record: Record, stop: usize)
 }
 
 /// A statepoint without pairs: three constants and, sometimes, deoptimisation values.
-pub(super) fn statepoint(rng: &mut Rng, constants: &[u64]) -> Record {
+pub(super) fn statepoint(rng: &mut Rng, pool: Pool) -> Record {
     let deopt = if rng.one_in(3) { rng.below(5) } else { 0 };
     let mut locations: Vec<Location> = (0..3)
         .map(|_| Location {
             kind: 4,
-            size: rng.number(16) as u16,
+            size: pool.size(rng),
             register: rng.number(16) as u16,
             offset: rng.number(32) as u32,
         })
@@ -173,7 +200,7 @@ pub(super) fn statepoint(rng: &mut Rng, constants: &[u64]) -> Record {
     for _ in 0..deopt {
         let kind = 1 + rng.below(5) as u8;
         let offset = match kind {
-            5 => rng.below(constants.len()) as u32,
+            5 => rng.below(pool.constants.len()) as u32,
             _ => rng.number(32) as u32,
         };
         locations.push(Location {

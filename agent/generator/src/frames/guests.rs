@@ -1,10 +1,8 @@
 //! Frames that lie anywhere on the image, also over others: their pairs are null, so that each is
 //! accepted wherever it lies.
 
-use super::cells::null;
 use super::functions::{self, Taken};
-use super::{Scene, Stop};
-use crate::questions::addresses;
+use super::{keys, named, Scene, Stop};
 use crate::rng::Rng;
 
 /// How the extent of a guest lies to that of its host.
@@ -96,21 +94,23 @@ pub fn add(rng: &mut Rng, scene: &mut Scene, lie: Lie, host: usize) -> Option<us
 /// Adds a frame of this size at this RSP, with up to three null pairs and a function of its own, and
 /// gives its number.
 pub fn stand(rng: &mut Rng, scene: &mut Scene, rsp: u64, size: u64) -> usize {
-    let constants = scene.section.constants.clone();
-    let mut record = functions::statepoint(rng, &constants);
+    let (version, pool) = (scene.section.version, scene.pool());
+    let mut record = functions::statepoint(rng, pool);
     for _ in 0..2 * rng.below(4) {
-        record.locations.push(null(rng, &constants));
+        record.locations.push(pool.null(rng));
     }
-    let records = addresses(&scene.section).map(|(_, address)| address);
+    let records = keys(&scene.section).into_iter();
     let mut taken = Taken::new(records, scene.stops.iter().map(|stop| stop.address));
     let number = scene.stops.len();
-    let group = functions::standing(rng, size, &record, number, &mut taken);
+    let group = functions::standing(rng, version, size, &record, number, &mut taken);
+    let function = scene.section.functions.len();
     scene.stops.push(Stop {
         address: group.address(),
         rbp: rsp,
         rsp,
         record: scene.section.records.len() + group.at,
-        function: scene.section.functions.len(),
+        function,
+        named: named(rng, version, function, function + 1),
     });
     scene.section.functions.push(group.function);
     scene.section.records.extend(group.records);

@@ -1,8 +1,8 @@
 //! How a frame is answered and what becomes of the image, worked out plainly from the scene: one more
 //! opinion beside those of the library and of the second implementation.
 
-use super::{Scene, MOST_PAIRS, RBP, RSP};
-use crate::layout::{Location, Record};
+use super::{keys, Scene, MOST_PAIRS, RBP, RSP};
+use crate::layout::{Location, Record, Version};
 use crate::questions::addresses;
 
 /// The slots of a pair, base first, by their first byte counted from RSP; a null pair has none.
@@ -53,7 +53,8 @@ pub fn refusal(scene: &Scene, stop: usize) -> (u64, u64) {
     match whole(scene, stop) {
         Err(number) => (number, 0),
         Ok(pairs) => {
-            let wrong = |pair: &[Location]| !is_null(scene, pair) && !pair.iter().all(is_slot);
+            let slot = |one: &Location| is_slot(scene.section.version, one);
+            let wrong = |pair: &[Location]| !is_null(scene, pair) && !pair.iter().all(slot);
             if let Some(pair) = pairs.chunks_exact(2).position(wrong) {
                 return (18, pair as u64);
             }
@@ -70,15 +71,7 @@ pub fn refusal(scene: &Scene, stop: usize) -> (u64, u64) {
 
 /// The locations of a frame's pairs, or what it is refused by as a whole: 10, 15, 12, 16, 17.
 fn whole(scene: &Scene, stop: usize) -> Result<&[Location], u64> {
-    let own = scene.stops[stop];
-    let mut there = addresses(&scene.section)
-        .enumerate()
-        .filter(|(_, (_, address))| *address == own.address);
-    let (record, (function, _)) = there.next().ok_or(10_u64)?;
-    if there.next().is_some() {
-        return Err(15);
-    }
-    assert_eq!((record, function), (own.record, own.function));
+    let record = standing(scene, stop)?;
     let record = &scene.section.records[record];
     let first = first_pair(record).ok_or(12_u64)?;
     let (start, size) = (scene.start(stop), scene.stack_size(stop));
@@ -92,6 +85,26 @@ fn whole(scene: &Scene, stop: usize) -> Result<&[Location], u64> {
     }
 }
 
+/// The number of the one record that a frame stands at, or 10 or 15. In version 1 the function that is
+/// handed in has to be there.
+fn standing(scene: &Scene, stop: usize) -> Result<usize, u64> {
+    let (section, own) = (&scene.section, scene.stops[stop]);
+    if section.version == Version::One && own.named >= section.functions.len() as u64 {
+        return Err(10);
+    }
+    let there = keys(section).into_iter().enumerate();
+    let mut there = there.filter(|(_, address)| *address == own.address);
+    let (record, _) = there.next().ok_or(10_u64)?;
+    if there.next().is_some() {
+        return Err(15);
+    }
+    assert_eq!(record, own.record);
+    if let Some((owner, _)) = addresses(section).nth(record) {
+        assert_eq!(owner, own.function);
+    }
+    Ok(record)
+}
+
 /// Whether both locations of a pair are constants equal to 0.
 fn is_null(scene: &Scene, pair: &[Location]) -> bool {
     pair.iter().all(|one| match one.kind {
@@ -101,9 +114,13 @@ fn is_null(scene: &Scene, pair: &[Location]) -> bool {
     })
 }
 
-/// Whether a location has the form of a slot.
-fn is_slot(location: &Location) -> bool {
-    location.kind == 3 && location.size == 8 && [RBP, RSP].contains(&location.register)
+/// Whether a location has the form of a slot. Its size is 8, in version 1 also 0.
+fn is_slot(version: Version, location: &Location) -> bool {
+    let sizes: &[u16] = match version {
+        Version::One => &[0, 8],
+        Version::Three => &[8],
+    };
+    location.kind == 3 && sizes.contains(&location.size) && [RBP, RSP].contains(&location.register)
 }
 
 /// The answer of a frame whose pairs all have slots inside it: 20, 21 or accepted.

@@ -69,12 +69,39 @@ fn guests_lie_as_asked_and_are_accepted() {
     assert!(added.iter().all(|count| *count > 100), "{added:?}");
 }
 
+/// Frames of version 1 name functions that are there, and often not in the order of their records;
+/// those of version 3 name any.
+#[test]
+fn frames_name_functions_as_their_version_has_it() {
+    let mut rng = Rng::new(1);
+    let (mut unordered, mut absent) = (0, 0);
+    for _ in 0..4_000 {
+        let scene = Scene::many(&mut rng, 2);
+        let functions = scene.section.functions.len() as u64;
+        let there = scene.stops.iter().all(|stop| stop.named < functions);
+        let [one, two] = [scene.stops[0], scene.stops[1]];
+        match scene.section.version {
+            Version::One => {
+                assert!(there);
+                let own = scene
+                    .stops
+                    .iter()
+                    .all(|stop| stop.named == stop.function as u64);
+                assert!(own);
+                unordered += u32::from((one.record < two.record) != (one.function < two.function));
+            }
+            Version::Three => absent += u32::from(!there),
+        }
+    }
+    assert!(unordered > 500 && absent > 500, "{unordered} {absent}");
+}
+
 /// Where a fault is aimed at, the plain answer is that fault.
 #[test]
 fn plain_answers_are_those_aimed_at() {
     let mut rng = Rng::new(1);
     let mut hit = 0;
-    for _ in 0..20_000 {
+    for _ in 0..40_000 {
         let mut scene = Scene::one(&mut rng);
         assert_eq!(plain::refusal(&scene, 0), (0, 0));
         let number = rng.pick(&faults::OWN);
@@ -83,5 +110,5 @@ fn plain_answers_are_those_aimed_at() {
             hit += 1;
         }
     }
-    assert!(hit > 10_000, "{hit}");
+    assert!(hit > 20_000, "{hit}");
 }

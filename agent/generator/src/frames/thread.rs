@@ -10,7 +10,7 @@ pub struct Thread {
     pub scene: Scene,
     /// The frames, by their numbers in the scene; one may be there several times.
     pub order: Vec<usize>,
-    /// How many numbers stand behind the last frame: none, or one or two that make no frame.
+    /// How many numbers stand behind the last frame: none, or one to three that make no frame.
     pub rest: usize,
 }
 
@@ -56,7 +56,7 @@ impl Thread {
             thread.repeat(rng);
         }
         if rng.one_in(24) {
-            thread.rest = 1 + rng.below(2);
+            thread.rest = 1 + rng.below(3);
         }
         thread
     }
@@ -70,11 +70,11 @@ impl Thread {
         }
     }
 
-    /// The list: address, RBP and RSP of each frame.
+    /// The list: address, RBP, RSP and function number of each frame.
     pub fn list(&self) -> Vec<u64> {
         let stops = self.order.iter().map(|stop| self.scene.stops[*stop]);
         let mut list: Vec<u64> = stops
-            .flat_map(|stop| [stop.address, stop.rbp, stop.rsp])
+            .flat_map(|stop| [stop.address, stop.rbp, stop.rsp, stop.named])
             .collect();
         list.resize(list.len() + self.rest, 0x7000);
         list

@@ -1,8 +1,9 @@
-//! Small listings at the edges of the rules, the same in every run.
+//! Small listings at the edges of the rules, those of version 3 and all orders of kinds, the same in
+//! every run.
 
 use super::grammar::may_follow;
 use super::overfull::MOST;
-use super::{item_length, Listed, END, FUNCTION, RECORD};
+use super::{item_length, Listed, END, FUNCTION, LOCATION, RECORD, VERSION};
 use crate::asked::full_record;
 use crate::edges::{addresses, every_part, function, pools, record, Visit, SUMS};
 use crate::layout::{LiveOut, Section};
@@ -18,28 +19,42 @@ pub fn all(visit: Visit) {
     single_bytes(visit);
 }
 
-/// Every sequence of up to five kinds, two of them unknown.
+/// Every sequence of up to five kinds, one of them unknown. Those that begin with item 7 also as
+/// version 1 has room for them.
 fn orders(visit: Visit) {
     for length in 0..=5 {
         for number in 0..8usize.pow(length) {
             let kinds: Vec<u8> = (0..length)
                 .map(|digit| (number >> (3 * digit)) as u8 & 7)
                 .collect();
-            let (number, place) = ordered(&kinds);
-            visit(Case::known("order", items(&kinds), number, place));
+            let fill = if kinds.first() == Some(&VERSION) {
+                2
+            } else {
+                1
+            };
+            for wide in [true, false].into_iter().take(fill) {
+                let (number, place) = ordered(&kinds, wide);
+                visit(Case::known("order", items(&kinds, wide), number, place));
+            }
         }
     }
 }
 
-/// Whole items of these kinds; unknown ones are a byte. The first function says how many records
-/// there are.
-fn items(kinds: &[u8]) -> Vec<u8> {
+/// Whole items of these kinds; unknown ones are a byte. All other bytes are 1. But the first function
+/// says how many records there are, and unless they are to be wide, no function does and sizes are
+/// one byte.
+fn items(kinds: &[u8], wide: bool) -> Vec<u8> {
     let mut bytes = Vec::new();
-    let mut records = kinds.iter().filter(|kind| **kind == RECORD).count();
+    let records = kinds.iter().filter(|kind| **kind == RECORD).count();
+    let mut records = if wide { records } else { 0 };
     for kind in kinds {
         bytes.push(*kind);
-        if (1..=END).contains(kind) {
+        if (1..=VERSION).contains(kind) {
             bytes.resize(bytes.len() + item_length(*kind) - 1, 1);
+        }
+        if *kind == LOCATION && !wide {
+            let size = bytes.len() - 7;
+            bytes[size] = 0;
         }
         if *kind == FUNCTION {
             let count = bytes.len() - 8;
@@ -51,11 +66,17 @@ fn items(kinds: &[u8]) -> Vec<u8> {
 }
 
 /// Number and place of the answer to such items.
-fn ordered(kinds: &[u8]) -> (u64, usize) {
+fn ordered(kinds: &[u8], wide: bool) -> (u64, usize) {
     let (mut place, mut before) = (0, 0);
+    let (first, counted) = (kinds.first() == Some(&VERSION), kinds.contains(&RECORD));
+    let mut beyond = None;
     for (nth, kind) in kinds.iter().enumerate() {
         if !may_follow(before, *kind) {
             return (22, place);
+        }
+        // Only the first function has a count, and all sizes are 257.
+        if *kind == LOCATION || *kind == FUNCTION && counted {
+            beyond = beyond.or(Some(place));
         }
         place += item_length(*kind);
         before = *kind;
@@ -65,6 +86,8 @@ fn ordered(kinds: &[u8]) -> (u64, usize) {
     }
     if before != END {
         (22, place)
+    } else if first {
+        beyond.filter(|_| wide).map_or((0, 0), |place| (28, place))
     } else if kinds.contains(&RECORD) && kinds[0] != FUNCTION {
         (5, 12)
     } else {
@@ -106,8 +129,8 @@ fn values(visit: Visit) {
     for (counts, records) in SUMS {
         let section = Section {
             functions: counts.iter().map(|count| function(0, *count)).collect(),
-            constants: vec![],
             records: vec![record(0, 1, 1); records.min(2) as usize],
+            ..Section::default()
         };
         let bytes = Listed::of(&section).bytes;
         visit(Case::known("sums past the width", bytes, 5, 12));

@@ -3,11 +3,19 @@
 
 use crate::aimed::{beside, large_index, owner, WRONG_KINDS};
 use crate::edges::record;
-use crate::layout::{Location, Section, COUNTS};
+use crate::layout::{Location, Section, Version, COUNTS};
 use crate::rng::Rng;
 
-/// Gives the section this fault, 5 to 8, and says at which place the check then refuses its bytes.
-/// `None` where it has no part that can have the fault; it is then as it was.
+/// The faults that a section of this version can have.
+pub fn numbers(version: Version) -> &'static [u64] {
+    match version {
+        Version::One => &[6, 7],
+        Version::Three => &[5, 6, 7, 8],
+    }
+}
+
+/// Gives the section this fault, one of its version's, and says at which place the check then
+/// refuses its bytes. `None` where it has no part that can have the fault; it is then as it was.
 pub fn fault(rng: &mut Rng, number: u64, section: &mut Section) -> Option<usize> {
     match number {
         5 => counts(rng, section),

@@ -1,6 +1,6 @@
 //! The grammar of a listing, and listings that break it at a known item.
 
-use super::{any_item, Listed, CONSTANT, END, FUNCTION, LIVE_OUT, LOCATION, RECORD};
+use super::{any_item, Listed, CONSTANT, END, FUNCTION, LIVE_OUT, LOCATION, RECORD, VERSION};
 use crate::rng::Rng;
 
 /// How a listing breaks its grammar.
@@ -8,6 +8,7 @@ use crate::rng::Rng;
 pub enum Cause {
     UnknownKind,
     WrongOrder,
+    WrongVersion,
     CutItem,
     MissingEnd,
     AfterTheEnd,
@@ -15,9 +16,10 @@ pub enum Cause {
 
 impl Cause {
     /// All of them.
-    pub const ALL: [Cause; 5] = [
+    pub const ALL: [Cause; 6] = [
         Cause::UnknownKind,
         Cause::WrongOrder,
+        Cause::WrongVersion,
         Cause::CutItem,
         Cause::MissingEnd,
         Cause::AfterTheEnd,
@@ -28,6 +30,7 @@ impl Cause {
         match self {
             Cause::UnknownKind => "unknown kind",
             Cause::WrongOrder => "wrong order",
+            Cause::WrongVersion => "wrong item 7",
             Cause::CutItem => "cut item",
             Cause::MissingEnd => "missing end",
             Cause::AfterTheEnd => "bytes after the end",
@@ -36,7 +39,12 @@ impl Cause {
 }
 
 /// Whether an item of this kind may stand after one of that kind, or first, where `before` is 0.
+/// Item 7, with the right body, stands first only, and what follows it stands as if first.
 pub fn may_follow(before: u8, kind: u8) -> bool {
+    if kind == VERSION {
+        return before == 0;
+    }
+    let before = if before == VERSION { 0 } else { before };
     match kind {
         FUNCTION | CONSTANT => before <= kind,
         RECORD | END => before != END,
@@ -53,6 +61,7 @@ pub fn break_by(rng: &mut Rng, cause: Cause, listed: &mut Listed) -> Option<usiz
     match cause {
         Cause::UnknownKind => Some(unknown_kind(rng, listed, nth)),
         Cause::WrongOrder => Some(wrong_order(rng, listed, nth)),
+        Cause::WrongVersion => Some(wrong_version(rng, listed, nth)),
         Cause::CutItem => cut_item(rng, listed),
         Cause::MissingEnd => {
             listed.bytes.truncate(listed.items[nth]);
@@ -67,6 +76,7 @@ pub fn break_any(rng: &mut Rng, listed: &mut Listed) -> usize {
     let cause = rng.pick(&[
         Cause::UnknownKind,
         Cause::WrongOrder,
+        Cause::WrongVersion,
         Cause::MissingEnd,
         Cause::AfterTheEnd,
     ]);
@@ -77,9 +87,9 @@ pub fn break_any(rng: &mut Rng, listed: &mut Listed) -> usize {
 fn unknown_kind(rng: &mut Rng, listed: &mut Listed, nth: usize) -> usize {
     let place = listed.items[nth];
     let kind = match rng.below(3) {
-        0 => rng.pick(&[0, 7]),
-        1 => rng.pick(&[0x81, 0x86, 0xff]),
-        _ => 7 + rng.below(249) as u8,
+        0 => rng.pick(&[0, 8]),
+        1 => rng.pick(&[0x81, 0x86, 0x87, 0xff]),
+        _ => 8 + rng.below(248) as u8,
     };
     if rng.one_in(4) {
         listed.bytes.insert(place, kind);
@@ -101,6 +111,27 @@ fn wrong_order(rng: &mut Rng, listed: &mut Listed, nth: usize) -> usize {
         _ => place,
     };
     listed.bytes.splice(place..end, item);
+    place
+}
+
+/// An item 7 that may not stand there: before the nth item, which has to be the first and its body 1;
+/// in its place, where that is the first of version 1; or cut.
+fn wrong_version(rng: &mut Rng, listed: &mut Listed, nth: usize) -> usize {
+    let place = listed.items[nth];
+    let other = rng.byte();
+    let body = match rng.below(4) {
+        0 | 1 if nth > 0 => 1,
+        2 if other != 1 => other,
+        _ => rng.pick(&[0, 2, 3, 7, 0x81]),
+    };
+    match rng.below(6) {
+        0 => {
+            listed.bytes.truncate(place);
+            listed.bytes.push(VERSION);
+        }
+        1 | 2 if listed.bytes[place] == VERSION => listed.bytes[place + 1] = body,
+        _ => drop(listed.bytes.splice(place..place, [VERSION, body])),
+    }
     place
 }
 

@@ -2,10 +2,12 @@
 //! can be.
 
 use super::grammar::break_any;
-use super::{faults, several, Listed, CONSTANT, END, FUNCTION, LIVE_OUT, LONGEST, RECORD};
+use super::narrow::{self, Beyond};
+use super::{faults, several, Listed};
+use super::{CONSTANT, END, FUNCTION, LIVE_OUT, LONGEST, RECORD, VERSION};
 use crate::edges::Visit;
-use crate::layout::{Section, HEADER, LARGEST};
-use crate::{largest, layout, valid, Case, Rng};
+use crate::layout::{Section, Version, HEADER, LARGEST};
+use crate::{largest, layout, section_in, Case, Rng};
 
 /// Hands over the ones that are costly to make; the seed decides the one that is random.
 pub fn all(seed: u64, visit: Visit) {
@@ -19,10 +21,17 @@ pub fn all(seed: u64, visit: Visit) {
     longest(visit);
 }
 
-/// Listings of exactly the longest length, and a byte longer.
-fn longest(visit: Visit) {
+/// A listing of exactly the longest length, with as many functions as make that possible.
+fn of_longest_length(version: Version) -> Vec<u8> {
     let mut bytes = Vec::with_capacity(LONGEST + 1);
-    for _ in 0..4 {
+    let functions = match version {
+        Version::One => {
+            bytes.extend([VERSION, 1]);
+            5
+        }
+        Version::Three => 4,
+    };
+    for _ in 0..functions {
         bytes.push(FUNCTION);
         bytes.extend([0; 24]);
     }
@@ -32,6 +41,18 @@ fn longest(visit: Visit) {
     }
     bytes.push(END);
     assert_eq!(bytes.len(), LONGEST);
+    bytes
+}
+
+/// Listings of exactly the longest length, and a byte longer.
+fn longest(visit: Visit) {
+    let mut first = of_longest_length(Version::One);
+    visit(Case::known("longest of version 1", first.clone(), 1, 0));
+    first[2 + 25 + 17] = 1;
+    visit(Case::known("longest, and a count", first.clone(), 28, 27));
+    first.push(END);
+    visit(Case::known("over the longest, and a count", first, 1, 0));
+    let mut bytes = of_longest_length(Version::Three);
     visit(Case::known("longest", bytes.clone(), 1, 0));
     bytes[LONGEST - 1] = 0;
     visit(Case::known(
@@ -64,8 +85,9 @@ fn overfull() -> Case {
 /// Listings whose sections are of the largest length or longer, cheap to make one after the other:
 /// all begin with the same functions, which have no records.
 pub struct Large {
+    version: Version,
     bytes: Vec<u8>,
-    /// The bytes of those functions.
+    /// The bytes of those functions, and of item 7 where there is one.
     base: usize,
     /// The bytes that the section has left for all else.
     left: usize,
@@ -73,51 +95,63 @@ pub struct Large {
 
 impl Large {
     /// The functions, with numbers of this source.
-    pub fn new(rng: &mut Rng) -> Large {
-        const FUNCTIONS: usize = LARGEST / layout::FUNCTION - 100;
-        let mut bytes = Vec::with_capacity(25 * FUNCTIONS + 65_536);
-        for _ in 0..FUNCTIONS {
+    pub fn new(rng: &mut Rng, version: Version) -> Large {
+        let functions = LARGEST / version.function() - 100;
+        let mut bytes = Vec::with_capacity(25 * functions + 65_536);
+        if version == Version::One {
+            bytes.extend([VERSION, 1]);
+        }
+        for _ in 0..functions {
             bytes.push(FUNCTION);
             bytes.extend(rng.word().to_le_bytes());
             bytes.extend(rng.word().to_le_bytes());
             bytes.extend([0; 8]);
         }
         Large {
+            version,
             base: bytes.len(),
-            left: LARGEST - HEADER - layout::FUNCTION * FUNCTIONS,
+            left: LARGEST - HEADER - version.function() * functions,
             bytes,
         }
     }
 
     /// A listing whose section is too long, by a little or more, and often has other faults.
     pub fn over(&mut self, rng: &mut Rng) -> &[u8] {
-        let mut section = valid::section(rng);
+        let mut section = section_in(rng, self.version);
         self.pad(&mut section, layout::CONSTANT * (1 + rng.below(4)));
         if rng.one_in(2) {
             section = several(rng, &section);
         }
-        self.with(&Listed::of(&section).bytes)
+        self.with(&Listed::without_version(&section).bytes)
     }
 
-    /// A listing that breaks the grammar and whose section would have the largest length or be too
-    /// long; also number and place of its answer.
+    /// A listing that is refused by itself, and whose section would have the largest length or be too
+    /// long: it breaks the grammar or, in version 1, says more than there is room for. Also number and
+    /// place of its answer.
     pub fn broken(&mut self, rng: &mut Rng) -> (&[u8], u64, usize) {
-        let mut section = valid::section(rng);
+        let mut section = section_in(rng, self.version);
         self.pad(&mut section, rng.below(2) * layout::CONSTANT);
-        let mut listed = Listed::of(&section);
-        let place = self.base + break_any(rng, &mut listed);
-        (self.with(&listed.bytes), 22, place)
+        let beyond = rng.pick(&Beyond::ALL);
+        let wide =
+            self.version == Version::One && narrow::widen(rng, beyond, &mut section).is_some();
+        let mut listed = Listed::without_version(&section);
+        let (number, place) = match narrow::first_beyond(&listed) {
+            Some(place) if wide && rng.one_in(2) => (28, place),
+            _ => (22, break_any(rng, &mut listed)),
+        };
+        let place = self.base + place;
+        (self.with(&listed.bytes), number, place)
     }
 
     /// A listing whose section has the largest length and, where it can, a fault; also number and
     /// place of its answer, both 0 where it has none.
     pub fn faulty(&mut self, rng: &mut Rng) -> (&[u8], u64, usize) {
-        let mut section = valid::section(rng);
+        let mut section = section_in(rng, self.version);
         while self.length(&section) > self.left {
-            section = valid::section(rng);
+            section = section_in(rng, self.version);
         }
         self.pad(&mut section, 0);
-        let number = 5 + rng.below(4) as u64;
+        let number = rng.pick(faults::numbers(self.version));
         let place = faults::fault(rng, number, &mut section);
         // A record more, which is one of the faults, makes the section too long.
         let fits = self.length(&section) == self.left;
@@ -126,7 +160,7 @@ impl Large {
             12 => place,
             _ => place + LARGEST - HEADER - self.left,
         });
-        let bytes = self.with(&Listed::of(&section).bytes);
+        let bytes = self.with(&Listed::without_version(&section).bytes);
         match place {
             _ if !fits => (bytes, 1, 0),
             Some(place) => (bytes, number, place),

@@ -1,20 +1,21 @@
 //! Listings with as many locations or live-outs in a record as it can state, and with more.
 
 use super::grammar::break_any;
-use super::{item_length, several, Listed, LIVE_OUT, LOCATION, RECORD};
+use super::{burdened, item_length, Listed, LIVE_OUT, LOCATION, RECORD};
 use crate::edges::{function, record};
-use crate::layout::Section;
+use crate::layout::{Section, Version};
 use crate::{Case, Rng};
 
 /// The most of either that a record can have.
 pub const MOST: usize = 65_535;
 
 /// A listing that is refused by 23: a record has too many of `kind`, locations or live-outs. A later
-/// one may have too many too, and the section often has faults.
+/// one may have too many too, and the section often has faults, or says more than version 1 has room
+/// for.
 pub fn overfull(rng: &mut Rng, section: &Section, kind: u8) -> Case {
     let mut section = with_record(section);
     if rng.one_in(2) {
-        section = several(rng, &section);
+        section = burdened(rng, &section);
     }
     let nth = rng.below(section.records.len());
     let count = MOST + rng.pick(&[1, 1, 1, 2, 1_000]);
@@ -48,7 +49,8 @@ pub fn broken(rng: &mut Rng, section: &Section, kind: u8) -> Case {
 fn with_record(section: &Section) -> Section {
     let mut section = section.clone();
     if section.records.is_empty() {
-        section.functions.push(function(0x1000, 1));
+        let count = u64::from(section.version == Version::Three);
+        section.functions.push(function(0x1000, count));
         section.records.push(record(4, 1, 1));
     }
     section

@@ -29,8 +29,8 @@ fn bad_moves_are_named() {
         );
     };
     let number = "is not a hexadecimal number of at most 64 bits";
-    bad("50000 90000\n1", 2, "1 number");
-    bad("# moves\n\n1 2 3\n", 3, "3 numbers");
+    bad("50000 90000\n1", 2, "1 word");
+    bad("# moves\n\n1 2 3\n", 3, "3 words");
     bad("1 -2\n", 1, &format!("'-2' {number}"));
     bad("1 +2\n", 1, &format!("'+2' {number}"));
     bad("1, 2\n", 1, &format!("'1,' {number}"));
@@ -56,8 +56,9 @@ fn bad_frames_are_named() {
             "; a line has the form ADDRESS RBP RSP\n",
         );
     };
-    bad("1020 0\n", 1, "2 numbers");
-    bad("1020 0 7000 0\n", 1, "4 numbers");
+    bad("1020 0\n", 1, "2 words");
+    bad("1020 0 7000 0\n", 1, "4 words");
+    bad("0+20 0 7000\n", 1, "'0+20' is not a hexadecimal number");
     bad(
         "1020 0 7000\nrip rbp rsp\n",
         2,

@@ -34,7 +34,7 @@ fn refusals_of_the_section() {
     for (section, number, place) in [
         (vec![], 1, 0),
         (row_h()[..15].to_vec(), 1, 0),
-        (with(row_h(), 0, 1), 2, 0),
+        (with(row_h(), 0, 2), 2, 0),
         (with(row_h(), 3, 1), 3, 3),
         (with(row_h(), 143, 1), 3, 143),
         (row_h()[..151].to_vec(), 4, 40),
@@ -109,7 +109,7 @@ fn refusals_of_where_the_frame_stands() {
     let twice = vec![statepoint(0x20, &pairs), statepoint(0x20, &pairs)];
     let words = on(one_function(24, twice).encode()).refused(15, 0);
     assert!(
-        words.ends_with(": more than one record at the address"),
+        words.ends_with(": more than one record at the address or offset"),
         "{words}"
     );
 
@@ -172,7 +172,7 @@ fn null_pairs_and_bases_of_zero() {
 #[test]
 fn order() {
     let mut all = Restore {
-        section: with(row_h(), 0, 1),
+        section: with(row_h(), 0, 2),
         image: vec![0; 1_048_577],
         moves: "0 0".to_string(),
         frames: "1020 0 7000\n1020 0 7000\n9999 0 0\n".to_string(),

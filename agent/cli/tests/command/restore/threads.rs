@@ -94,7 +94,7 @@ fn as_many_frames_as_there_may_be() {
     let words = row.refused(25, 0);
     assert_eq!(
         words,
-        "frames: list of frames not a multiple of three numbers, or over 4,096 frames"
+        "frames: list of frames not a multiple of four numbers, or over 4,096 frames"
     );
 }
 
