@@ -1,7 +1,7 @@
 -- What a plan that is a window tells.
 use Prim.Native.Nat.{ℕ, suc, _+_, _-_, _≤_, _<_}
 use mathlib.Core.Path.{_≡_, refl, sym, _∙_}
-use mathlib.Core.Bool.{Bool, true, false, not}
+use mathlib.Core.Bool.{Bool, true, false}
 use mathlib.Core.Logic.{_⊎_, inl, inr}
 use mathlib.Core.List.{List, [], _∷_, map, List·Memᴰ, Memᴰ·of-map, List·Memᴰ·not-nil, List·Memᴰ·cases-cons}
 use native.Mathlib.Omega.{arith}
@@ -10,7 +10,7 @@ use Rattle.stackmap.specs.declared.Verdict.the-variants.{Valid}
 use Rattle.stackmap.specs.Layout.{stackSizeUnknown}
 use Rattle.stackmap.specs.Section.{Location, Entry, readSection}
 use Rattle.stackmap.specs.Check.{sectionCheck}
-use Rattle.stackmap.proofs.Tests.{and-true}
+use Rattle.stackmap.proofs.Tests.{and-true, not-true}
 use Rattle.moves.specs.Pointers.{Pointer, null, slots}
 use Rattle.moves.specs.Plan.{Plan, refuse, window}
 use Rattle.moves.proofs.Lists.{Sound}
@@ -18,10 +18,6 @@ use Rattle.relocate.specs.declared.Frame.{Frame}
 use Rattle.questions.specs.Questions.{ask}
 use Rattle.relocate.specs.Statepoint.{Pair, pairs, isNull, slotInside, slotAt, registerOf, excess, inside, pointerOf}
 use Rattle.relocate.specs.Plan.{recordsOf, need, only, every, stackSize, extentRight, planPairs, planRecord, plan}
-
-not-true : (a : Bool) → not a ≡ true → a ≡ false
-not-true true h = absurd (let z : _≡_ {A = ℕ} 0 1 = cc in omega arith)
-not-true false h = refl
 
 -- the refusal numbers of a plan are above 0
 abbrev pub Above : Plan → Type 0

@@ -1,7 +1,9 @@
 // The check of one record, which stands at the start of the slice.
 // `zero_bytes` is no entry point: it requires that its bytes are inside, which 1 or 4 has tested.
 ghost use mathlib.Core.Path.{_≡_};
-ghost use Prim.Native.Nat.{_+_, _*_, _≤_};
+ghost use mathlib.Core.Bool.{true, _&&_};
+ghost use Prim.Native.Nat.{_+_, _*_, _%_, _^_, _≤_};
+ghost use lib.Dec.{leb, ltb};
 ghost use lib.ListN.{length};
 ghost use Rattle.stackmap.specs.Layout.{locationSize, liveOutSize};
 ghost use Rattle.stackmap.specs.Section.{recordLength};
@@ -10,8 +12,8 @@ ghost use Rattle.stackmap.specs.Record.{zeros, poolCheck, locationCheck,
 use crate::Verdict;
 use crate::layout;
 
-// The `count` bytes from `at` are zero.
-pub fn zero_bytes(s: &[u8], at: usize, count: usize) -> Verdict
+// The `count` bytes from `at` are zero: one by one, so that the first that isn't is named.
+fn each_zero(s: &[u8], at: usize, count: usize) -> Verdict
     requires { ⌜ at + count ≤ length (now s) ⌝ }
     ensures { λ r. ⌜ r ≡ zeros count (now (s .entry)) at ⌝ }
 {
@@ -25,6 +27,36 @@ pub fn zero_bytes(s: &[u8], at: usize, count: usize) -> Verdict
         left -= 1;
     }
     Verdict::Valid(p)
+}
+
+// Whether the `count` bytes from `at` are zero, by at most two reads; false also of a count that no record has.
+fn all_zero(s: &[u8], at: usize, count: usize) -> bool
+    requires { ⌜ at + count ≤ length (now s) ⌝ }
+    ensures { λ r. ⌜ (r ≡ true → word count (now (s .entry)) at ≡ 0) ⌝ }
+{
+    if count == 2 {
+        return wire::u16_at(s, at) == 0;
+    }
+    if count == 4 {
+        return wire::u32_at(s, at) == 0;
+    }
+    if count == 6 {
+        if wire::u32_at(s, at) == 0 {
+            return wire::u16_at(s, at + 4) == 0;
+        }
+    }
+    false
+}
+
+// The `count` bytes from `at` are zero.
+pub fn zero_bytes(s: &[u8], at: usize, count: usize) -> Verdict
+    requires { ⌜ at + count ≤ length (now s) ⌝ }
+    ensures { λ r. ⌜ r ≡ zeros count (now (s .entry)) at ⌝ }
+{
+    if all_zero(s, at, count) {
+        return Verdict::Valid(at + count);
+    }
+    each_zero(s, at, count)
 }
 
 // The pool entry of a location of this kind, whose offset stands at `offset`; it begins at `at` and ends at `end`.
@@ -45,8 +77,8 @@ fn pool(s: &[u8], kind: u8, offset: usize, constants: u32, at: usize, end: usize
     Verdict::Valid(end)
 }
 
-// The location at `at`, of a section with `constants` constants.
-fn location(s: &[u8], old: bool, at: usize, constants: u32) -> Verdict
+// The location at `at`, of a section with `constants` constants: byte by byte, so that what is wrong is named.
+fn each_byte(s: &[u8], old: bool, at: usize, constants: u32) -> Verdict
     requires { ⌜ at + locationSize old ≤ length (now s) ⌝ }
     ensures { λ r. ⌜ r ≡ locationCheck old (now (s .entry)) constants at ⌝ }
 {
@@ -84,6 +116,34 @@ fn location(s: &[u8], old: bool, at: usize, constants: u32) -> Verdict
         at,
         at + layout::LOCATION_SIZE,
     )
+}
+
+// Whether the first eight bytes of a location of version 3 are right by themselves: kind 1 to 4, which needs no pool entry, and zero
+// bytes after the kind and after the register.
+fn is_plain(bytes: u64) -> bool
+    ensures { λ r. ⌜ r ≡ (leb 1 (bytes % 2 ^ 16) && (leb (bytes % 2 ^ 16) 4 && ltb bytes (2 ^ 48))) ⌝ }
+{
+    let kind = bytes % 65536;
+    if kind < 1 {
+        return false;
+    }
+    if kind > 4 {
+        return false;
+    }
+    bytes < 281474976710656
+}
+
+// The same, by one read of eight bytes where that shows that it is right.
+fn location(s: &[u8], old: bool, at: usize, constants: u32) -> Verdict
+    requires { ⌜ at + locationSize old ≤ length (now s) ⌝ }
+    ensures { λ r. ⌜ r ≡ locationCheck old (now (s .entry)) constants at ⌝ }
+{
+    if !old {
+        if is_plain(wire::u64_at(s, at)) {
+            return Verdict::Valid(at + layout::LOCATION_SIZE);
+        }
+    }
+    each_byte(s, old, at, constants)
 }
 
 // The `count` locations from `at`.
