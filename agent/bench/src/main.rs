@@ -42,8 +42,8 @@ fn main() {
     rows(rounds, &bytes, &last);
     conversions::rows(rounds, &bytes);
     frame::rows(rounds, &bytes);
-    thread::rows(rounds, &bytes, LIMIT);
     version_1::rows(rounds, &bytes);
+    thread::rows(rounds, &bytes, LIMIT);
 }
 
 /// The last record: its number and its address, which is the highest.
