@@ -11,9 +11,10 @@ mod rows;
 mod sections;
 
 use common::{differ, say, seed};
-use generator::{case, largest, valid, Rng, Section};
+use generator::layout::Function;
+use generator::{case, largest, of_length_in, Rng, Section, Version};
 use reference::program::{self, MAX_INPUT};
-use rows::{c_and_zero, c_with, C, H, H_LISTING};
+use rows::{c_and_zero, c_with, h_1_listing, C, H, H_1, H_LISTING};
 use std::env;
 use std::fs::File;
 use std::io::{ErrorKind, Write};
@@ -97,15 +98,20 @@ fn compare(name: &str, input: &[u8]) {
 
 #[test]
 fn worked_rows() {
+    let mut older_f = c_with(12, 1);
+    older_f[0] = 1;
     for (name, input, output) in [
         ("A", &[][..], &b"refused 1 at 0\n"[..]),
         ("B", &C[..15], b"refused 1 at 0\n"),
         ("C", &C, &[6]),
-        ("D", &c_with(0, 1), b"refused 2 at 0\n"),
+        ("D", &c_with(0, 2), b"refused 2 at 0\n"),
         ("E", &c_and_zero(), b"refused 9 at 16\n"),
         ("F", &c_with(12, 1), b"refused 5 at 12\n"),
         ("G", &c_with(4, 1), b"refused 4 at 16\n"),
         ("H", &H, &H_LISTING),
+        ("C of version 1", &c_with(0, 1), &[7, 1, 6]),
+        ("F of version 1", &older_f, b"refused 4 at 16\n"),
+        ("H of version 1", &H_1, &h_1_listing()),
     ] {
         assert_eq!(run(input, 1_000), output, "{name}");
         compare(name, input);
@@ -132,57 +138,91 @@ fn random_sections() {
     say(&format!("{RANDOM} sections, {listings} accepted"));
 }
 
-/// Sections of these lengths with nothing but constants, which have the longest listings, and random
-/// ones; each whole, with its last byte cut, with a byte more, and with its last byte damaged.
+/// The sections of this length and version that have the longest listings: nothing but constants, or in
+/// version 1 functions.
+fn with_the_longest_listing(rng: &mut Rng, version: Version, length: usize) -> Section {
+    let function = |_| Function {
+        address: rng.word(),
+        stack_size: rng.word(),
+        record_count: 0,
+    };
+    let functions = match version {
+        Version::One => (0..(length - 16) / 16).map(function).collect(),
+        Version::Three => Vec::new(),
+    };
+    let left = length - 16 - 16 * functions.len();
+    Section {
+        version,
+        functions,
+        constants: (0..left / 8).map(|_| rng.word()).collect(),
+        ..Section::default()
+    }
+}
+
+/// Sections of these lengths with the longest listings, and random ones; each whole, with its last byte
+/// cut, with a byte more, and with its last byte damaged.
 #[test]
 fn inputs_about_as_long_as_a_section_may_be() {
     let mut rng = Rng::new(seed("inputs about as long as a section may be"));
-    for length in [MAX_INPUT - 8, MAX_INPUT, MAX_INPUT + 8, 65_536, 65_544] {
-        let constants = Section {
-            constants: (0..(length - 16) / 8).map(|_| rng.word()).collect(),
-            ..Section::default()
-        };
-        for section in [constants, valid::of_length(&mut rng, length)] {
-            let mut bytes = section.encode();
-            assert_eq!(bytes.len(), length);
-            compare("whole", &bytes);
-            compare("cut", &bytes[..length - 1]);
-            bytes.push(0);
-            compare("a byte more", &bytes);
-            bytes.truncate(length);
-            bytes[length - 1] ^= 1;
-            compare("last byte", &bytes);
+    for length in [
+        MAX_INPUT - 8,
+        MAX_INPUT,
+        MAX_INPUT + 8,
+        57_344,
+        65_536,
+        65_544,
+    ] {
+        for version in Version::ALL {
+            let longest = with_the_longest_listing(&mut rng, version, length);
+            for section in [longest, of_length_in(&mut rng, version, length)] {
+                let mut bytes = section.encode();
+                assert_eq!(bytes.len(), length);
+                compare("whole", &bytes);
+                compare("cut", &bytes[..length - 1]);
+                bytes.push(0);
+                compare("a byte more", &bytes);
+                bytes.truncate(length);
+                bytes[length - 1] ^= 1;
+                compare("last byte", &bytes);
+            }
         }
     }
-    let longest = run(
-        &Section {
-            constants: vec![5; 7_166],
-            ..Section::default()
-        }
-        .encode(),
-        MAX_INPUT,
-    );
-    assert_eq!(longest.len(), 64_495);
+    for (version, listing) in [(Version::One, 63_978), (Version::Three, 46_063)] {
+        let section = with_the_longest_listing(&mut rng, version, MAX_INPUT).encode();
+        assert_eq!(run(&section, MAX_INPUT).len(), listing);
+    }
 }
 
 /// A section's length is a multiple of 8, so that only one of these lengths can be that of a section.
 #[test]
-fn inputs_of_57343_to_57345_bytes() {
-    let section = valid::of_length(&mut Rng::new(1), MAX_INPUT).encode();
-    for length in 57_343..=57_345 {
-        compare("zeros", &vec![0; length]);
-        let mut bytes = section.clone();
-        bytes.resize(length, 0);
-        compare("a section, cut or grown", &bytes);
-        bytes[2] = 1;
-        compare("a section, damaged", &bytes);
+fn inputs_of_40959_to_40961_bytes() {
+    for version in Version::ALL {
+        let section = of_length_in(&mut Rng::new(1), version, 40_960).encode();
+        for length in 40_959..=40_961 {
+            compare("zeros", &vec![0; length]);
+            let mut bytes = section.clone();
+            bytes.resize(length, 0);
+            compare("a section, cut or grown", &bytes);
+            let refused = run(&bytes, length) == b"refused 1 at 0\n";
+            assert_eq!(refused, length > 40_960);
+            bytes[2] = 1;
+            compare("a section, damaged", &bytes);
+        }
     }
 }
 
 /// Several megabytes, of which the program reads no more than it must.
 #[test]
 fn inputs_of_megabytes() {
-    for length in [65_535, 65_536, 65_537, 1 << 20, 5 << 20, (16 << 20) + 1] {
+    for length in [
+        57_344,
+        65_535,
+        65_536,
+        65_537,
+        1 << 20,
+        5 << 20,
+        (16 << 20) + 1,
+    ] {
         compare("zeros", &vec![0; length]);
     }
     largest::sections(1, &mut |section| compare("largest", &section.encode()));
@@ -191,14 +231,17 @@ fn inputs_of_megabytes() {
 /// Input that comes bit by bit, so that reads give less than is asked for.
 #[test]
 fn inputs_in_pieces() {
-    let long = valid::of_length(&mut Rng::new(2), MAX_INPUT).encode();
-    let longer = [&long[..], &[0]].concat();
     for piece in [1, 7, 151] {
         compare_in_pieces("H", &H, piece);
+        compare_in_pieces("H of version 1", &H_1, piece);
     }
-    for piece in [1_000, 4_096, 57_343] {
-        compare_in_pieces("the longest", &long, piece);
-        compare_in_pieces("too long", &longer, piece);
+    for version in Version::ALL {
+        let long = of_length_in(&mut Rng::new(2), version, MAX_INPUT).encode();
+        let longer = [&long[..], &[0]].concat();
+        for piece in [1_000, 4_096, 40_959] {
+            compare_in_pieces("the longest", &long, piece);
+            compare_in_pieces("too long", &longer, piece);
+        }
     }
 }
 

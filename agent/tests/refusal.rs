@@ -34,7 +34,7 @@ fn refused() -> Vec<(Vec<u8>, &'static str)> {
     assert_eq!(check(&with_location(low, whole)), Ok(()));
     vec![
         (vec![], "refused 1 at 0: section under 16 or over 16,777,216 bytes, or listing over 33,554,432 bytes"),
-        (vec![0; 16], "refused 2 at 0: version not 3"),
+        (vec![0; 16], "refused 2 at 0: version neither 1 nor 3"),
         (with_location(low, not_zero), "refused 3 at 63: a byte required to be zero isn't"),
         (section([1, 0, 0], &[]), "refused 4 at 16: a function, constant or record isn't wholly inside"),
         (section([0, 0, 1], &[]), "refused 5 at 12: record counts, added exactly, differ from NumRecords"),
@@ -87,6 +87,28 @@ fn refusals_of_conversions_print_too() {
         print(&[6], 15),
         "refused 24 at 0: output shorter than the whole result"
     );
+}
+
+#[test]
+fn refusals_of_the_other_version_print_too() {
+    let (newer, mut older) = (section([0, 0, 0], &[]), section([0, 0, 0], &[]));
+    older[0] = 1;
+    let by_function = treskibben::find_in_function(&newer, 0, 0).unwrap_err();
+    let by_address = treskibben::find(&older, 0).unwrap_err();
+    assert_eq!(by_function, by_address);
+    let text = by_address.to_string();
+    assert_eq!(text, format!("refused 27 at 0: {}", by_address.cause()));
+    let mut listing = vec![7, 1, 1];
+    listing.extend([0; 16]);
+    listing.extend([1, 0, 0, 0, 0, 0, 0, 0, 6]);
+    let beyond = treskibben::section_of(&listing).unwrap_err();
+    let text = beyond.to_string();
+    assert_eq!(text, format!("refused 28 at 2: {}", beyond.cause()));
+    assert_ne!(beyond.cause(), by_address.cause());
+    let unknown = "a cause that this version has no words for";
+    assert!([by_address, beyond]
+        .iter()
+        .all(|refusal| refusal.cause() != unknown));
 }
 
 #[test]

@@ -1,5 +1,6 @@
-//! The move of one frame by the proved library and by the second implementation: random frames,
-//! frames with faults of every number, frames at the limits, and lists of moves.
+//! The move of one frame by the proved library and by the second implementation, in sections of both
+//! versions: random frames, frames with faults of every number, frames at the limits, and lists of
+//! moves.
 //!
 //! Answers and whole images are compared, also where a frame is refused. Of a frame without fault,
 //! and of one with a fault that was aimed at, the generator knows both beforehand, and that is
@@ -21,23 +22,25 @@ mod shapes;
 mod worked;
 
 use calls::{Call, Outcome};
-use common::{count_random, say};
+use common::{count_random, nth_version, say};
 use generator::frames::faults::{aim, NUMBERS};
 use generator::frames::{plain, Scene};
-use generator::{aimed, damage, valid, Rng};
+use generator::{aimed, damage, section_in, Rng, Version};
 use shapes::SHAPES;
 use treskibben::Frame;
 
 /// Frames in a run, made in parts that each have a source of random numbers.
 const PARTS: u64 = 1_000;
-const FRAMES_A_PART: u64 = 250;
+const FRAMES_A_PART: u64 = 400;
 
 /// The faults of a frame, those first that the library looks for last: of several, the one that was
 /// made last is given.
 const LAST_FIRST: [u64; 11] = [21, 20, 19, 18, 17, 16, 12, 15, 10, 14, 13];
 
-/// How often each number was the answer, 0 to 21, and then how often each shape was seen.
-type Counts = [u64; 22 + shapes::COUNT];
+/// How often each number was the answer, 0 to 21, for each version that sections were made of; and then
+/// how often each shape was seen.
+const ANSWERS: usize = 22;
+type Counts = [u64; 2 * ANSWERS + SHAPES.len()];
 
 /// What is known of a frame beforehand: number and place, or that it is accepted.
 type Known = Option<(u64, u64)>;
@@ -70,7 +73,9 @@ fn case(rng: &mut Rng) -> (Scene, Vec<u8>, Known) {
             let numbers = [(); 3].map(|()| rng.pick(&NUMBERS));
             known = Some(make(rng, &mut scene, &numbers));
         }
-        12 | 13 => section_number = Some(1 + rng.below(9) as u64),
+        12 | 13 => {
+            section_number = Some(rng.pick(aimed::numbers(scene.section.version)));
+        }
         _ => known = None,
     }
     let mut built = scene.section.build();
@@ -87,7 +92,8 @@ fn case(rng: &mut Rng) -> (Scene, Vec<u8>, Known) {
     if known.is_none() {
         disturb(rng, &mut scene);
         if rng.one_in(2) {
-            let other = valid::section(rng).encode();
+            let version = rng.pick(&Version::ALL);
+            let other = section_in(rng, version).encode();
             damage::damage(rng, &mut built, &other);
         }
     }
@@ -98,7 +104,9 @@ fn case(rng: &mut Rng) -> (Scene, Vec<u8>, Known) {
 fn disturb(rng: &mut Rng, scene: &mut Scene) {
     let near =
         |rng: &mut Rng, number: u64| number.wrapping_add(rng.below(33) as u64).wrapping_sub(16);
-    match rng.below(6) {
+    match rng.below(8) {
+        6 => scene.stops[0].named = near(rng, scene.stops[0].named),
+        7 => scene.stops[0].address = near(rng, scene.stops[0].address),
         0 => scene.stops[0].rsp = near(rng, scene.stops[0].rsp),
         1 => scene.stops[0].rbp = near(rng, scene.stops[0].rbp),
         2 => scene.first = near(rng, scene.first),
@@ -123,7 +131,8 @@ fn disturb(rng: &mut Rng, scene: &mut Scene) {
 fn run(rng: &mut Rng, counts: &mut Counts) {
     let (scene, section, known) = case(rng);
     let outcome = Call::of(&scene, &section, 0).compare();
-    counts[outcome.number as usize] += 1;
+    let version = nth_version(scene.section.version);
+    counts[ANSWERS * version + outcome.number as usize] += 1;
     let Some((number, place)) = known else {
         return;
     };
@@ -136,7 +145,7 @@ fn run(rng: &mut Rng, counts: &mut Counts) {
     if number == 0 {
         accepted(&scene, &call, &outcome);
     }
-    for (count, (_, shows)) in counts[22..].iter_mut().zip(SHAPES) {
+    for (count, (_, shows)) in counts[2 * ANSWERS..].iter_mut().zip(SHAPES) {
         *count += u64::from(shows(&scene, number));
     }
 }
@@ -170,15 +179,21 @@ fn accepted(scene: &Scene, call: &Call<Frame>, outcome: &Outcome) {
 #[test]
 fn random_frames() {
     let counts = count_random("random frames", PARTS, FRAMES_A_PART, run);
-    let (numbers, shapes) = counts.split_at(22);
-    let frames: u64 = numbers.iter().sum();
-    say(&format!("{frames} frames, {} accepted", numbers[0]));
-    say(&format!("refused by 1 to 21: {:?}", &numbers[1..]));
+    let (numbers, shapes) = counts.split_at(2 * ANSWERS);
+    for (version, numbers) in Version::ALL.into_iter().zip(numbers.chunks(ANSWERS)) {
+        let (frames, of) = (numbers.iter().sum::<u64>(), version.number());
+        say(&format!(
+            "{frames} frames of version {of}, {} accepted",
+            numbers[0]
+        ));
+        say(&format!("refused by 1 to 21: {:?}", &numbers[1..]));
+        assert_eq!(numbers[11], 0, "11 is no answer of a frame");
+        let due = [&[0], aimed::numbers(version), &NUMBERS].concat();
+        for number in due {
+            let name = |_| format!("answers {number} of version {of}");
+            common::assert_often(&[numbers[number as usize]], name);
+        }
+    }
     say(&format!("shapes: {shapes:?}"));
-    assert_eq!(numbers[11], 0, "11 is no answer of a frame");
-    let others = [&numbers[..11], &numbers[12..]].concat();
-    common::assert_often(&others, |nth| {
-        format!("answers of number {}", nth + nth / 11)
-    });
     common::assert_often(shapes, |nth| SHAPES[nth].0.to_string());
 }

@@ -1,5 +1,6 @@
-//! The move of a whole thread by the proved library and by the second implementation: random lists,
-//! lists with faults in any frame, extents that share bytes, and lists at their limits.
+//! The move of a whole thread by the proved library and by the second implementation, in sections of
+//! both versions: random lists, lists with faults in any frame, extents that share bytes, and lists at
+//! their limits.
 //!
 //! Answers and whole images are compared, also where a list is refused. Where the section is not
 //! damaged at random the generator knows both beforehand, and that is compared too. The random lists
@@ -17,19 +18,22 @@ mod shapes;
 mod worked;
 
 use calls::{Call, Outcome};
-use common::{count_random, say};
+use common::{count_random, nth_version, say};
 use generator::frames::faults::aim;
 use generator::frames::shuffle;
 use generator::frames::thread::Thread;
-use generator::{aimed, damage, valid, Rng};
+use generator::{aimed, damage, section_in, Rng, Version};
 use shapes::{POSITIONS, SHAPES};
 
 /// Lists in a run, made in parts that each have a source of random numbers.
-const PARTS: u64 = 600;
+const PARTS: u64 = 1_300;
 const LISTS_A_PART: u64 = 200;
 
 /// The numbers of a frame, each of which must occur at several positions.
 const OF_FRAME: [u64; 10] = [10, 12, 15, 16, 17, 18, 19, 20, 21, 26];
+
+/// The other numbers that are no refusal of the section itself: acceptance, and what all frames share.
+const OF_LIST: [u64; 4] = [0, 13, 14, 25];
 
 /// The numbers that a list of frames never gets.
 const NEVER: [usize; 4] = [11, 22, 23, 24];
@@ -37,9 +41,10 @@ const NEVER: [usize; 4] = [11, 22, 23, 24];
 /// How often a number must occur at a sort of position at least.
 const LEAST_AT: u64 = 80;
 
-/// How often each number was the answer, 0 to 26; how often each number of a frame was one at each sort
-/// of position; and how often each shape was seen.
-const NUMBERS: usize = 27;
+/// How often each number was the answer, 0 to 26, for each version that sections were made of; how often
+/// each number of a frame was one at each sort of position; and how often each shape was seen.
+const ANSWERS: usize = 27;
+const NUMBERS: usize = 2 * ANSWERS;
 const AT: usize = OF_FRAME.len() * POSITIONS.len();
 type Counts = [u64; NUMBERS + AT + SHAPES.len()];
 
@@ -56,12 +61,13 @@ fn case(rng: &mut Rng) -> (Thread, Vec<u8>, Option<(u64, u64)>) {
     let mut built = thread.scene.section.build();
     match rng.below(8) {
         0 => {
-            let number = 1 + rng.below(9) as u64;
+            let number = rng.pick(aimed::numbers(thread.scene.section.version));
             let place = aimed::aim(rng, number, &thread.scene.section, &mut built);
             known = place.map_or(known, |place| Some((number, place as u64)));
         }
         1 => {
-            let other = valid::section(rng).encode();
+            let version = rng.pick(&Version::ALL);
+            let other = section_in(rng, version).encode();
             damage::damage(rng, &mut built, &other);
             known = None;
         }
@@ -76,7 +82,8 @@ fn run(rng: &mut Rng, counts: &mut Counts) {
     let list = thread.list();
     let call = Call::with(&thread.scene, &section, &list[..]);
     let outcome = call.compare();
-    counts[outcome.number as usize] += 1;
+    let version = nth_version(thread.scene.section.version);
+    counts[ANSWERS * version + outcome.number as usize] += 1;
     let Some(known) = known else {
         return;
     };
@@ -132,21 +139,28 @@ fn random_lists() {
     let counts = count_random("random threads", PARTS, LISTS_A_PART, run);
     let (numbers, rest) = counts.split_at(NUMBERS);
     let (at, seen) = rest.split_at(AT);
-    let lists: u64 = numbers.iter().sum();
-    say(&format!("{lists} lists, {} accepted", numbers[0]));
-    say(&format!("refused by 1 to 26: {:?}", &numbers[1..]));
+    for (version, numbers) in Version::ALL.into_iter().zip(numbers.chunks(ANSWERS)) {
+        let (lists, of) = (numbers.iter().sum::<u64>(), version.number());
+        say(&format!(
+            "{lists} lists of version {of}, {} accepted",
+            numbers[0]
+        ));
+        say(&format!("refused by 1 to 26: {:?}", &numbers[1..]));
+        for number in NEVER {
+            assert_eq!(numbers[number], 0, "{number} is no answer of a thread");
+        }
+        let due = [&OF_LIST, aimed::numbers(version), &OF_FRAME].concat();
+        for number in due {
+            let name = |_| format!("answers {number} of version {of}");
+            common::assert_often(&[numbers[number as usize]], name);
+        }
+    }
     for (number, at) in OF_FRAME.iter().zip(at.chunks(POSITIONS.len())) {
         say(&format!(
             "  {number} at first, second, among, late, last: {at:?}"
         ));
     }
     say(&format!("shapes: {seen:?}"));
-    for (number, count) in numbers.iter().enumerate() {
-        match NEVER.contains(&number) {
-            true => assert_eq!(*count, 0, "{number} is no answer of a thread"),
-            false => common::assert_often(&[*count], |_| format!("answers of number {number}")),
-        }
-    }
     for (nth, count) in at.iter().enumerate() {
         let (number, position) = (OF_FRAME[nth / POSITIONS.len()], nth % POSITIONS.len());
         let least = if (number, position) == (26, 0) {

@@ -72,7 +72,26 @@ pub struct Title {
     pub address: Option<u64>,
 }
 
-/// Writes what a section says of a record: indented, as the function's own, where that is known.
+impl Title {
+    /// How far a record is indented: as the function's own, where that is known.
+    fn indent(&self) -> &'static str {
+        self.address.map_or("", |_| "  ")
+    }
+
+    /// The first line of a record.
+    fn line(&self, record: &Record) -> String {
+        let (indent, index) = (self.indent(), self.index);
+        let at = self.address.map(|address| format!(" at {address:#x}"));
+        let at = at.unwrap_or_default();
+        let (id, offset) = (record.id, record.offset);
+        let pairs = record.pairs().map(|pairs| count(pairs as u64, "pair"));
+        let kind = pairs.map(|pairs| format!(", statepoint of {pairs}"));
+        let kind = kind.unwrap_or_default();
+        format!("{indent}record {index}{at}: ID {id}, offset {offset:#x}{kind}")
+    }
+}
+
+/// Writes what a section says of a record.
 pub fn record(
     out: &mut dyn Write,
     listing: &Listing,
@@ -80,20 +99,8 @@ pub fn record(
     record: &Record,
     machine: Machine,
 ) -> io::Result<()> {
-    let index = title.index;
-    let (indent, at) = match title.address {
-        Some(address) => ("  ", format!(" at {address:#x}")),
-        None => ("", String::new()),
-    };
-    let (id, offset) = (record.id, record.offset);
-    let kind = match record.pairs() {
-        Some(pairs) => format!(", statepoint of {}", count(pairs as u64, "pair")),
-        None => String::new(),
-    };
-    writeln!(
-        out,
-        "{indent}record {index}{at}: ID {id}, offset {offset:#x}{kind}"
-    )?;
+    let indent = title.indent();
+    writeln!(out, "{}", title.line(record))?;
     for (number, location) in record.locations.iter().enumerate() {
         let place = place(listing, location, machine);
         let size = location.size;

@@ -69,17 +69,17 @@ fn constants(version: Version) -> Section {
     }
 }
 
-/// As many records as there can be. In version 3 they need a function.
+/// As many records as there can be beside a function. In version 1 that is shorter by a constant.
 fn records(version: Version) -> Section {
-    let (functions, count) = match version {
-        Version::One => (vec![], 699_050),
-        Version::Three => (vec![function(699_049)], 699_049),
+    let (records, constants) = match version {
+        Version::One => (0, vec![5]),
+        Version::Three => (699_049, vec![]),
     };
     Section {
         version,
-        functions,
-        records: vec![record(3, 0, 0); count],
-        ..Section::default()
+        functions: vec![function(records)],
+        constants,
+        records: vec![record(3, 0, 0); 699_049],
     }
 }
 

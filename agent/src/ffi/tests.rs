@@ -4,17 +4,21 @@ use super::*;
 use generator::frames::faults::{aim, NUMBERS};
 use generator::frames::thread::Thread;
 use generator::frames::Scene;
+use generator::layout::Version;
 use generator::questions::{question, Question};
-use generator::{case_of, listings, valid, Rng};
+use generator::{case_of, crowded_in, listings, section_in, Rng};
+
+/// The verdict of a search, and whether all other fields are 0.
+fn found(it: Found) -> (Verdict, bool) {
+    let zeros = (it.index, it.function, it.sharing) == (0, 0, 0);
+    (it.verdict, zeros)
+}
 
 /// Number, place and whether all other fields are 0.
 fn ask(section: &[u8], question: Question) -> (u64, u64, bool) {
     let (verdict, zeros) = match question {
-        Question::Find(address) => {
-            let it = find(section, address);
-            let zeros = (it.index, it.function, it.sharing) == (0, 0, 0);
-            (it.verdict, zeros)
-        }
+        Question::Find(address) => found(find(section, address)),
+        Question::FindIn(function, offset) => found(find_in_function(section, function, offset)),
         Question::Record(number) => {
             let it = record(section, number);
             let zeros = (it.first, it.length) == (0, 0);
@@ -37,9 +41,10 @@ fn ask(section: &[u8], question: Question) -> (u64, u64, bool) {
 #[test]
 fn a_refused_answer_has_zeros_and_an_accepted_one_no_place() {
     let mut rng = Rng::new(1);
-    let mut counts = [0; 12];
+    let mut counts = [0; 28];
     for _ in 0..20_000 {
-        let section = valid::crowded(&mut rng);
+        let version = rng.pick(&Version::ALL);
+        let section = crowded_in(&mut rng, version);
         let case = case_of(&mut rng, &section);
         for _ in 0..4 {
             let question = question(&mut rng, &section);
@@ -54,15 +59,18 @@ fn a_refused_answer_has_zeros_and_an_accepted_one_no_place() {
         let answer = check(&case.bytes);
         assert_eq!(answer.value, 0, "{:?}", case.bytes);
     }
-    assert!(counts.iter().all(|count| *count > 100), "{counts:?}");
+    for number in (0..12).chain([27]) {
+        assert!(counts[number] > 100, "{number}: {counts:?}");
+    }
 }
 
 #[test]
 fn a_refused_conversion_has_length_0_and_an_accepted_one_no_place() {
     let mut rng = Rng::new(1);
-    let mut counts = [0; 25];
+    let mut counts = [0; 29];
     for _ in 0..20_000 {
-        let section = valid::section(&mut rng);
+        let version = rng.pick(&Version::ALL);
+        let section = section_in(&mut rng, version);
         let bytes = case_of(&mut rng, &section).bytes;
         let listing = listings::case_of(&mut rng, &section).bytes;
         let room = [0, 2 * bytes.len() + 2 * listing.len() + 16][rng.below(2)];
@@ -80,7 +88,7 @@ fn a_refused_conversion_has_length_0_and_an_accepted_one_no_place() {
             }
         }
     }
-    for number in (0..10).chain([22, 24]) {
+    for number in (0..10).chain([22, 24, 28]) {
         assert!(counts[number] > 100, "{number}: {counts:?}");
     }
 }
@@ -99,7 +107,7 @@ fn a_refused_move_has_0_pairs_and_an_accepted_one_no_place() {
             address: stop.address,
             rbp: stop.rbp,
             rsp: stop.rsp,
-            function: stop.function,
+            function: stop.named,
         };
         let (olds, news) = (&scene.table.olds, &scene.table.news);
         let answer = relocate(&section, &mut scene.image, scene.first, olds, news, frame);

@@ -78,8 +78,18 @@ impl Moves for Frame {
             news,
             ..
         } = *call;
-        let Frame { address, rbp, rsp } = call.frames;
-        let frame = reference::Frame { address, rbp, rsp };
+        let Frame {
+            address,
+            rbp,
+            rsp,
+            function,
+        } = call.frames;
+        let frame = reference::Frame {
+            address,
+            rbp,
+            rsp,
+            function,
+        };
         let moved = reference::relocate(section, image, first, olds, news, frame);
         moved.map_err(|refusal| (refusal.number, refusal.place))
     }
@@ -111,9 +121,19 @@ impl<'a> Call<'a, Frame> {
     /// The move of a frame of the scene, whose section has these bytes.
     pub fn of(scene: &'a Scene, section: &'a [u8], stop: usize) -> Call<'a, Frame> {
         let Stop {
-            address, rbp, rsp, ..
+            address,
+            rbp,
+            rsp,
+            named: function,
+            ..
         } = scene.stops[stop];
-        Call::with(scene, section, Frame { address, rbp, rsp })
+        let frame = Frame {
+            address,
+            rbp,
+            rsp,
+            function,
+        };
+        Call::with(scene, section, frame)
     }
 }
 

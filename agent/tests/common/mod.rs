@@ -99,6 +99,14 @@ pub fn count_random<const N: usize>(
     })
 }
 
+/// What is counted apart for each version, by its place in [`generator::Version::ALL`].
+#[allow(dead_code)] // Not every test counts by version.
+pub fn nth_version(version: generator::Version) -> usize {
+    let is_it = |other: &generator::Version| *other == version;
+    let nth = generator::Version::ALL.iter().position(is_it);
+    nth.expect("one of them")
+}
+
 /// Fails where something that was counted hardly occurred. `name` says what the nth count is of.
 pub fn assert_often(counts: &[u64], name: impl Fn(usize) -> String) {
     for (nth, count) in counts.iter().enumerate() {

@@ -59,7 +59,7 @@ pub fn owners(printed: &Printed) -> impl Iterator<Item = (usize, u64)> + '_ {
 
 /// How long a record with these numbers of locations and live-outs is: both lists end at a multiple of 8 bytes.
 pub fn length(record: &readobj::Record) -> usize {
-    let rounded = |length: usize| (length + 7) / 8 * 8;
+    let rounded = |length: usize| length.next_multiple_of(8);
     let to_live_outs = rounded(16 + 12 * record.locations.len()) + 4;
     rounded(to_live_outs + 4 * record.live_outs.len())
 }

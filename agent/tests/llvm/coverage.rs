@@ -71,7 +71,7 @@ fn is_odd(count: usize) -> bool {
 
 /// Even and not 0.
 fn is_even(count: usize) -> bool {
-    count > 0 && count % 2 == 0
+    count > 0 && count.is_multiple_of(2)
 }
 
 /// The number of deoptimisation values, where the record is a statepoint.

@@ -5,7 +5,7 @@ use crate::common::seed;
 use generator::frames::{plain, Scene, Size, Stop, Table};
 use generator::frames::{MOST_IMAGE, MOST_MOVES, MOST_PAIRS};
 use generator::layout::{Function, Location, Record, Section};
-use generator::Rng;
+use generator::{Rng, Version};
 
 /// Compares the move of the only frame, which is accepted exactly if no number is given.
 fn expect(scene: &Scene, number: u64) -> Outcome {
@@ -26,9 +26,10 @@ const FEW: Size = Size { cells: 6, pairs: 8 };
 fn tables_at_their_limit() {
     let mut rng = Rng::new(seed("tables at their limit"));
     for count in [0, 1, 2, MOST_MOVES - 1, MOST_MOVES] {
-        for _ in 0..40 {
+        for nth in 0..40 {
             let table = Table::of(&mut rng, count);
-            let mut scene = Scene::of(&mut rng, table, &[FEW]);
+            let version = Version::ALL[nth % 2];
+            let mut scene = Scene::of_version(&mut rng, version, table, &[FEW]);
             expect(&scene, 0);
             // The first, the last and the middle entry, one after the other, in every base.
             for nth in [0, count / 2, count.saturating_sub(1)] {
@@ -84,7 +85,8 @@ fn images_at_their_limit() {
             let table = Table::of(&mut rng, 3);
             let mut scene = Scene::of(&mut rng, table, &[Size { cells, pairs: 8 }]);
             let stretch = stretch_of(&scene);
-            scene.section.functions[scene.stops[0].function].stack_size = stretch.len() as u64;
+            let own = scene.stops[0].function;
+            scene.section.functions[own].stack_size = stretch.len() as u64;
             if stretch.len() > length {
                 continue;
             }
@@ -112,7 +114,7 @@ fn images_at_their_limit() {
 /// The frame's own bytes; none where it has no slots.
 fn stretch_of(scene: &Scene) -> Vec<u8> {
     let at = (scene.stops[0].rsp - scene.first) as usize;
-    let size = scene.section.functions[scene.stops[0].function].stack_size as usize;
+    let size = scene.stack_size(0) as usize;
     let slots = plain::slots(scene, 0).into_iter().flatten().count();
     match slots {
         0 => Vec::new(),
@@ -153,50 +155,49 @@ fn pairs_at_their_limit() {
         32_700,
     ] {
         for cells in [0, 1, 40, 256] {
-            let table = Table::of(&mut rng, 4);
-            let scene = Scene::of(
-                &mut rng,
-                table,
-                &[Size {
-                    cells,
-                    pairs: count,
-                }],
-            );
-            expect(&scene, if count > MOST_PAIRS { 17 } else { 0 });
+            let size = Size {
+                cells,
+                pairs: count,
+            };
+            for version in Version::ALL {
+                let table = Table::of(&mut rng, 4);
+                let scene = Scene::of_version(&mut rng, version, table, &[size]);
+                expect(&scene, if count > MOST_PAIRS { 17 } else { 0 });
+            }
         }
     }
 }
 
-/// A frame of these pairs of offsets from RSP, with these words on the stack; 0x50000 is moved to
-/// 0x90000, and 0x60000 to 0x10.
-fn frame(pairs: &[[i32; 2]], words: &[u64]) -> Scene {
-    let constant = Location {
-        kind: 4,
+/// A frame of these pairs of offsets from RSP, with these words on the stack, in a section of either
+/// version; 0x50000 is moved to 0x90000, and 0x60000 to 0x10.
+fn frame(version: Version, pairs: &[[i32; 2]], words: &[u64]) -> Scene {
+    let location = |kind, register, offset: i32| Location {
+        kind,
         size: 8,
-        register: 0,
-        offset: 0,
+        register,
+        offset: offset as u32,
     };
-    let mut locations = vec![constant; 3];
-    locations.extend(pairs.iter().flatten().map(|offset| Location {
-        kind: 3,
-        size: 8,
-        register: 7,
-        offset: *offset as u32,
-    }));
+    let mut locations = vec![location(4, 0, 0); 3];
+    let slots = pairs.iter().flatten();
+    locations.extend(slots.map(|offset| location(3, 7, *offset)));
     let record = Record {
         id: 7,
         offset: 0x20,
         locations,
         live_outs: Vec::new(),
     };
-    let stack_size = 8 * words.len() as u64;
+    let (address, record_count) = match version {
+        Version::One => (0x20, 0),
+        Version::Three => (0x1020, 1),
+    };
     let function = Function {
         address: 0x1000,
-        stack_size,
-        record_count: 1,
+        stack_size: 8 * words.len() as u64,
+        record_count,
     };
     Scene {
         section: Section {
+            version,
             functions: vec![function],
             constants: Vec::new(),
             records: vec![record],
@@ -208,47 +209,53 @@ fn frame(pairs: &[[i32; 2]], words: &[u64]) -> Scene {
             news: vec![0x90000, 0x10],
         },
         stops: vec![Stop {
-            address: 0x1020,
+            address,
             rbp: 0,
             rsp: 0x7000,
             record: 0,
             function: 0,
+            named: 0,
         }],
     }
 }
 
 #[test]
 fn shared_derived_slots() {
-    // Two base slots with the same base, which share a derived slot.
-    let scene = frame(&[[0, 16], [8, 16]], &[0x50000, 0x50000, 0x50008]);
-    let image = frame(&[], &[0x50000, 0x50000, 0x90008]).image;
-    assert_eq!(expect(&scene, 0).image, image);
-    // The bases differ, though both are old starts; and where neither is one.
-    for bases in [[0x50000, 0x60000], [0x50000, 0], [1, 2]] {
-        let scene = frame(&[[0, 16], [8, 16]], &[bases[0], bases[1], 0x50008]);
-        assert_eq!(expect(&scene, 20).place, 1);
+    for version in Version::ALL {
+        let frame = |pairs: &[[i32; 2]], words: &[u64]| frame(version, pairs, words);
+        // Two base slots with the same base, which share a derived slot.
+        let scene = frame(&[[0, 16], [8, 16]], &[0x50000, 0x50000, 0x50008]);
+        let image = frame(&[], &[0x50000, 0x50000, 0x90008]).image;
+        assert_eq!(expect(&scene, 0).image, image);
+        // The bases differ, though both are old starts; and where neither is one.
+        for bases in [[0x50000, 0x60000], [0x50000, 0], [1, 2]] {
+            let scene = frame(&[[0, 16], [8, 16]], &[bases[0], bases[1], 0x50008]);
+            assert_eq!(expect(&scene, 20).place, 1);
+        }
+        // Both bases are the same that is no old start.
+        let scene = frame(&[[0, 16], [8, 16]], &[1, 1, 0x50008]);
+        assert_eq!(expect(&scene, 21).place, 0);
+        // Each derives the other: both are read before either is written.
+        let scene = frame(&[[0, 8], [8, 0]], &[0x50000, 0x60000]);
+        let image = frame(&[], &[0x50000u64.wrapping_sub(0x5fff0), 0x60000 + 0x40000]).image;
+        assert_eq!(expect(&scene, 0).image, image);
+        // Base slots that overlap collide too; the pair's own two do.
+        for (pairs, place) in [
+            ([[0, 24], [4, 24]], 1),
+            ([[0, 24], [8, 1]], 1),
+            ([[7, 0], [0, 0]], 0),
+        ] {
+            let scene = frame(&pairs, &[0, 0, 0, 0]);
+            assert_eq!(expect(&scene, 20).place, place);
+        }
     }
-    // Both bases are the same that is no old start.
-    let scene = frame(&[[0, 16], [8, 16]], &[1, 1, 0x50008]);
-    assert_eq!(expect(&scene, 21).place, 0);
-    // Each derives the other: both are read before either is written.
-    let scene = frame(&[[0, 8], [8, 0]], &[0x50000, 0x60000]);
-    let image = frame(&[], &[0x50000u64.wrapping_sub(0x5fff0), 0x60000 + 0x40000]).image;
-    assert_eq!(expect(&scene, 0).image, image);
-    // Base slots that overlap collide too; the pair's own two do.
-    let scene = frame(&[[0, 24], [4, 24]], &[0, 0, 0, 0]);
-    assert_eq!(expect(&scene, 20).place, 1);
-    let scene = frame(&[[0, 24], [8, 1]], &[0, 0, 0, 0]);
-    assert_eq!(expect(&scene, 20).place, 1);
-    let scene = frame(&[[7, 0], [0, 0]], &[0, 0, 0, 0]);
-    assert_eq!(expect(&scene, 20).place, 0);
 }
 
 #[test]
 fn every_offset_around_a_frame() {
-    for offset in -20..45 {
+    for (offset, version) in (-20..45).flat_map(|at| Version::ALL.map(|version| (at, version))) {
         for pair in [[offset, 0], [0, offset], [offset; 2]] {
-            let scene = frame(&[[0, 0], pair], &[0; 3]);
+            let scene = frame(version, &[[0, 0], pair], &[0; 3]);
             let outside = !(0..=16).contains(&offset);
             let apart = offset == 0 || offset >= 8;
             let number = match (outside, apart) {
@@ -259,5 +266,66 @@ fn every_offset_around_a_frame() {
             let outcome = expect(&scene, number);
             assert_eq!(outcome.place, u64::from(number != 0));
         }
+    }
+}
+
+/// Every size that a location of version 1 can have, of either slot of a pair, and of some in version
+/// 3.
+#[test]
+fn every_size_of_a_slot() {
+    for version in Version::ALL {
+        let right: &[u16] = match version {
+            Version::One => &[0, 8],
+            Version::Three => &[8],
+        };
+        for size in 0..=255 {
+            for (which, other) in [0, 1]
+                .into_iter()
+                .flat_map(|which| [(which, 0), (which, 8)])
+            {
+                let mut scene = frame(version, &[[0, 8]], &[0x50000, 0x50008]);
+                let pair = &mut scene.section.records[0].locations[3..];
+                (pair[which].size, pair[1 - which].size) = (size, other);
+                let fits = right.contains(&size) && right.contains(&other);
+                expect(&scene, if fits { 0 } else { 18 });
+            }
+        }
+    }
+}
+
+/// Function numbers and offsets of version 1 at the edges of what is there, and past 32 bits.
+#[test]
+fn functions_and_offsets_at_their_limits() {
+    let mut scene = frame(Version::One, &[[0, 8]], &[0x50000, 0x50008]);
+    let mut unknown = scene.section.functions[0].clone();
+    unknown.stack_size = u64::MAX;
+    scene.section.functions.push(unknown);
+    let mut last = scene.section.records[0].clone();
+    last.offset = u32::MAX;
+    scene.section.records.push(last);
+    const MAX: u64 = u32::MAX as u64;
+    for (offset, record) in [(0x20, Some(0)), (MAX, Some(1)), (0, None), (0x1020, None)] {
+        for (function, number) in [
+            (0, 0),
+            (1, 16),
+            (2, 10),
+            (3, 10),
+            (1 << 32, 10),
+            (u64::MAX, 10),
+        ] {
+            for high in [0, 1 << 32, 1 << 63] {
+                let stop = &mut scene.stops[0];
+                (stop.address, stop.named) = (offset + high, function);
+                stop.record = record.unwrap_or(0);
+                let there = record.is_some() && high == 0;
+                expect(&scene, if there { number } else { 10 });
+            }
+        }
+    }
+    scene.section.records[1].offset = 0x20;
+    for (function, number) in [(0, 15), (1, 15), (2, 10), (1 << 32, 10)] {
+        let stop = &mut scene.stops[0];
+        (stop.address, stop.named) = (0x20, function);
+        expect(&scene, number);
     }
 }

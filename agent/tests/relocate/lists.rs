@@ -25,6 +25,7 @@ fn apart(scene: &Scene, section: &[u8]) -> bool {
                 address: stop.address,
                 rbp: stop.rbp,
                 rsp: stop.rsp,
+                function: stop.named,
             };
             reference::extent(section, frame)
         })

@@ -7,7 +7,7 @@ use generator::frames::faults::NUMBERS;
 use generator::frames::{plain, Scene};
 use generator::Rng;
 
-const PARTS: u64 = 200;
+const PARTS: u64 = 300;
 const FRAMES_A_PART: u64 = 200;
 
 /// How often each number was the answer, 0 to 21.

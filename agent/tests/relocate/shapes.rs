@@ -2,13 +2,12 @@
 
 use generator::frames::{plain, Scene};
 use generator::layout::Location;
+use generator::Version;
 
 /// A shape: its name, and whether a frame with this number as answer has it.
 type Shape = (&'static str, fn(&Scene, u64) -> bool);
 
-pub const COUNT: usize = 12;
-
-pub const SHAPES: [Shape; COUNT] = [
+pub const SHAPES: [Shape; 22] = [
     ("accepted, a null pair of kind 5", |scene, number| {
         number == 0 && pairs(scene).iter().any(|pair| pair[0].kind == 5)
     }),
@@ -56,7 +55,7 @@ pub const SHAPES: [Shape; COUNT] = [
             .any(|pair| plain::content(scene, 0, pair[0]) == 0)
     }),
     ("accepted, an empty frame", |scene, number| {
-        number == 0 && scene.section.functions[scene.stops[0].function].stack_size == 0
+        number == 0 && scene.stack_size(0) == 0
     }),
     ("accepted, at the top of the addresses", |scene, number| {
         number == 0 && scene.first.checked_add(scene.image.len() as u64) == Some(u64::MAX)
@@ -80,7 +79,87 @@ pub const SHAPES: [Shape; COUNT] = [
             number == 19 && pairs(scene).iter().flatten().any(wraps)
         },
     ),
+    (
+        "version 3, accepted, a function that is not there",
+        |scene, number| {
+            let accepted = number == 0 && scene.section.version == Version::Three;
+            accepted && named(scene).is_none()
+        },
+    ),
+    (
+        "version 1, accepted, slots of size 0 and 8 in one pair",
+        |scene, number| {
+            let sizes = |pair: &[Location; 2]| pair[0].kind == 3 && pair[0].size != pair[1].size;
+            first(scene) && number == 0 && pairs(scene).iter().any(sizes)
+        },
+    ),
+    ("version 1, accepted, several functions", |scene, number| {
+        first(scene) && number == 0 && scene.section.functions.len() > 2
+    }),
+    (
+        "version 1, accepted, past the last address in its function",
+        |scene, number| {
+            let own = named(scene).map(|nth| scene.section.functions[nth].address);
+            let over = own.is_some_and(|own| own.checked_add(scene.stops[0].address).is_none());
+            first(scene) && number == 0 && over
+        },
+    ),
+    ("version 1, 10 by the function alone", |scene, number| {
+        first(scene) && number == 10 && named(scene).is_none() && there(scene) == 1
+    }),
+    (
+        "version 1, 10 by the function, and two records",
+        |scene, number| first(scene) && number == 10 && named(scene).is_none() && there(scene) == 2,
+    ),
+    (
+        "version 1, 10 by a function that is there in 32 bits",
+        |scene, number| {
+            let cut = scene.stops[0].named as u32 as usize;
+            let wide = scene.stops[0].named > u64::from(u32::MAX);
+            first(scene) && number == 10 && wide && cut < scene.section.functions.len()
+        },
+    ),
+    ("version 1, 10 by the offset alone", |scene, number| {
+        first(scene) && number == 10 && named(scene).is_some()
+    }),
+    (
+        "version 1, 10 by an offset that is there in 32 bits",
+        |scene, number| {
+            let address = scene.stops[0].address;
+            let cut = |offset: u32| address > u64::from(u32::MAX) && offset == address as u32;
+            let mut offsets = scene.section.records.iter().map(|record| record.offset);
+            first(scene) && number == 10 && named(scene).is_some() && offsets.any(cut)
+        },
+    ),
+    (
+        "version 1, 16 of a function beside one that would do",
+        |scene, number| {
+            let size = scene.stack_size(0);
+            let inside = |other: u64| other < size && other <= scene.image.len() as u64;
+            let mut sizes = scene.section.functions.iter().map(|one| one.stack_size);
+            first(scene) && number == 16 && sizes.any(inside)
+        },
+    ),
 ];
+
+fn first(scene: &Scene) -> bool {
+    scene.section.version == Version::One
+}
+
+/// The function that is handed in, where it is there.
+fn named(scene: &Scene) -> Option<usize> {
+    let named = usize::try_from(scene.stops[0].named).ok();
+    named.filter(|nth| *nth < scene.section.functions.len())
+}
+
+/// How many records of version 1 are at the frame's offset.
+fn there(scene: &Scene) -> usize {
+    let offset = scene.stops[0].address;
+    let records = scene.section.records.iter();
+    records
+        .filter(|record| u64::from(record.offset) == offset)
+        .count()
+}
 
 /// The pairs of the frame's statepoint.
 fn pairs(scene: &Scene) -> Vec<[Location; 2]> {
@@ -114,6 +193,6 @@ fn shared(scene: &Scene) -> bool {
 fn inside(scene: &Scene, sum: i128) -> bool {
     let wrapped = sum.rem_euclid(1 << 64);
     let rsp = i128::from(scene.stops[0].rsp);
-    let size = scene.section.functions[scene.stops[0].function].stack_size;
+    let size = scene.stack_size(0);
     (rsp..=rsp + i128::from(size) - 8).contains(&wrapped)
 }

@@ -1,12 +1,16 @@
-//! The worked rows I to L and what stands beside them, written out by hand.
+//! The worked rows I to L and what stands beside them, written out by hand; also as version 1 has them.
 
 use crate::calls::{Call, Outcome};
 use treskibben::Frame;
 
 const H: &[u8] = include_bytes!("../../../samples/h-statepoint.section");
 
-/// The first bytes of row H's four slots, and of their offsets.
+/// The first bytes of row H's four slots.
 const SLOTS: [usize; 4] = [92, 104, 116, 128];
+
+/// Row H as version 1 has it, and the first bytes of its four slots.
+const H_1: &[u8] = include_bytes!("../../../samples/h-version-1.section");
+const SLOTS_1: [usize; 4] = [72, 80, 88, 96];
 
 fn image(slots: [u64; 2]) -> Vec<u8> {
     [0xeeee_eeee_eeee_eeee, slots[0], slots[1]]
@@ -14,19 +18,35 @@ fn image(slots: [u64; 2]) -> Vec<u8> {
         .concat()
 }
 
+/// Row I's frame. Version 3 doesn't read the function.
+const I: Frame = Frame {
+    address: 0x1020,
+    rbp: 0,
+    rsp: 0x7000,
+    function: 77,
+};
+
+/// The same in version 1: offset 0x20 in function 0.
+const I_1: Frame = Frame {
+    address: 0x20,
+    function: 0,
+    ..I
+};
+
 /// Row I with this section, these slots and this new start.
 fn row(section: &[u8], slots: [u64; 2], new: u64) -> Outcome {
+    let frames = if section[0] == 1 { I_1 } else { I };
+    with_frame(section, slots, new, frames)
+}
+
+fn with_frame(section: &[u8], slots: [u64; 2], new: u64, frames: Frame) -> Outcome {
     let call = Call {
         section,
         image: &image(slots),
         first: 0x7000,
         olds: &[0x50000],
         news: &[new],
-        frames: Frame {
-            address: 0x1020,
-            rbp: 0,
-            rsp: 0x7000,
-        },
+        frames,
     };
     call.compare()
 }
@@ -40,41 +60,86 @@ fn moved(slots: [u64; 2]) -> Outcome {
     }
 }
 
-/// Row H with another last offset.
-fn last_offset(offset: u8) -> Vec<u8> {
-    let mut section = H.to_vec();
-    section[SLOTS[3] + 8] = offset;
+/// Row H with another last offset, which is the last four bytes of its location.
+fn last_offset(offset: u8) -> [Vec<u8>; 2] {
+    let (mut newer, mut older) = (H.to_vec(), H_1.to_vec());
+    newer[SLOTS[3] + 8] = offset;
+    older[SLOTS_1[3] + 4] = offset;
+    [newer, older]
+}
+
+/// Row H with the pairs exchanged: the last two slots first, and twice the first slot behind them.
+fn exchanged(section: &[u8], slots: [usize; 4], length: usize) -> Vec<u8> {
+    let mut section = section.to_vec();
+    section.copy_within(slots[2]..slots[3] + length, slots[0]);
+    section.copy_within(slots[0]..slots[0] + length, slots[2]);
+    section.copy_within(slots[0]..slots[0] + length, slots[3]);
     section
 }
 
 #[test]
 fn rows_i_to_l() {
     let i = [0x50000, 0x54e20];
-    assert_eq!(row(H, i, 0x90000), moved([0x90000, 0x94e20]), "I");
-    let mut exchanged = H.to_vec();
-    exchanged.copy_within(SLOTS[2]..SLOTS[3] + 12, SLOTS[0]);
-    exchanged.copy_within(SLOTS[0]..SLOTS[0] + 12, SLOTS[2]);
-    exchanged.copy_within(SLOTS[0]..SLOTS[0] + 12, SLOTS[3]);
-    assert_ne!(exchanged, H);
-    assert_eq!(row(&exchanged, i, 0x90000), moved([0x90000, 0x94e20]), "J");
-    assert_eq!(
-        row(H, [0x50000, 0x4b1e0], 0x90000),
-        moved([0x90000, 0x8b1e0]),
-        "K"
-    );
-    let l = moved([0x10, 0xffff_ffff_ffff_fff0]);
-    assert_eq!(row(H, [0x50000, 0x4ffe0], 0x10), l, "L");
+    let orders = [exchanged(H, SLOTS, 12), exchanged(H_1, SLOTS_1, 8)];
+    for (section, exchanged) in [H, H_1].into_iter().zip(&orders) {
+        assert_eq!(row(section, i, 0x90000), moved([0x90000, 0x94e20]), "I");
+        assert_ne!(exchanged, section);
+        assert_eq!(row(exchanged, i, 0x90000), moved([0x90000, 0x94e20]), "J");
+        let k = row(section, [0x50000, 0x4b1e0], 0x90000);
+        assert_eq!(k, moved([0x90000, 0x8b1e0]), "K");
+        let l = row(section, [0x50000, 0x4ffe0], 0x10);
+        assert_eq!(l, moved([0x10, 0xffff_ffff_ffff_fff0]), "L");
+    }
+}
+
+fn refused(outcome: Outcome, slots: [u64; 2]) -> (u64, u64) {
+    assert_eq!((outcome.count, outcome.image), (0, image(slots)));
+    (outcome.number, outcome.place)
 }
 
 #[test]
 fn refusals_beside_the_rows() {
+    let (i, inner) = ([0x50000, 0x54e20], [0x50008, 0x54e20]);
+    for section in [H, H_1] {
+        assert_eq!(refused(row(section, inner, 0x90000), inner), (21, 0));
+    }
+    for (offset, number) in [(17, 19), (12, 20)] {
+        for section in last_offset(offset) {
+            assert_eq!(refused(row(&section, i, 0x90000), i), (number, 1));
+        }
+    }
+}
+
+/// What version 1 reads of a frame: the function, and the offset in place of the address.
+#[test]
+fn row_i_in_version_1() {
     let i = [0x50000, 0x54e20];
-    let refused = |outcome: Outcome, slots| {
-        assert_eq!((outcome.count, outcome.image), (0, image(slots)));
-        (outcome.number, outcome.place)
-    };
-    let inner = [0x50008, 0x54e20];
-    assert_eq!(refused(row(H, inner, 0x90000), inner), (21, 0));
-    assert_eq!(refused(row(&last_offset(17), i, 0x90000), i), (19, 1));
-    assert_eq!(refused(row(&last_offset(12), i, 0x90000), i), (20, 1));
+    let frame = |frame| refused(with_frame(H_1, i, 0x90000, frame), i);
+    for function in [1, 2, 1 << 32, u64::MAX] {
+        assert_eq!(frame(Frame { function, ..I_1 }), (10, 0));
+    }
+    for address in [0, 0x1f, 0x21, 0x1020, (1 << 32) + 0x20] {
+        assert_eq!(frame(Frame { address, ..I_1 }), (10, 0));
+    }
+    // Sizes of 0 in all slots; and of 7 in the last, of pair 1.
+    let mut sizes = H_1.to_vec();
+    SLOTS_1.iter().for_each(|slot| sizes[slot + 1] = 0);
+    assert_eq!(row(&sizes, i, 0x90000), moved([0x90000, 0x94e20]));
+    sizes[SLOTS_1[3] + 1] = 7;
+    assert_eq!(refused(row(&sizes, i, 0x90000), i), (18, 1));
+    // A second function, whose stack size is not known.
+    let mut two = H_1.to_vec();
+    two[4] = 2;
+    two.splice(32..32, [[0, 0x20, 0, 0, 0, 0, 0, 0], [0xff; 8]].concat());
+    let other = Frame { function: 1, ..I_1 };
+    assert_eq!(refused(with_frame(&two, i, 0x90000, other), i), (16, 0));
+    assert_eq!(row(&two, i, 0x90000), moved([0x90000, 0x94e20]));
+    // The record once more: one offset used in two functions is 15 for both.
+    two[12] = 2;
+    let record = H_1[32..].to_vec();
+    two.extend(record);
+    assert_eq!(refused(row(&two, i, 0x90000), i), (15, 0));
+    assert_eq!(refused(with_frame(&two, i, 0x90000, other), i), (15, 0));
+    let absent = Frame { function: 2, ..I_1 };
+    assert_eq!(refused(with_frame(&two, i, 0x90000, absent), i), (10, 0));
 }

@@ -7,7 +7,7 @@ use generator::frames::thread::Thread;
 use generator::frames::{guests, shuffle, Scene, Size, Stop, Table};
 use generator::frames::{MOST_FRAMES, MOST_IMAGE};
 use generator::layout::{Function, Location, Record, Section};
-use generator::Rng;
+use generator::{Rng, Version};
 
 /// Compares the move of a list, and with what is known of it.
 fn expect(thread: &Thread) -> Outcome {
@@ -26,7 +26,7 @@ fn expect(thread: &Thread) -> Outcome {
 }
 
 /// A function with 24 bytes of stack and one statepoint of two pairs.
-fn one_statepoint() -> Section {
+fn one_statepoint(version: Version) -> Section {
     let location = |kind, register, offset| Location {
         kind,
         size: 8,
@@ -36,10 +36,11 @@ fn one_statepoint() -> Section {
     let mut locations = vec![location(4, 0, 0); 3];
     locations.extend([8, 8, 8, 16].map(|offset| location(3, 7, offset)));
     Section {
+        version,
         functions: vec![Function {
             address: 0x1000,
             stack_size: 24,
-            record_count: 1,
+            record_count: u64::from(version == Version::Three),
         }],
         constants: vec![0],
         records: vec![Record {
@@ -53,19 +54,24 @@ fn one_statepoint() -> Section {
 
 /// The function has called itself so often: frames one above the other, all at the one statepoint, each
 /// with an object of its own.
-fn deep(frames: usize) -> Thread {
+fn deep(version: Version, frames: usize) -> Thread {
     let base = |nth: usize| 0x50000 + 0x40 * nth as u64;
     let slots = |nth: usize| [nth as u64, base(nth), base(nth) + 8];
     let words = (0..frames).flat_map(slots);
+    let address = match version {
+        Version::One => 0x20,
+        Version::Three => 0x1020,
+    };
     let stop = |nth: usize| Stop {
-        address: 0x1020,
+        address,
         rbp: 0,
         rsp: 0x7000 + 24 * nth as u64,
         record: 0,
         function: 0,
+        named: 0,
     };
     Thread::of(Scene {
-        section: one_statepoint(),
+        section: one_statepoint(version),
         image: words.flat_map(u64::to_le_bytes).collect(),
         first: 0x7000,
         table: Table {
@@ -89,9 +95,12 @@ fn lists_of_every_length() {
         MOST_FRAMES + 1,
         5_000,
     ];
-    for frames in lengths {
-        for rest in 0..3 {
-            let mut thread = deep(frames);
+    for (frames, version) in lengths
+        .into_iter()
+        .flat_map(|frames| Version::ALL.map(|version| (frames, version)))
+    {
+        for rest in 0..4 {
+            let mut thread = deep(version, frames);
             thread.rest = rest;
             let fits = rest == 0 && frames <= MOST_FRAMES;
             let outcome = expect(&thread);
@@ -110,6 +119,23 @@ fn lists_of_every_length() {
     }
 }
 
+/// The function number that is handed in is read in version 1, in any frame of a long list, and in
+/// version 3 in none.
+#[test]
+fn function_numbers_of_a_long_list() {
+    for named in [1, 1 << 32, u64::MAX] {
+        for position in [0, 1, 2_047, MOST_FRAMES - 1] {
+            let mut thread = deep(Version::One, MOST_FRAMES);
+            thread.scene.stops[position].named = named;
+            let outcome = expect(&thread);
+            assert_eq!((outcome.number, outcome.place), (10, position as u64));
+            let mut thread = deep(Version::Three, MOST_FRAMES);
+            thread.scene.stops[position].named = named;
+            assert_eq!(expect(&thread).number, 0);
+        }
+    }
+}
+
 /// The orders of a list of so many frames.
 fn orders(rng: &mut Rng, frames: usize) -> [Vec<usize>; 3] {
     let rising: Vec<usize> = (0..frames).collect();
@@ -122,13 +148,15 @@ fn orders(rng: &mut Rng, frames: usize) -> [Vec<usize>; 3] {
 #[test]
 fn one_bad_frame_anywhere_in_a_long_list() {
     let mut rng = Rng::new(seed("one bad frame in a long list"));
-    let whole = deep(MOST_FRAMES);
     let mut numbers = [0; 27];
-    for order in orders(&mut rng, MOST_FRAMES) {
-        let whole = Thread {
+    let orders = Version::ALL.map(|version| (version, orders(&mut rng, MOST_FRAMES)));
+    let orders = orders.into_iter().flat_map(|(version, orders)| {
+        orders.map(|order| Thread {
             order,
-            ..whole.clone()
-        };
+            ..deep(version, MOST_FRAMES)
+        })
+    });
+    for whole in orders {
         expect(&whole);
         let any = rng.below(MOST_FRAMES);
         for position in [0, 1, 2, 2_047, 2_048, any, MOST_FRAMES - 2, MOST_FRAMES - 1] {
@@ -146,8 +174,8 @@ fn one_bad_frame_anywhere_in_a_long_list() {
         }
     }
     let found = [10, 16, 21, 26].map(|number: usize| numbers[number]);
-    assert_eq!(found.iter().sum::<u64>(), 3 * 8 * 5);
-    assert!(found.iter().all(|count| *count >= 24), "{numbers:?}");
+    assert_eq!(found.iter().sum::<u64>(), 2 * 3 * 8 * 5);
+    assert!(found.iter().all(|count| *count >= 2 * 24), "{numbers:?}");
 }
 
 /// Spoils the frame at a position: it has no record, is not inside the image, has a base of no object,
@@ -178,32 +206,41 @@ fn spoil(rng: &mut Rng, thread: &mut Thread, fault: usize, position: usize) {
 #[test]
 fn wide_lists_with_every_fault() {
     let mut rng = Rng::new(seed("wide lists"));
-    let table = Table::of(&mut rng, 300);
-    let sizes: Vec<Size> = (0..MOST_FRAMES).map(|_| Size::any(&mut rng)).collect();
-    let mut thread = Thread::of(Scene::of(&mut rng, table, &sizes));
-    shuffle(&mut rng, &mut thread.order);
-    let records = thread.scene.section.records.len();
-    let pairs = expect(&thread).count;
-    say(&format!(
-        "{MOST_FRAMES} frames with {pairs} pairs, {records} records"
-    ));
+    for version in Version::ALL {
+        let table = Table::of(&mut rng, 300);
+        let sizes: Vec<Size> = (0..MOST_FRAMES).map(|_| Size::any(&mut rng)).collect();
+        let scene = Scene::of_version(&mut rng, version, table, &sizes);
+        let mut thread = Thread::of(scene);
+        shuffle(&mut rng, &mut thread.order);
+        let records = thread.scene.section.records.len();
+        let pairs = expect(&thread).count;
+        say(&format!(
+            "{MOST_FRAMES} frames with {pairs} pairs, {records} records"
+        ));
+        let hit = wide_faults(&mut rng, &thread);
+        assert!(hit >= 18, "only {hit} faults");
+    }
+}
+
+/// Gives a frame of the list each fault there is, first, among the others and last; how many.
+fn wide_faults(rng: &mut Rng, thread: &Thread) -> usize {
     let mut hit = 0;
     for number in OWN {
         for position in [0, MOST_FRAMES / 2 + rng.below(1_000), MOST_FRAMES - 1] {
             let mut faulty = thread.clone();
             let stop = faulty.order[position];
-            if aim(&mut rng, number, &mut faulty.scene, stop).is_some() {
+            if aim(rng, number, &mut faulty.scene, stop).is_some() {
                 assert_eq!(expect(&faulty).number, number);
                 hit += 1;
             }
         }
     }
-    assert!(hit >= 18, "only {hit} faults");
+    hit
 }
 
 /// So many frames of null pairs, of this size each, at these bytes of the image.
 fn stretches(rng: &mut Rng, length: usize, frames: impl Iterator<Item = (usize, u64)>) -> Thread {
-    let mut thread = deep(0);
+    let mut thread = deep(rng.pick(&Version::ALL), 0);
     let scene = &mut thread.scene;
     scene.image = vec![0xa5; length];
     let mut sizes: Vec<(u64, Stop)> = Vec::new();
@@ -283,12 +320,14 @@ fn short_long_and_empty_frames() {
 #[test]
 fn a_thread_with_little_stack() {
     const STACK: usize = 280 * 1024;
-    let thread = deep(MOST_FRAMES);
-    let (section, list) = (thread.scene.section.encode(), thread.list());
-    let expected = thread.moved();
-    let moved = move || Call::with(&thread.scene, &section, &list[..]).by_library();
-    let little = std::thread::Builder::new().stack_size(STACK).spawn(moved);
-    let outcome = little.expect("a thread").join().expect("no panic");
-    assert_eq!(outcome.count, 2 * MOST_FRAMES as u64);
-    assert!(outcome.image == expected);
+    for version in Version::ALL {
+        let thread = deep(version, MOST_FRAMES);
+        let (section, list) = (thread.scene.section.encode(), thread.list());
+        let expected = thread.moved();
+        let moved = move || Call::with(&thread.scene, &section, &list[..]).by_library();
+        let little = std::thread::Builder::new().stack_size(STACK).spawn(moved);
+        let outcome = little.expect("a thread").join().expect("no panic");
+        assert_eq!(outcome.count, 2 * MOST_FRAMES as u64);
+        assert!(outcome.image == expected);
+    }
 }

@@ -2,6 +2,7 @@
 
 use generator::frames::thread::Thread;
 use generator::frames::{plain, Scene};
+use generator::Version;
 use std::ops::Range;
 
 /// A sort of position: its name, and whether a position in a list of so many frames is of it.
@@ -22,7 +23,7 @@ pub const POSITIONS: [Position; 5] = [
 /// A shape: its name, and whether a list with this answer has it.
 type Shape = (&'static str, fn(&Thread, (u64, u64)) -> bool);
 
-pub const SHAPES: [Shape; 11] = [
+pub const SHAPES: [Shape; 15] = [
     ("accepted, a list of none", |thread, answer| {
         answer.0 == 0 && thread.order.is_empty()
     }),
@@ -91,13 +92,48 @@ pub const SHAPES: [Shape; 11] = [
                 .is_some_and(|own| numbers.any(|other| other.is_some_and(|other| other < own)))
         },
     ),
+    (
+        "version 1, accepted, frames of several functions",
+        |thread, answer| {
+            let two = |two: &[usize]| named(thread, two[0]) != named(thread, two[1]);
+            first(thread) && answer.0 == 0 && thread.order.windows(2).any(two)
+        },
+    ),
+    (
+        "version 1, a late frame's function is not there",
+        |thread, answer| {
+            let functions = thread.scene.section.functions.len() as u64;
+            let late = first(thread) && answer.0 == 10 && answer.1 > 0;
+            late && named(thread, thread.order[answer.1 as usize]) >= functions
+        },
+    ),
+    (
+        "version 1, 25 by one to three numbers more",
+        |thread, answer| first(thread) && answer.0 == 25 && thread.rest > 0,
+    ),
+    (
+        "version 3, accepted, a function that is not there",
+        |thread, answer| {
+            let functions = thread.scene.section.functions.len() as u64;
+            let mut stops = thread.order.iter();
+            !first(thread) && answer.0 == 0 && stops.any(|stop| named(thread, *stop) >= functions)
+        },
+    ),
 ];
+
+fn first(thread: &Thread) -> bool {
+    thread.scene.section.version == Version::One
+}
+
+/// The function number that is handed in for a frame.
+fn named(thread: &Thread, stop: usize) -> u64 {
+    thread.scene.stops[stop].named
+}
 
 /// A frame's extent by its bytes in the image.
 fn extent(scene: &Scene, stop: usize) -> Range<i128> {
-    let stop = scene.stops[stop];
-    let start = i128::from(stop.rsp) - i128::from(scene.first);
-    start..start + i128::from(scene.section.functions[stop.function].stack_size)
+    let start = i128::from(scene.stops[stop].rsp) - i128::from(scene.first);
+    start..start + i128::from(scene.stack_size(stop))
 }
 
 fn meet(one: &Range<i128>, other: &Range<i128>) -> bool {

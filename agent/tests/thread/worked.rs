@@ -1,4 +1,4 @@
-//! Lists made of row I's frame, written out by hand.
+//! Lists made of row I's frame, written out by hand; also as version 1 has it.
 
 use crate::calls::{Call, Outcome};
 
@@ -8,8 +8,11 @@ const H: &[u8] = include_bytes!("../../../samples/h-statepoint.section");
 const STACK_SIZE: usize = 24;
 const LAST_OFFSET: usize = 136;
 
-/// Row I's frame.
-const I: [u64; 3] = [0x1020, 0, 0x7000];
+/// Row H as version 1 has it.
+const H_1: &[u8] = include_bytes!("../../../samples/h-version-1.section");
+
+/// Row I's frame. Version 3 doesn't read the function number.
+const I: [u64; 4] = [0x1020, 0, 0x7000, 5];
 
 /// Three stretches of row I's length. The second has a base of 0, the third one that is no old start.
 fn image() -> Vec<u8> {
@@ -18,11 +21,16 @@ fn image() -> Vec<u8> {
 }
 
 /// Row I's frame at another RSP.
-fn at(rsp: u64) -> [u64; 3] {
-    [0x1020, 0, rsp]
+fn at(rsp: u64) -> [u64; 4] {
+    [0x1020, 0, rsp, u64::MAX]
 }
 
-fn moved_on(section: &[u8], frames: &[[u64; 3]]) -> Outcome {
+/// The same in version 1: offset 0x20 in function 0.
+fn at_1(rsp: u64) -> [u64; 4] {
+    [0x20, 0, rsp, 0]
+}
+
+fn moved_on(section: &[u8], frames: &[[u64; 4]]) -> Outcome {
     let call = Call {
         section,
         image: &image(),
@@ -35,7 +43,7 @@ fn moved_on(section: &[u8], frames: &[[u64; 3]]) -> Outcome {
 }
 
 /// Number and place of a refusal.
-fn refused(frames: &[[u64; 3]]) -> (u64, u64) {
+fn refused(frames: &[[u64; 4]]) -> (u64, u64) {
     let outcome = moved_on(H, frames);
     assert_eq!((outcome.count, outcome.image), (0, image()));
     (outcome.number, outcome.place)
@@ -57,9 +65,11 @@ fn accepted_lists() {
     moved.image[8..16].copy_from_slice(&0x90000_u64.to_le_bytes());
     moved.image[16..24].copy_from_slice(&0x94e20_u64.to_le_bytes());
     assert_eq!(moved_on(H, &[I]), moved);
+    assert_eq!(moved_on(H_1, &[at_1(0x7000)]), moved);
     moved.count = 4;
     assert_eq!(moved_on(H, &[I, at(0x7018)]), moved);
     assert_eq!(moved_on(H, &[at(0x7018), I]), moved);
+    assert_eq!(moved_on(H_1, &[at_1(0x7000), at_1(0x7018)]), moved);
 }
 
 /// Each frame is judged on the image as lent: row I's frame twice is 26, not 21.
@@ -84,7 +94,7 @@ fn shared_bytes() {
 
 #[test]
 fn refused_frames() {
-    let nowhere = [0x1021, 0, 0x7000];
+    let nowhere = [0x1021, 0, 0x7000, 0];
     assert_eq!(refused(&[at(0x7030), nowhere]), (21, 0));
     assert_eq!(refused(&[nowhere, at(0x7030)]), (10, 0));
     assert_eq!(refused(&[I, at(0x7018), at(0x7030)]), (21, 2));
@@ -94,4 +104,50 @@ fn refused_frames() {
     outside[LAST_OFFSET] = 17;
     let outcome = moved_on(&outside, &[I]);
     assert_eq!((outcome.number, outcome.place), (19, 0), "19 of pair 1");
+}
+
+#[test]
+fn version_1() {
+    let refused = |frames: &[[u64; 4]]| {
+        let outcome = moved_on(H_1, frames);
+        assert_eq!((outcome.count, outcome.image), (0, image()));
+        (outcome.number, outcome.place)
+    };
+    let i = at_1(0x7000);
+    assert_eq!(moved_on(H_1, &[]).number, 0);
+    assert_eq!(refused(&[i, i]), (26, 1));
+    assert_eq!(refused(&[i, at_1(0x7017)]), (26, 1));
+    assert_eq!(refused(&[i, at_1(0x7030)]), (21, 1));
+    assert_eq!(refused(&[i, at_1(0x7031)]), (16, 1));
+    for function in [1, 1 << 32, u64::MAX] {
+        assert_eq!(refused(&[i, [0x20, 0, 0x7018, function]]), (10, 1));
+    }
+    for offset in [0x1020, 0x21, (1 << 32) + 0x20] {
+        assert_eq!(refused(&[i, [offset, 0, 0x7018, 0]]), (10, 1));
+    }
+}
+
+/// 25 reads four, in both versions: lists of three numbers a frame are none.
+#[test]
+fn lists_that_make_no_frames() {
+    let numbers = |section: &[u8], numbers: &[u64]| {
+        let call = Call {
+            section,
+            image: &image(),
+            first: 0x7000,
+            olds: &[0x50000],
+            news: &[0x90000],
+            frames: numbers,
+        };
+        let outcome = call.compare();
+        (outcome.number, outcome.place)
+    };
+    let list = [at_1(0x7000), at_1(0x7018), at_1(0x7030)].concat();
+    for length in (0..12).filter(|length| length % 4 != 0) {
+        assert_eq!(numbers(H, &list[..length]), (25, 0), "{length}");
+        assert_eq!(numbers(H_1, &list[..length]), (25, 0), "{length}");
+    }
+    assert_eq!(numbers(H_1, &list[..8]), (0, 0));
+    assert_eq!(numbers(H_1, &list), (21, 2));
+    assert_eq!(numbers(H, &list), (10, 0));
 }

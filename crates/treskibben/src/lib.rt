@@ -46,7 +46,7 @@ pub struct Found {
     pub sharing: u64,
 }
 
-fn found(f: questions::Found) -> Found
+fn search_answer(f: questions::Found) -> Found
     ensures { λ r. ⌜ r ≡ foundAt f ⌝ }
 {
     Found {
@@ -63,7 +63,7 @@ fn found(f: questions::Found) -> Found
 pub extern "C" fn treskibben_find(section: &[u8], address: u64) -> Found
     ensures { λ r. ⌜ r ≡ foundAt (byAddress (now (section .entry)) address) ⌝ }
 {
-    found(questions::find::find(section, address))
+    search_answer(questions::find::find(section, address))
 }
 
 // The question by function number and offset, of version 1: the section's refusal, 27 on version 3, 10 exactly if there is no such
@@ -72,7 +72,7 @@ pub extern "C" fn treskibben_find(section: &[u8], address: u64) -> Found
 pub extern "C" fn treskibben_find_in_function(section: &[u8], function: u64, offset: u64) -> Found
     ensures { λ r. ⌜ r ≡ foundAt (byFunction (now (section .entry)) function offset) ⌝ }
 {
-    found(questions::find::find_in_function(section, function, offset))
+    search_answer(questions::find::find_in_function(section, function, offset))
 }
 
 // By record number: the record's first byte in the section and its length.

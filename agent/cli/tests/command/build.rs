@@ -3,6 +3,7 @@
 use crate::fixtures::{row_h, with, C};
 use crate::list::h_listing;
 use crate::run::{sample, Folder};
+use generator::layout::Version;
 use std::fs;
 
 #[test]
@@ -26,7 +27,8 @@ fn there_and_back_again() {
     let folder = Folder::new();
     let mut rng = generator::Rng::part(7, 0);
     for _ in 0..40 {
-        let section = generator::valid::section(&mut rng).encode();
+        let version = rng.pick(&Version::ALL);
+        let section = generator::section_in(&mut rng, version).encode();
         folder.put("section", &section);
         folder
             .run(["list", "section", "--output", "listing"])

@@ -46,8 +46,8 @@ pub fn one_function(stack_size: u64, records: Vec<Record>) -> Section {
     };
     Section {
         functions: vec![function],
-        constants: vec![],
         records,
+        ..Section::default()
     }
 }
 

@@ -59,6 +59,7 @@ fn rich() -> Section {
         ],
         constants: vec![0, 0x1_0000_0000],
         records: vec![plain(), call()],
+        ..Section::default()
     }
 }
 

@@ -21,7 +21,7 @@ pub(super) fn no_record(rng: &mut Rng, scene: &mut Scene, stop: usize) -> Option
             2 => own ^ 1 << rng.below(64),
             3 => function,
             4 => function.wrapping_add(own),
-            5 => own.wrapping_add(rng.pick(&[1 << 32, 1 << 33, 1 << 63])),
+            5 | 6 => own.wrapping_add(rng.pick(&[1 << 32, 1 << 33, 1 << 63])),
             _ => rng.number(64),
         };
         if !taken.contains(&address) {
@@ -34,18 +34,18 @@ pub(super) fn no_record(rng: &mut Rng, scene: &mut Scene, stop: usize) -> Option
 /// A function number that is none: the next one, one where a narrower number would be one, or any. Now
 /// and then there are also two records at the offset, or none.
 fn no_function(rng: &mut Rng, scene: &mut Scene, stop: usize) -> Option<u64> {
-    match rng.below(4) {
-        0 => drop(shared(rng, scene, stop)),
-        1 => scene.stops[stop].address = scene.stops[stop].address.wrapping_add(1 << 32),
+    match rng.below(6) {
+        0 | 1 => drop(shared(rng, scene, stop)),
+        2 => scene.stops[stop].address = scene.stops[stop].address.wrapping_add(1 << 32),
         _ => {}
     }
     let count = scene.section.functions.len() as u64;
     let own = scene.stops[stop].function as u64;
-    scene.stops[stop].named = match rng.below(6) {
+    scene.stops[stop].named = match rng.below(8) {
         0 | 1 => count,
         2 => count + 1,
-        3 => own + rng.pick(&[1 << 32, 1 << 33, 1 << 63]),
-        4 => u64::MAX,
+        3..=5 => own + rng.pick(&[1 << 32, 1 << 33, 1 << 63]),
+        6 => u64::MAX,
         _ => count + rng.number(63),
     };
     Some(0)
