@@ -18,9 +18,10 @@ mod items;
 mod records;
 mod runs;
 
-// How a section is laid out: how many functions, constants and records, where the constants begin
+// How a section is laid out: whether it is of version 1, how many functions, constants and records, where the constants begin
 // (the pool), and where the first record stands.
 struct Tables {
+    old: bool,
     functions: usize,
     constants: usize,
     records: usize,
@@ -31,13 +32,15 @@ struct Tables {
 // The layout, as the header gives it.
 fn section_tables(s: &[u8]) -> Tables
     requires { ⌜ headerSize ≤ length (now s) ⌝ }
-    ensures { λ r. ⌜ Tabled (now (s .entry)) (r .functions) (r .constants) (r .records) (r .pool) (r .first) ⌝ }
+    ensures { λ r. ⌜ Tabled (now (s .entry)) (r .old) (r .functions) (r .constants) (r .records) (r .pool) (r .first) ⌝ }
 {
+    let old = stackmap::tables::is_old(s);
     let functions = wire::u32_at(s, layout::NUM_FUNCTIONS_AT) as usize;
     let constants = wire::u32_at(s, layout::NUM_CONSTANTS_AT) as usize;
     let records = wire::u32_at(s, layout::NUM_RECORDS_AT) as usize;
-    let pool = layout::HEADER_SIZE + layout::FUNCTION_SIZE * functions;
+    let pool = layout::HEADER_SIZE + layout::function_size(old) * functions;
     Tables {
+        old,
         functions,
         constants,
         records,
@@ -52,22 +55,31 @@ fn listing_length(s: &[u8]) -> usize
     ensures { λ r. ⌜ r ≡ length (encodeListing (readSection (now (s .entry)))) ⌝ }
 {
     let tables = section_tables(s);
-    let records = records::records_length(s, tables.first, tables.records);
-    numbers::FUNCTION_ITEM_SIZE * tables.functions
+    let records = records::records_length(s, tables.old, tables.first, tables.records);
+    items::version_length(tables.old)
+        + numbers::FUNCTION_ITEM_SIZE * tables.functions
         + numbers::CONSTANT_ITEM_SIZE * tables.constants
         + records
         + numbers::END_ITEM_SIZE
 }
 
-// The listing of a section: functions, then constants, then each record, then one end. Answers its length.
+// The listing of a section: in version 1 its version, then functions, then constants, then each record, then one end. Answers its length.
 fn put_listing(s: &[u8], out: &mut [u8]) -> usize
     requires { ⌜ Accepted (now s) × (length (encodeListing (readSection (now s))) ≤ length (now out)) ⌝ }
     ensures { λ r. ⌜ Put (now (out .entry)) (now (out .exit)) 0 r (listingFields (readSection (now (s .entry)))) ⌝ }
 {
     let tables = section_tables(s);
-    let mut next = runs::put_functions(s, layout::HEADER_SIZE, tables.functions, out, 0);
+    let mut next = items::put_version(tables.old, out);
+    next = runs::put_functions(
+        s,
+        tables.old,
+        layout::HEADER_SIZE,
+        tables.functions,
+        out,
+        next,
+    );
     next = runs::put_constants(s, tables.pool, tables.constants, out, next);
-    next = records::put_records(s, tables.first, tables.records, out, next);
+    next = records::put_records(s, tables.old, tables.first, tables.records, out, next);
     out[next] = numbers::END_KIND;
     next + numbers::END_ITEM_SIZE
 }

@@ -1,7 +1,6 @@
 // The records, each read from its own stretch of the section: how long they are in the listing, and their items.
 // No entry point: the section is accepted and the output long enough before these are called.
 ghost use mathlib.Core.Path.{_≡_};
-ghost use mathlib.Core.Bool.{false};
 ghost use Prim.Native.Nat.{_+_, _≤_};
 ghost use lib.ListN.{length};
 ghost use Rattle.stackmap.specs.Fields.{size, all};
@@ -25,14 +24,14 @@ struct Shape {
 }
 
 // The record at the start of `s`.
-fn record_shape(s: &[u8]) -> Shape
-    requires { ⌜ recordLength false (now s) ≤ length (now s) ⌝ }
-    ensures { λ r. ⌜ Shaped (now (s .entry)) (r .locations) (r .outs) (r .begin) (r .length) ⌝ }
+fn record_shape(s: &[u8], old: bool) -> Shape
+    requires { ⌜ recordLength old (now s) ≤ length (now s) ⌝ }
+    ensures { λ r. ⌜ Shaped old (now (s .entry)) (r .locations) (r .outs) (r .begin) (r .length) ⌝ }
 {
     let locations = wire::u16_at(s, layout::NUM_LOCATIONS_AT) as usize;
     let end = layout::RECORD_HEAD_SIZE
-        + layout::LOCATION_SIZE * locations
-        + locations % 2 * PADDING_SIZE;
+        + layout::location_size(old) * locations
+        + layout::locations_padding(old, locations);
     let outs = wire::u16_at(s, end + layout::LIVE_OUTS_HEAD_ZEROS) as usize;
     let begin = end + layout::LIVE_OUTS_HEAD_SIZE;
     Shape {
@@ -44,15 +43,15 @@ fn record_shape(s: &[u8]) -> Shape
 }
 
 // How long the items of the `count` records from `at` are.
-pub fn records_length(s: &[u8], at: usize, count: usize) -> usize
-    requires { ⌜ at + size (all (recordFields false) (readRecords false count (now s) at)) ≤ length (now s) ⌝ }
-    ensures { λ r. ⌜ r ≡ size (all recordItems (readRecords false count (now (s .entry)) at)) ⌝ }
+pub fn records_length(s: &[u8], old: bool, at: usize, count: usize) -> usize
+    requires { ⌜ at + size (all (recordFields old) (readRecords old count (now s) at)) ≤ length (now s) ⌝ }
+    ensures { λ r. ⌜ r ≡ size (all recordItems (readRecords old count (now (s .entry)) at)) ⌝ }
 {
     let mut p = at;
     let mut left = count;
     let mut total: usize = 0;
     while left > 0 {
-        let shape = record_shape(&s[p..]);
+        let shape = record_shape(&s[p..], old);
         total += numbers::RECORD_ITEM_SIZE
             + numbers::LOCATION_ITEM_SIZE * shape.locations
             + numbers::LIVE_OUT_ITEM_SIZE * shape.outs;
@@ -69,13 +68,13 @@ struct Passed {
 }
 
 // The record at the start of `s`, with its locations and then its live-outs.
-fn put_record(s: &[u8], out: &mut [u8], to: usize) -> Passed
-    requires { ⌜ (recordLength false (now s) ≤ length (now s)) × (to + size (recordItems (readRecord false (now s))) ≤ length (now out)) ⌝ }
-    ensures { λ r. ⌜ (r .length ≡ recordLength false (now (s .entry))) × Put (now (out .entry)) (now (out .exit)) to (r .next) (recordItems (readRecord false (now (s .entry)))) ⌝ }
+fn put_record(s: &[u8], old: bool, out: &mut [u8], to: usize) -> Passed
+    requires { ⌜ (recordLength old (now s) ≤ length (now s)) × (to + size (recordItems (readRecord old (now s))) ≤ length (now out)) ⌝ }
+    ensures { λ r. ⌜ (r .length ≡ recordLength old (now (s .entry))) × Put (now (out .entry)) (now (out .exit)) to (r .next) (recordItems (readRecord old (now (s .entry)))) ⌝ }
 {
-    let shape = record_shape(s);
+    let shape = record_shape(s, old);
     let mut next = items::put_record_item(s, out, to);
-    next = runs::put_locations(s, layout::RECORD_HEAD_SIZE, shape.locations, out, next);
+    next = runs::put_locations(s, old, layout::RECORD_HEAD_SIZE, shape.locations, out, next);
     next = runs::put_live_outs(s, shape.begin, shape.outs, out, next);
     Passed {
         length: shape.length,
@@ -84,15 +83,15 @@ fn put_record(s: &[u8], out: &mut [u8], to: usize) -> Passed
 }
 
 // The `count` records from `at`.
-pub fn put_records(s: &[u8], at: usize, count: usize, out: &mut [u8], to: usize) -> usize
-    requires { ⌜ (at + size (all (recordFields false) (readRecords false count (now s) at)) ≤ length (now s)) × (to + size (all recordItems (readRecords false count (now s) at)) ≤ length (now out)) ⌝ }
-    ensures { λ r. ⌜ Put (now (out .entry)) (now (out .exit)) to r (all recordItems (readRecords false count (now (s .entry)) at)) ⌝ }
+pub fn put_records(s: &[u8], old: bool, at: usize, count: usize, out: &mut [u8], to: usize) -> usize
+    requires { ⌜ (at + size (all (recordFields old) (readRecords old count (now s) at)) ≤ length (now s)) × (to + size (all recordItems (readRecords old count (now s) at)) ≤ length (now out)) ⌝ }
+    ensures { λ r. ⌜ Put (now (out .entry)) (now (out .exit)) to r (all recordItems (readRecords old count (now (s .entry)) at)) ⌝ }
 {
     let mut p = at;
     let mut left = count;
     let mut t = to;
     while left > 0 {
-        let passed = put_record(&s[p..], out, t);
+        let passed = put_record(&s[p..], old, out, t);
         p += passed.length;
         t = passed.next;
         left -= 1;

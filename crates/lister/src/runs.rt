@@ -1,7 +1,6 @@
 // Runs of items of one kind. Each function answers where the next item begins.
 // No entry point: each function requires that what it reads and writes is inside, as `to_listing` has shown before the first
 // write.
-ghost use mathlib.Core.Bool.{false};
 ghost use Prim.Native.Nat.{_+_, _*_, _≤_};
 ghost use lib.ListN.{length};
 ghost use Rattle.stackmap.specs.Fields.{all, many};
@@ -14,16 +13,24 @@ use crate::items;
 use stackmap::layout;
 
 // The `count` functions from `at`.
-pub fn put_functions(s: &[u8], at: usize, count: usize, out: &mut [u8], to: usize) -> usize
-    requires { ⌜ (at + functionSize false * count ≤ length (now s)) × (to + functionItemSize * count ≤ length (now out)) ⌝ }
-    ensures { λ r. ⌜ Put (now (out .entry)) (now (out .exit)) to r (all functionItem (many (readFunction false) (functionSize false) count (now (s .entry)) at)) ⌝ }
+pub fn put_functions(
+    s: &[u8],
+    old: bool,
+    at: usize,
+    count: usize,
+    out: &mut [u8],
+    to: usize,
+) -> usize
+    requires { ⌜ (at + functionSize old * count ≤ length (now s)) × (to + functionItemSize * count ≤ length (now out)) ⌝ }
+    ensures { λ r. ⌜ Put (now (out .entry)) (now (out .exit)) to r (all functionItem (many (readFunction old) (functionSize old) count (now (s .entry)) at)) ⌝ }
 {
+    let step = layout::function_size(old);
     let mut p = at;
     let mut functions = count;
     let mut t = to;
     while functions > 0 {
-        t = items::put_function(s, p, out, t);
-        p += layout::FUNCTION_SIZE;
+        t = items::put_function(s, old, p, out, t);
+        p += step;
         functions -= 1;
     }
     t
@@ -46,16 +53,24 @@ pub fn put_constants(s: &[u8], at: usize, count: usize, out: &mut [u8], to: usiz
 }
 
 // The `count` locations from `at`.
-pub fn put_locations(s: &[u8], at: usize, count: usize, out: &mut [u8], to: usize) -> usize
-    requires { ⌜ (at + locationSize false * count ≤ length (now s)) × (to + locationItemSize * count ≤ length (now out)) ⌝ }
-    ensures { λ r. ⌜ Put (now (out .entry)) (now (out .exit)) to r (all locationItem (many (readLocation false) (locationSize false) count (now (s .entry)) at)) ⌝ }
+pub fn put_locations(
+    s: &[u8],
+    old: bool,
+    at: usize,
+    count: usize,
+    out: &mut [u8],
+    to: usize,
+) -> usize
+    requires { ⌜ (at + locationSize old * count ≤ length (now s)) × (to + locationItemSize * count ≤ length (now out)) ⌝ }
+    ensures { λ r. ⌜ Put (now (out .entry)) (now (out .exit)) to r (all locationItem (many (readLocation old) (locationSize old) count (now (s .entry)) at)) ⌝ }
 {
+    let step = layout::location_size(old);
     let mut p = at;
     let mut locations = count;
     let mut t = to;
     while locations > 0 {
-        t = items::put_location(s, p, out, t);
-        p += layout::LOCATION_SIZE;
+        t = items::put_location(s, old, p, out, t);
+        p += step;
         locations -= 1;
     }
     t

@@ -1,4 +1,5 @@
--- Numbers that fit the section's fields fit the listing's, and the other way where no list is too long.
+-- Numbers that fit the section's fields fit the listing's where version 1 has no record counts, and the other way where no list is too
+-- long and version 1 has no size above 255.
 use Prim.Native.Nat.{ℕ, _+_, _*_, _%_, _^_, _≤_, _<_}
 use mathlib.Core.Path.{_≡_, ap}
 use mathlib.Core.Bool.{Bool, true, false}

@@ -16,7 +16,6 @@ use Rattle.stackmap.specs.Verdict.{chain, must}
 use Rattle.stackmap.proofs.Fields.{Has, fields-back, has-bytes, has-fit, join, length-bytesOf, many-back, size-all, size-append, size-many, split}
 use Rattle.stackmap.proofs.Items.{byte-word}
 use Rattle.stackmap.proofs.Verdicts.{chain-first, chain-rest, must-held, must-rest}
-use Rattle.stackmap.specs.declared.Verdict.{Verdict}
 use Rattle.stackmap.specs.declared.Verdict.the-variants.{Valid}
 use Rattle.listing.specs.Listing.{functionItem, constantItem, recordItem, locationItem, liveOutItem, endItem, recordItems, versionItem, itemFields, listingFields, encodeListing, stands, run, listedFunction, listedConstant, listedLocation, listedLiveOut, listedLocations, listedLiveOuts, listedRecord, recordStop, listedRecords, recordsStop, functionsListed, constantsListed, recordsBegin, readItems, itemsStop, versionLength, itemsCheck}
 use Rattle.listing.proofs.Items.{function-item-size, constant-item-size, location-item-size, live-out-item-size, function-back, constant-back, location-back, live-out-back, function-has, constant-has, location-has, live-out-has, kind-byte, function-kind, constant-kind, location-kind, live-out-kind, yes-item, is-item, Leads, no-item, run-inside, run-back, run-has, records-yes, records-no}
@@ -296,7 +295,6 @@ module _ (l : List ℕ) where
       long : size (itemFields (readItems l old)) ≡ length l
       small : AllSmall (readItems l old .records)
       pub old-right : Counts old (readItems l old .functions) × Sizes old (readItems l old .records)
-      pub ends : e ≡ length l
 
     pub kept : Kept
     unfolding itemsCheck itemsStop itemFields readItems size
@@ -321,7 +319,6 @@ module _ (l : List ℕ) where
           long = simp size-append (let q = h₃ .1 in omega arith);
           small = whole-small _ _ _ (chain-first _ _ _ k₂ .1);
           old-right = old-tells old _ _ _ _ (chain-first _ _ _ k₃ .1);
-          ends = let q : _≡_ {A = Verdict} (Valid (length l)) (Valid e) = chain-rest _ _ _ k₃ in cc;
         }
 
     module _ (w : Bytes l) where

@@ -18,11 +18,11 @@ use Rattle.program.specs.Line.{line}
 use Rattle.program.specs.Program.{written}
 
 -- input that is too long
-pub written-long : (s : List ℕ) → 57344 < length s → written s ≡ line 1 0
+pub written-long : (s : List ℕ) → 40960 < length s → written s ≡ line 1 0
 unfolding written
 written-long s h = rw (lt-leb _ _ h)
 
-module _ (s out : List ℕ) (short : length s ≤ 57344) (room : length out ≡ 65536) where
+module _ (s out : List ℕ) (short : length s ≤ 40960) (room : length out ≡ 65536) where
   abbrev result : List ℕ
   result = encodeListing (readSection s)
 

@@ -4,6 +4,7 @@ use native.Mathlib.Omega.{arith}
 use mathlib.Core.Path.{_≡_}
 use lib.ListN.{length, length-set}
 use lib.Seq.{length-sets}
+use Rattle.stackmap.proofs.Steps.{function-least}
 use Rattle.lister.proofs.Stores.{function-put}
 use borrow.Author.Needs.{needs}
 use Rattle.lister.proofs.items.put_function.Statement.{statement}
@@ -16,7 +17,7 @@ add-put-u64 : tie.Need-add-put-u64
 add-put-u64 c = search needs
 
 u64-at-requires : tie.Need-u64-at-requires
-u64-at-requires c κs = search needs
+u64-at-requires c κs = omega (arith, function-least (c .before .before .before .args .old))
 
 put-u64-requires : tie.Need-put-u64-requires
 put-u64-requires c κs = simp length-set (omega arith)
@@ -28,7 +29,7 @@ add-u64-at : tie.Need-add-u64-at
 add-u64-at c = search needs
 
 u64-at-requires-2 : tie.Need-u64-at-requires-2
-u64-at-requires-2 c κs = search needs
+u64-at-requires-2 c κs = omega (arith, function-least (c .before .before .before .before .before .before .before .before .args .old))
 
 put-u64-requires-2 : tie.Need-put-u64-requires-2
 put-u64-requires-2 c κs =
@@ -39,11 +40,8 @@ put-u64-requires-2 c κs =
 add-put-u64-3 : tie.Need-add-put-u64-3
 add-put-u64-3 c = search needs
 
-add-u64-at-2 : tie.Need-add-u64-at-2
-add-u64-at-2 c = search needs
-
-u64-at-requires-3 : tie.Need-u64-at-requires-3
-u64-at-requires-3 c κs = search needs
+record-count-requires : tie.Need-record-count-requires
+record-count-requires c κs = search needs
 
 put-u64-requires-3 : tie.Need-put-u64-requires-3
 put-u64-requires-3 c κs =
@@ -65,11 +63,11 @@ returns c =
       r .put-u643 .ensures,
       q .put-u642 .ensures,
       p .put-u64 .ensures,
-      r .before .u64-at3 .ensures,
+      r .before .record-count .ensures,
       q .before .u64-at2 .ensures,
       p .before .u64-at .ensures,
     )
-    (function-put _ _ _ _)
+    (function-put _ _ _ _ _)
 
 same-length : tie.Need-same-length
 same-length c = put-long (returns c)
@@ -87,8 +85,7 @@ put-function-spec =
     u64-at-requires-2
     put-u64-requires-2
     add-put-u64-3
-    add-u64-at-2
-    u64-at-requires-3
+    record-count-requires
     put-u64-requires-3
     add-result
     same-length

@@ -1,114 +1,33 @@
--- The kind and then each field, at the place where the one before it ends.
-use Prim.Native.Nat.{_<_}
-use mathlib.Core.Path.{_≡_}
-use lib.ListN.{length, getD, length-set}
-use lib.Seq.{length-sets}
-use native.Mathlib.Omega.{arith}
+-- By the version.
 use Rattle.lister.proofs.Puts.{put-long}
-use Rattle.lister.proofs.Stores.{location-put}
-use borrow.Author.Needs.{needs}
 use Rattle.lister.proofs.items.put_location.Statement.{statement}
 use Rattle.lister.proofs.items.put_location.Tie as tie
 
-slice-write-out : tie.Need-slice-write-out
-slice-write-out c = search needs
-
-shared-slice-read-out : tie.Need-shared-slice-read-out
-shared-slice-read-out c = search needs
-
-add-out : tie.Need-add-out
-add-out c = search needs
-
-slice-write-out-2 : tie.Need-slice-write-out-2
-slice-write-out-2 c = simp length-set (omega arith)
-
-add-put-u16 : tie.Need-add-put-u16
-add-put-u16 c = search needs
-
-add-u16-at : tie.Need-add-u16-at
-add-u16-at c = search needs
-
-u16-at-requires : tie.Need-u16-at-requires
-u16-at-requires c κs = search needs
-
-put-u16-requires : tie.Need-put-u16-requires
-put-u16-requires c κs = simp length-set (omega arith)
-
-add-put-u16-2 : tie.Need-add-put-u16-2
-add-put-u16-2 c = search needs
-
-add-u16-at-2 : tie.Need-add-u16-at-2
-add-u16-at-2 c = search needs
-
-u16-at-requires-2 : tie.Need-u16-at-requires-2
-u16-at-requires-2 c κs = search needs
-
-put-u16-requires-2 : tie.Need-put-u16-requires-2
-put-u16-requires-2 c κs =
-    let p = c .before .before .before .before in
-    let k : length (p .put-u16 .last .0) ≡ length (p .before .before .before .before .before .before .args .out .now) = rw (p .put-u16 .ensures) (simp (length-sets, length-set)) in
-    omega arith
-
-add-put-u32 : tie.Need-add-put-u32
-add-put-u32 c = search needs
-
-add-u32-at : tie.Need-add-u32-at
-add-u32-at c = search needs
-
-u32-at-requires : tie.Need-u32-at-requires
-u32-at-requires c κs = search needs
-
-put-u32-requires : tie.Need-put-u32-requires
-put-u32-requires c κs =
-    let q = c .before .before .before .before in
-    let p = q .before .before .before .before .before in
-    let k : length (q .put-u162 .last .0) ≡ length (p .before .before .before .before .before .before .args .out .now) =
-    rw (q .put-u162 .ensures, p .put-u16 .ensures) (simp (length-sets, length-set)) in
-    omega arith
-
-add-result : tie.Need-add-result
-add-result c = search needs
+put-old-location-requires : tie.Need-put-old-location-requires
+put-old-location-requires c κs = rw (c .before .if1 .taken) at (c .before .before .before .before .pre)
 
 returns : tie.Need-returns
-returns c =
-    let r = c .before .before in
-    let q = r .before .before .before .before .before in
-    let p = q .before .before .before .before .before in
-    let a = p .before .before .before .before .before .before .args in
-    let h : getD (a .s .now) (a .at) 0 < 256 = omega (arith, p .before .before .before .shared-slice-known2 .given (a .at)) in
-    rw (
-      r .put-u32 .ensures,
-      q .put-u162 .ensures,
-      p .put-u16 .ensures,
-      r .before .u32-at .ensures,
-      q .before .u16-at2 .ensures,
-      p .before .u16-at .ensures,
-    )
-    (location-put _ _ _ _ h)
+returns c = rw (c .before .before .before .before .if1 .taken) (c .before .before .put-old-location .ensures)
 
 same-length : tie.Need-same-length
 same-length c = put-long (returns c)
+
+put-new-location-requires : tie.Need-put-new-location-requires
+put-new-location-requires c κs = rw (c .before .if1 .left) at (c .before .before .before .before .pre)
+
+returns-2 : tie.Need-returns-2
+returns-2 c = rw (c .before .before .before .before .if1 .left) (c .before .before .put-new-location .ensures)
+
+same-length-2 : tie.Need-same-length-2
+same-length-2 c = put-long (returns-2 c)
 
 pub put-location-spec : {M : Type 1} → statement M
 put-location-spec =
     tie.close
     (tie.spec
-    slice-write-out
-    shared-slice-read-out
-    add-out
-    slice-write-out-2
-    add-put-u16
-    add-u16-at
-    u16-at-requires
-    put-u16-requires
-    add-put-u16-2
-    add-u16-at-2
-    u16-at-requires-2
-    put-u16-requires-2
-    add-put-u32
-    add-u32-at
-    u32-at-requires
-    put-u32-requires
-    add-result
+    put-old-location-requires
     same-length
-    returns)
+    returns
+    put-new-location-requires
+    same-length-2
+    returns-2)

@@ -1,5 +1,6 @@
 -- The kind and then each field, at the place where the one before it ends.
 use mathlib.Core.Path.{_≡_}
+use mathlib.Core.Bool.{false}
 use lib.ListN.{length, length-set}
 use lib.Seq.{length-sets}
 use native.Mathlib.Omega.{arith}
@@ -38,12 +39,13 @@ add-result c = search needs
 
 returns : tie.Need-returns
 returns c =
+    λ old.
     let q = c .before .before in
     let p = q .before .before .before .before .before in
-    rw (q .put-u32 .ensures, p .put-u64 .ensures, q .before .u32-at .ensures, p .before .u64-at .ensures) (record-put _ _ _)
+    rw (q .put-u32 .ensures, p .put-u64 .ensures, q .before .u32-at .ensures, p .before .u64-at .ensures) (record-put old _ _ _)
 
 same-length : tie.Need-same-length
-same-length c = put-long (returns c)
+same-length c = put-long (returns c false)
 
 pub put-record-item-spec : {M : Type 1} → statement M
 put-record-item-spec =

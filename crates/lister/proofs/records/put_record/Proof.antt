@@ -1,6 +1,6 @@
 -- The item of the record, its locations and its live-outs, each with room after those before it.
 use native.Mathlib.Omega.{arith}
-use mathlib.Core.Bool.{false}
+use Rattle.stackmap.specs.Layout.{locationSize}
 use Rattle.stackmap.specs.Section.{readLocation, readRecord}
 use Rattle.listing.specs.Listing.{locationItem}
 use Rattle.lister.proofs.Puts.{put-long}
@@ -18,17 +18,18 @@ put-record-item-requires : tie.Need-put-record-item-requires
 put-record-item-requires c κs =
     let w = c .before .record-shape .ensures in
     let b = c .before .before .before .before in
-    let i = shaped-inside _ w (b .pre .0) in
-    (omega arith, omega (arith, shaped-size _ w))
+    let i = shaped-inside _ _ w (b .pre .0) in
+    (omega arith, omega (arith, shaped-size _ _ w))
 
 put-locations-requires : tie.Need-put-locations-requires
 put-locations-requires c κs =
     let p = c .before .before .before in
     let w = p .before .before .record-shape .ensures in
     let b = p .before .before .before .before .before in
-    let e = p .put-record-item .ensures .ends in (
-      shaped-inside _ w (b .pre .0) .0,
-      omega (arith, shaped-size _ w, put-long (p .put-record-item .ensures), record-item-size (readRecord false (b .args .s .now))),
+    let i = p .put-record-item .ensures (b .args .old) in
+    let e = i .ends in (
+      shaped-inside _ _ w (b .pre .0) .0,
+      omega (arith, shaped-size _ _ w, put-long i, record-item-size (readRecord (b .args .old) (b .args .s .now))),
     )
 
 put-live-outs-requires : tie.Need-put-live-outs-requires
@@ -37,16 +38,17 @@ put-live-outs-requires c κs =
     let p = q .before .before .before .before in
     let w = p .before .before .record-shape .ensures in
     let b = p .before .before .before .before .before in
-    let e = p .put-record-item .ensures .ends in
+    let i = p .put-record-item .ensures (b .args .old) in
+    let e = i .ends in
     let d = q .put-locations .ensures .ends in (
-      shaped-inside _ w (b .pre .0) .1,
+      shaped-inside _ _ w (b .pre .0) .1,
       omega (
         arith,
-        shaped-size _ w,
-        put-long (p .put-record-item .ensures),
+        shaped-size _ _ w,
+        put-long i,
         put-long (q .put-locations .ensures),
-        record-item-size (readRecord false (b .args .s .now)),
-        size-many locationItem (readLocation false) 12 10 location-item-size (p .before .before .record-shape .result .locations) (b .args .s .now) 16,
+        record-item-size (readRecord (b .args .old) (b .args .s .now)),
+        size-many locationItem (readLocation (b .args .old)) (locationSize (b .args .old)) 10 location-item-size (p .before .before .record-shape .result .locations) (b .args .s .now) 16,
       ),
     )
 
@@ -59,7 +61,8 @@ returns c =
     let q = r .before .before .before .before in
     let p = q .before .before .before .before in
     let w = p .before .before .record-shape .ensures in
-    (w .ends, record-join _ w (p .put-record-item .ensures) (q .put-locations .ensures) (r .put-live-outs .ensures))
+    let b = p .before .before .before .before .before in
+    (w .ends, record-join _ _ w (p .put-record-item .ensures (b .args .old)) (q .put-locations .ensures) (r .put-live-outs .ensures))
 
 pub put-record-spec : {M : Type 1} → statement M
 put-record-spec =

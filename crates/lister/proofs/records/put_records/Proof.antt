@@ -1,7 +1,6 @@
 -- What is left to be written gives what the whole gives.
 use borrow.Author.Needs.{needs}
 use native.Mathlib.Omega.{arith}
-use mathlib.Core.Bool.{false}
 use Rattle.stackmap.specs.Fields.{all}
 use Rattle.stackmap.specs.Section.{readRecords}
 use Rattle.listing.specs.Listing.{recordItems}
@@ -11,10 +10,10 @@ use Rattle.lister.proofs.records.put_records.Statement.{statement}
 use Rattle.lister.proofs.records.put_records.Tie as tie
 
 abbrev Inv-loop : tie.InvT-loop
-Inv-loop s at count out₀ to p₀ left₀ t₀ out p left t = Passing s out₀ to (all recordItems (readRecords false count s at)) out p left t
+Inv-loop s old at count out₀ to p₀ left₀ t₀ out p left t = Passing old s out₀ to (all recordItems (readRecords old count s at)) out p left t
 
 abbrev μ-loop : tie.MeasureT-loop
-μ-loop s at count out₀ to p₀ left₀ t₀ out p left t = left
+μ-loop s old at count out₀ to p₀ left₀ t₀ out p left t = left
 
 loop-holds : tie.Need-loop-holds Inv-loop μ-loop
 loop-holds c = pass-start (c .before .before .pre .0) (c .before .before .pre .1)

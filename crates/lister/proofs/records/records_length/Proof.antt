@@ -1,4 +1,4 @@
--- What is added up, with the items of the records that are left, is the whole; a record's items are shorter than the record,
+-- What is added up, with the items of the records that are left, is the whole; a record's items are at most 25/16 of the record,
 -- so that no sum overflows.
 use borrow.Author.Needs.{needs}
 use native.Mathlib.Omega.{arith}
@@ -9,13 +9,13 @@ use Rattle.lister.proofs.records.records_length.Statement.{statement}
 use Rattle.lister.proofs.records.records_length.Tie as tie
 
 abbrev Inv-loop : tie.InvT-loop
-Inv-loop s at count p₀ left₀ total₀ p left total = Measuring s (inListing s count at) p left total
+Inv-loop s old at count p₀ left₀ total₀ p left total = Measuring old s (inListing old s count at) p left total
 
 abbrev μ-loop : tie.MeasureT-loop
-μ-loop s at count p₀ left₀ total₀ p left total = left
+μ-loop s old at count p₀ left₀ total₀ p left total = left
 
 loop-holds : tie.Need-loop-holds Inv-loop μ-loop
-loop-holds c = measure-start _ _ _ (c .before .pre)
+loop-holds c = measure-start _ _ _ _ (c .before .pre)
 
 sub-record-shape : tie.Need-sub-record-shape Inv-loop μ-loop
 sub-record-shape c = search needs
@@ -29,10 +29,10 @@ part-record-shape-end c = search needs
 record-shape-requires : tie.Need-record-shape-requires Inv-loop μ-loop
 record-shape-requires c κs = measure-here (c .before .before .loop .inv) (omega arith)
 
--- the sum with the next record's items is at most the section's length
+-- the sum with the next record's items is at most 25/16 of the section's length
 summed : (c : tie.After-record-shape Inv-loop μ-loop) →
-    c .before .before .before .loop .total + (13 + 10 * c .record-shape .result .locations + 4 * c .record-shape .result .outs)
-    ≤ length (c .before .before .before .before .before .args .s .now)
+    16 * (c .before .before .before .loop .total + (13 + 10 * c .record-shape .result .locations + 4 * c .record-shape .result .outs))
+    ≤ 25 * length (c .before .before .before .before .before .args .s .now)
 summed c = let m = measure-on (c .before .before .before .loop .inv) (omega arith) (c .record-shape .ensures) in omega arith
 
 mul-total : tie.Need-mul-total Inv-loop μ-loop
