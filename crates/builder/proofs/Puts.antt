@@ -1,7 +1,7 @@
 -- Fields put one after the other into an output.
 use Prim.Native.Nat.{ℕ, zero, suc, _+_, _*_, _%_, _-_, _≤_, _<_, _^_}
 use mathlib.Core.Path.{_≡_, refl, sym, _∙_}
-use mathlib.Core.Bool.{false}
+use mathlib.Core.Bool.{true, false}
 use mathlib.Core.List.{List, [], _∷_, _++_, append-assoc}
 use native.Mathlib.Omega.{arith}
 use native.Mathlib.Nat.{add-zero, add-assoc}
@@ -48,6 +48,12 @@ zeros-step (suc n) out p h = let b : suc n - 1 ≡ n = omega arith in rw (b, add
 -- Items.
 
 module _ (l : List ℕ) (at : ℕ) (out : List ℕ) (to : ℕ) where
+  pub old-function-put :
+      sets (sets out to (bytes 8 (word 8 l (at + 1)))) (to + 8) (bytes 8 (word 8 l (at + 9)))
+      ≡ sets out to (bytesOf (functionFields true (listedFunction l at)))
+  unfolding functionFields listedFunction
+  old-function-put = rw add-zero at (puts-all (functionFields true (listedFunction l at)) out to)
+
   pub function-put :
       sets (sets (sets out to (bytes 8 (word 8 l (at + 1)))) (to + 8) (bytes 8 (word 8 l (at + 9)))) (to + 16) (bytes 8 (word 8 l (at + 17)))
       ≡ sets out to (bytesOf (functionFields false (listedFunction l at)))
@@ -69,6 +75,26 @@ module _ (l : List ℕ) (at : ℕ) (out : List ℕ) (to : ℕ) where
         let h = w .below a in
         let z : getD l a 0 + 256 ^ 1 * 0 ≡ getD l a 0 = omega arith in
         rw (byte-word, ← bytes-split 1 1 (getD l a 0) 0 h, z)
+
+    -- the low byte of two
+    low-byte : (a : ℕ) → bytes 1 (word 1 l a) ≡ bytes 1 (word 2 l a)
+    unfolding bytes
+    low-byte a =
+        let h = w .below a in
+        let z : word 1 l a % 256 ≡ word 2 l a % 256 = unfold word in omega arith in
+        rw z
+
+    abbrev oldLocationWords : List Field
+    oldLocationWords = (2 of word 2 l (at + 1)) ∷ (2 of word 2 l (at + 4)) ∷ (4 of word 4 l (at + 6)) ∷ []
+
+    old-location-words : bytesOf oldLocationWords ≡ bytesOf (locationFields true (listedLocation l at))
+    unfolding bytesOf locationFields listedLocation
+    old-location-words = rw (side-by-side 1 1 (at + 1) (at + 2) (omega arith), append-assoc (bytes 1 (word 1 l (at + 1))), low-byte (at + 2))
+
+    pub old-location-put :
+        sets (sets (sets out to (bytes 2 (word 2 l (at + 1)))) (to + 2) (bytes 2 (word 2 l (at + 4)))) (to + 4) (bytes 4 (word 4 l (at + 6)))
+        ≡ sets out to (bytesOf (locationFields true (listedLocation l at)))
+    old-location-put = rw (← old-location-words) (rw add-zero at (puts-all oldLocationWords out to))
 
     abbrev locationWords : List Field
     locationWords = (2 of getD l (at + 1) 0) ∷ (4 of word 4 l (at + 2)) ∷ (2 of 0) ∷ (4 of word 4 l (at + 6)) ∷ []

@@ -3,11 +3,12 @@ ghost use Rattle.listing.specs.Answers.{Answers};
 ghost use Rattle.listing.specs.Listing.{toSection};
 use listing::Conversion;
 use parser::Outcome;
+use parser::version;
 
 mod item;
 mod put;
 
-// The conversion of a listing to a section: 1, 22, 23, then the refusal that the built section would get, at its place
+// The conversion of a listing to a section: 1, 22, 23, 28, then the refusal that the built section would get, at its place
 // there, then 24; or the length written. Output beyond it is unchanged.
 pub fn to_section(listing: &[u8], out: &mut [u8]) -> Conversion
     ensures { λ r. ⌜ Answers r (now (out .exit)) (toSection (now (listing .entry)) (now (out .entry))) ⌝ }
@@ -26,7 +27,8 @@ pub fn to_section(listing: &[u8], out: &mut [u8]) -> Conversion
                     written: 0,
                 };
             }
-            put::section(listing, plan, out);
+            let start = version::length(plan.old);
+            put::section(&listing[start..], plan, out);
             Conversion {
                 number: 0,
                 place: 0,

@@ -47,6 +47,8 @@ pub const LISTED_LOCATION_KIND_AT: usize = 1;
 
 pub const LISTED_LOCATION_SIZE_AT: usize = 2;
 
+pub const LISTED_LOCATION_REGISTER_AT: usize = 4;
+
 pub const LISTED_LOCATION_OFFSET_AT: usize = 6;
 
 pub const LISTED_LIVE_OUT_REGISTER_AT: usize = 1;

@@ -1,8 +1,10 @@
-use native.Mathlib.Omega.{arith}
 use mathlib.Core.Path.{refl}
+use lib.ListN.{length-drop}
 use Rattle.wire.specs.Word.{Bytes}
-use Rattle.builder.proofs.Converted.{converted-refused, converted-short, converted}
+use Rattle.parser.proofs.Outcomes.{start-inside, part-is}
+use Rattle.builder.proofs.Converted.{read-as, converted-refused, converted-short, converted}
 use borrow.Author.Needs.{needs}
+use native.Mathlib.Omega.{arith}
 use Rattle.builder.proofs.to_section.Statement.{statement}
 use Rattle.builder.proofs.to_section.Tie as tie
 
@@ -22,11 +24,25 @@ returns c =
     rw (converted-short (a .listing .now) w (a .out .now) (rw (c .before .before .plan .given .1) at (c .before .before .before .before .parse .ensures)) (omega arith))
     (record { number = refl; place = refl; written = refl; output = refl })
 
+length-requires : tie.Need-length-requires
+length-requires c κs = search needs
+
+sub-section : tie.Need-sub-section
+sub-section c = let k = rw (c .before .before .before .plan .given .1) at (c .before .before .before .before .before .parse .ensures) in let h = start-inside (c .before .before .before .before .before .before .before .before .args .listing .now) (k .version) (c .length .ensures) in search needs
+
+part-section-start : tie.Need-part-section-start
+part-section-start c = let k = rw (c .before .before .before .plan .given .1) at (c .before .before .before .before .before .parse .ensures) in let h = start-inside (c .before .before .before .before .before .before .before .before .args .listing .now) (k .version) (c .length .ensures) in search needs
+
+part-section-end : tie.Need-part-section-end
+part-section-end c = let k = rw (c .before .before .before .plan .given .1) at (c .before .before .before .before .before .parse .ensures) in let h = start-inside (c .before .before .before .before .before .before .before .before .args .listing .now) (k .version) (c .length .ensures) in search needs
+
 section-requires : tie.Need-section-requires
 section-requires c κs =
-    let k = rw (c .before .before .before .plan .given .1) at (c .before .before .before .before .before .parse .ensures) in
+    let k = rw (c .before .before .before .before .before .plan .given .1) at (c .before .before .before .before .before .before .before .parse .ensures) in
     let s = k .sized in
-    (k .planned, k .ready, k .short, omega arith)
+    let n = k .short in
+    let e = part-is (c .before .before .before .before .before .before .before .before .before .before .args .listing .now) (k .version) (c .before .before .length .ensures) in
+    (rw e (k .planned), rw e (k .ready), rw (e, length-drop) (omega arith), omega arith)
 
 returns-2 : tie.Need-returns-2
 returns-2 c =
@@ -40,10 +56,11 @@ same-length c = search needs
 
 returns-3 : tie.Need-returns-3
 returns-3 c =
-    let a = c .before .before .before .before .before .before .before .before .before .before .before .args in
-    let w : Bytes (a .listing .now) = record { below = λ i. omega (arith, c .before .before .before .before .before .before .before .before .before .before .shared-slice-known .given i) } in
-    rw (converted (a .listing .now) w (a .out .now) (rw (c .before .before .before .before .before .before .plan .given .1) at (c .before .before .before .before .before .before .before .before .parse .ensures)) (c .before .before .before .before .if1 .left))
-    (record { number = refl; place = refl; written = refl; output = c .before .before .section .ensures })
+    let a = c .before .before .before .before .before .before .before .before .before .before .before .before .before .args in
+    let w : Bytes (a .listing .now) = record { below = λ i. omega (arith, c .before .before .before .before .before .before .before .before .before .before .before .before .shared-slice-known .given i) } in
+    let k = rw (c .before .before .before .before .before .before .before .before .plan .given .1) at (c .before .before .before .before .before .before .before .before .before .before .parse .ensures) in
+    rw (converted (a .listing .now) w (a .out .now) k (c .before .before .before .before .before .before .if1 .left))
+    (record { number = refl; place = refl; written = refl; output = rw (part-is (c .before .before .before .before .before .before .before .before .before .before .before .before .before .args .listing .now) (k .version) (c .before .before .before .before .before .length .ensures), read-as (a .listing .now) w (a .out .now) k) at (c .before .before .section .ensures) })
 
 pub to-section-spec : {M : Type 1} → statement M
 to-section-spec =
@@ -53,6 +70,10 @@ to-section-spec =
     enum-known-number
     enum-known-plan
     returns
+    length-requires
+    sub-section
+    part-section-start
+    part-section-end
     section-requires
     returns-2
     same-length

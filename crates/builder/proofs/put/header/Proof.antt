@@ -3,6 +3,9 @@ use borrow.Author.Needs.{needs}
 use Rattle.builder.proofs.put.header.Statement.{statement}
 use Rattle.builder.proofs.put.header.Tie as tie
 
+version-word-requires : tie.Need-version-word-requires
+version-word-requires c κs = search needs
+
 put-u32-requires : tie.Need-put-u32-requires
 put-u32-requires c κs = search needs
 
@@ -29,14 +32,15 @@ same-length c = search needs
 
 returns : tie.Need-returns
 returns c =
-    let a = c .before .before .before .before .before .before .before .before .before .before .before .before .before .before .before .before .before .before .before .before .args in
-    rw (c .before .before .put-u324 .ensures, c .before .before .before .before .before .before .before .put-u323 .ensures, c .before .before .before .before .before .before .before .before .before .before .before .before .put-u322 .ensures, c .before .before .before .before .before .before .before .before .before .before .before .before .before .before .before .before .before .put-u32 .ensures)
-    (header-put (a .plan .functions) (a .plan .constants) (a .plan .records) (a .out .now))
+    let a = c .before .before .before .before .before .before .before .before .before .before .before .before .before .before .before .before .before .before .before .before .before .args in
+    rw (c .before .before .put-u324 .ensures, c .before .before .before .before .before .before .before .put-u323 .ensures, c .before .before .before .before .before .before .before .before .before .before .before .before .put-u322 .ensures, c .before .before .before .before .before .before .before .before .before .before .before .before .before .before .before .before .before .put-u32 .ensures, c .before .before .before .before .before .before .before .before .before .before .before .before .before .before .before .before .before .before .version-word .ensures)
+    (header-put (a .plan .old) (a .plan .functions) (a .plan .constants) (a .plan .records) (a .out .now))
 
 pub header-spec : {M : Type 1} → statement M
 header-spec =
     tie.close
     (tie.spec
+    version-word-requires
     put-u32-requires
     cast-put-u32
     put-u32-requires-2

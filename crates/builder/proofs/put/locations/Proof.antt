@@ -1,30 +1,34 @@
-use borrow.Author.Needs.{needs}
-use native.Mathlib.Omega.{arith}
-use mathlib.Core.Bool.{false}
+use Rattle.stackmap.specs.Layout.{locationSize}
 use Rattle.stackmap.specs.Section.{locationFields}
+use Rattle.stackmap.proofs.Steps.{mul-step}
 use Rattle.stackmap.proofs.Items.{location-size}
 use Rattle.listing.specs.Listing.{listedLocation}
 use Rattle.builder.proofs.Puts.{Putting, put-start, put-on, put-end}
+use borrow.Author.Needs.{needs}
+use native.Mathlib.Omega.{arith}
 use Rattle.builder.proofs.put.locations.Statement.{statement}
 use Rattle.builder.proofs.put.locations.Tie as tie
 
 abbrev Inv-loop : tie.InvT-loop
-Inv-loop l at n out₀ to p₀ q₀ left₀ out p q left = Putting (locationFields false) listedLocation 12 10 l at n out₀ to out p q left
+Inv-loop l old at n out₀ to step p₀ q₀ left₀ out p q left = Putting (locationFields old) listedLocation (locationSize old) 10 l at n out₀ to out p q left
 
 abbrev μ-loop : tie.MeasureT-loop
-μ-loop l at n out₀ to p₀ q₀ left₀ out p q left = left
+μ-loop l old at n out₀ to step p₀ q₀ left₀ out p q left = left
+
+location-size-requires : tie.Need-location-size-requires Inv-loop μ-loop
+location-size-requires c κs = search needs
 
 loop-holds : tie.Need-loop-holds Inv-loop μ-loop
-loop-holds c = put-start (c .before .before .pre .0) (c .before .before .pre .1)
+loop-holds c = put-start (c .before .before .before .pre .0) (c .before .before .before .pre .1)
 
 location-requires : tie.Need-location-requires Inv-loop μ-loop
-location-requires c κs = search needs
+location-requires c κs = let h = mul-step (locationSize (c .before .before .before .before .before .before .args .old)) (c .before .before .loop .left) (omega arith) in search needs
 
 add-p : tie.Need-add-p Inv-loop μ-loop
 add-p c = search needs
 
 add-q : tie.Need-add-q Inv-loop μ-loop
-add-q c = search needs
+add-q c = let h = mul-step (locationSize (c .before .before .before .before .before .before .before .before .before .args .old)) (c .before .before .before .before .before .loop .left) (omega arith) in search needs
 
 sub-left : tie.Need-sub-left Inv-loop μ-loop
 sub-left c = search needs
@@ -33,7 +37,9 @@ loop-less : tie.Need-loop-less Inv-loop μ-loop
 loop-less c = search needs
 
 loop-again : tie.Need-loop-again Inv-loop μ-loop
-loop-again c = put-on (c .before .before .location .last .1 .1 .0) (location-size false) (c .before .before .before .before .before .loop .inv) (c .before .before .before .before .loop-test .taken) (c .before .before .location .ensures)
+loop-again c =
+    rw (c .before .before .before .before .before .before .location-size .ensures .0)
+    (put-on (c .before .before .location .last .1 .1 .1 .0) (location-size (c .before .before .before .before .before .before .before .before .before .args .old)) (c .before .before .before .before .before .loop .inv) (omega arith) (c .before .before .location .ensures))
 
 same-length : tie.Need-same-length Inv-loop μ-loop
 same-length c = search needs
@@ -47,6 +53,7 @@ locations-spec =
     (tie.spec
     Inv-loop
     μ-loop
+    location-size-requires
     loop-holds
     location-requires
     add-p

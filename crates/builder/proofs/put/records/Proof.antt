@@ -6,10 +6,10 @@ use Rattle.builder.proofs.put.records.Statement.{statement}
 use Rattle.builder.proofs.put.records.Tie as tie
 
 abbrev Inv-loop : tie.InvT-loop
-Inv-loop l from n out₀ to at₀ q₀ left₀ out at q left = PuttingRecords l from out₀ to out at q left
+Inv-loop l old from n out₀ to at₀ q₀ left₀ out at q left = PuttingRecords l old from out₀ to out at q left
 
 abbrev μ-loop : tie.MeasureT-loop
-μ-loop l from n out₀ to at₀ q₀ left₀ out at q left = left
+μ-loop l old from n out₀ to at₀ q₀ left₀ out at q left = left
 
 loop-holds : tie.Need-loop-holds Inv-loop μ-loop
 loop-holds c = records-start (c .before .before .pre .0) (c .before .before .pre .2)
@@ -42,7 +42,7 @@ loop-less c = search needs
 loop-again : tie.Need-loop-again Inv-loop μ-loop
 loop-again c =
     rw (c .record-size .ensures)
-    (records-on (c .before .before .before .before .before .before .before .loop .inv) (c .before .before .before .before .before .before .loop-test .taken) (c .before .before .before .before .before .record-shape .ensures) (c .before .before .before .whole-record .last .1 .1 .1 .0) (c .before .before .before .whole-record .ensures))
+    (records-on (c .before .before .before .before .before .before .before .loop .inv) (c .before .before .before .before .before .before .loop-test .taken) (c .before .before .before .before .before .record-shape .ensures) (c .before .before .before .whole-record .last .1 .1 .1 .1 .0) (c .before .before .before .whole-record .ensures))
 
 same-length : tie.Need-same-length Inv-loop μ-loop
 same-length c = let w = c .before .loop .inv .long in search needs

@@ -1,0 +1,18 @@
+-- The answer of the question, field by field.
+use mathlib.Core.Path.{ap, _∙_}
+use Rattle.treskibben.specs.Answer.{foundAt}
+use borrow.Author.Needs.{needs}
+use Rattle.treskibben.proofs.treskibben_find.Statement.{statement}
+use Rattle.treskibben.proofs.treskibben_find.Tie as tie
+
+find-requires : tie.Need-find-requires
+find-requires c κs = search needs
+
+search-answer-requires : tie.Need-search-answer-requires
+search-answer-requires c κs = search needs
+
+returns : tie.Need-returns
+returns c = c .search-answer .ensures ∙ ap foundAt (c .before .find .ensures)
+
+pub treskibben-find-spec : {M : Type 1} → statement M
+treskibben-find-spec = tie.close (tie.spec find-requires search-answer-requires returns)

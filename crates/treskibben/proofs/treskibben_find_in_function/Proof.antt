@@ -1,0 +1,18 @@
+-- The answer of the question, field by field.
+use mathlib.Core.Path.{ap, _∙_}
+use Rattle.treskibben.specs.Answer.{foundAt}
+use borrow.Author.Needs.{needs}
+use Rattle.treskibben.proofs.treskibben_find_in_function.Statement.{statement}
+use Rattle.treskibben.proofs.treskibben_find_in_function.Tie as tie
+
+find-in-function-requires : tie.Need-find-in-function-requires
+find-in-function-requires c κs = search needs
+
+search-answer-requires : tie.Need-search-answer-requires
+search-answer-requires c κs = search needs
+
+returns : tie.Need-returns
+returns c = c .search-answer .ensures ∙ ap foundAt (c .before .find-in-function .ensures)
+
+pub treskibben-find-in-function-spec : {M : Type 1} → statement M
+treskibben-find-in-function-spec = tie.close (tie.spec find-in-function-requires search-answer-requires returns)
