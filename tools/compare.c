@@ -72,7 +72,7 @@ static size_t put_record(size_t at, int old, uint32_t offset) {
 }
 
 static void build(int old) {
-    const uint64_t functions = 30000, each = old ? 7 : 4;
+    const uint64_t functions = 28000, each = old ? 5 : 4; /* below the limit in both versions */
     size_t stride = old ? 16 : 24, at = 16 + stride * functions;
     uint32_t records = 0;
     memset(bytes, 0, 16);

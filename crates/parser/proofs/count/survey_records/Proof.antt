@@ -38,10 +38,10 @@ here : (c : tie.After-record-shape Inv-loop μ-loop) → stands recordKind recor
 here c = yes-item _ _ (c .before .before .before .before .before .before .args .l .now) (c .before .before .before .before .loop .stop) (omega arith) (c .before .if1 .left)
 
 returns-2 : tie.Need-returns-2 Inv-loop μ-loop
-returns-2 c = (c .before .before .before .before .before .loop .inv .0, c .before .before .before .before .before .loop .inv .1, locations-crowded (c .before .record-shape .ensures) (here (c .before)) (c .if2 .taken))
+returns-2 c = (c .before .before .before .before .before .loop .inv .0, c .before .before .before .before .before .loop .inv .1, locations-crowded (c .before .record-shape .ensures) (here (c .before)) (omega arith))
 
 returns-3 : tie.Need-returns-3 Inv-loop μ-loop
-returns-3 c = (c .before .before .before .before .before .before .loop .inv .0, c .before .before .before .before .before .before .loop .inv .1, live-outs-crowded (c .before .before .record-shape .ensures) (here (c .before .before)) (c .if3 .taken))
+returns-3 c = (c .before .before .before .before .before .before .loop .inv .0, c .before .before .before .before .before .before .loop .inv .1, live-outs-crowded (c .before .before .record-shape .ensures) (here (c .before .before)) (omega arith))
 
 add-records : tie.Need-add-records Inv-loop μ-loop
 add-records c = search needs
@@ -60,7 +60,7 @@ loop-again c =
     let s = c .before .before .before .record-shape .ensures in
     let h = here (c .before .before .before) in
     let i = c .before .before .before .before .before .before .before .loop .inv in
-    (passed-on s h (c .before .before .if2 .left) (c .before .if3 .left) (i .0), rw (c .record-size .ensures) (measured-on s h (i .1)))
+    (passed-on s h (omega arith) (omega arith) (i .0), rw (c .record-size .ensures) (measured-on s h (i .1)))
 
 returns-4 : tie.Need-returns-4 Inv-loop μ-loop
 returns-4 c = (c .before .loop .inv .0, c .before .loop .inv .1, no-room recordKind recordItemSize (c .before .before .before .args .l .now) (c .before .loop .stop) (omega arith))

@@ -1,9 +1,9 @@
-use Prim.Native.Nat.{_+_, _*_, _≤_}
+use Prim.Native.Nat.{_+_, _*_, _≤_, _<_}
 use mathlib.Core.Path.{_≡_}
 use lib.ListN.{length}
 use Rattle.stackmap.specs.Verdict.{must}
 use Rattle.stackmap.specs.Fields.{many}
-use Rattle.stackmap.proofs.Tests.{tests}
+use borrow.Author.Tests.{le-leb, lt-leb}
 use Rattle.listing.specs.Listing.{listedLocation, smallSizes}
 use Rattle.parser.proofs.Limits.{sizes-step}
 use borrow.Author.Needs.{needs}
@@ -31,7 +31,8 @@ returns : tie.Need-returns Inv-loop μ-loop
 unfolding must
 returns c =
     let p = c .before .before .before .loop in
-    (rw (p .inv .1, sizes-step (p .left) _ _ (omega arith), ← c .before .u16-at .ensures) (search tests), omega arith)
+    let over : 255 < c .before .u16-at .result = omega arith in
+    (rw (p .inv .1, sizes-step (p .left) _ _ (omega arith), ← c .before .u16-at .ensures, lt-leb _ _ over), omega arith)
 
 add-p : tie.Need-add-p Inv-loop μ-loop
 add-p c = search needs
@@ -46,7 +47,8 @@ loop-again : tie.Need-loop-again Inv-loop μ-loop
 unfolding must
 loop-again c =
     let p = c .before .before .before .loop in
-    (omega arith, rw (p .inv .1, sizes-step (p .left) _ _ (omega arith), ← c .before .u16-at .ensures) (search tests))
+    let fits : c .before .u16-at .result ≤ 255 = omega arith in
+    (omega arith, rw (p .inv .1, sizes-step (p .left) _ _ (omega arith), ← c .before .u16-at .ensures, le-leb _ _ fits))
 
 returns-2 : tie.Need-returns-2 Inv-loop μ-loop
 unfolding smallSizes many
