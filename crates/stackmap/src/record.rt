@@ -2,13 +2,15 @@
 // `zero_bytes` is no entry point: it requires that its bytes are inside, which 1 or 4 has tested.
 ghost use mathlib.Core.Path.{_≡_};
 ghost use mathlib.Core.Bool.{true, _&&_};
-ghost use Prim.Native.Nat.{_+_, _*_, _%_, _^_, _≤_};
-ghost use lib.Dec.{leb, ltb};
+ghost use Prim.Native.Nat.{ℕ, _+_, _*_, _≤_};
+ghost use lib.Dec.{leb};
 ghost use lib.ListN.{length};
 ghost use Rattle.stackmap.specs.Layout.{locationSize, liveOutSize};
 ghost use Rattle.stackmap.specs.Section.{recordLength};
+ghost use Rattle.stackmap.specs.declared.Verdict.the-variants.{Valid};
 ghost use Rattle.wire.specs.Word.{word};
 ghost use Rattle.stackmap.specs.Record.{zeros, poolCheck, locationCheck, locations, liveOuts, recordInside, recordBytes, recordCheck};
+ghost use Rattle.stackmap.specs.Walk.{Two};
 use crate::Verdict;
 use crate::layout;
 
@@ -78,7 +80,7 @@ fn pool(s: &[u8], kind: u8, offset: usize, constants: u32, at: usize, end: usize
 }
 
 // The location at `at`, of a section with `constants` constants: byte by byte, so that what is wrong is named.
-fn each_byte(s: &[u8], old: bool, at: usize, constants: u32) -> Verdict
+fn location(s: &[u8], old: bool, at: usize, constants: u32) -> Verdict
     requires { ⌜ at + locationSize old ≤ length (now s) ⌝ }
     ensures { λ r. ⌜ r ≡ locationCheck old (now (s .entry)) constants at ⌝ }
 {
@@ -118,36 +120,8 @@ fn each_byte(s: &[u8], old: bool, at: usize, constants: u32) -> Verdict
     )
 }
 
-// Whether the first eight bytes of a location of version 3 are right by themselves: kind 1 to 4, which needs no pool entry, and zero
-// bytes after the kind and after the register.
-fn is_plain(bytes: u64) -> bool
-    ensures { λ r. ⌜ r ≡ (leb 1 (bytes % 2 ^ 16) && (leb (bytes % 2 ^ 16) 4 && ltb bytes (2 ^ 48))) ⌝ }
-{
-    let kind = bytes % 65536;
-    if kind < 1 {
-        return false;
-    }
-    if kind > 4 {
-        return false;
-    }
-    bytes < 281474976710656
-}
-
-// The same, by one read of eight bytes where that shows that it is right.
-fn location(s: &[u8], old: bool, at: usize, constants: u32) -> Verdict
-    requires { ⌜ at + locationSize old ≤ length (now s) ⌝ }
-    ensures { λ r. ⌜ r ≡ locationCheck old (now (s .entry)) constants at ⌝ }
-{
-    if !old {
-        if is_plain(wire::u64_at(s, at)) {
-            return Verdict::Valid(at + layout::LOCATION_SIZE);
-        }
-    }
-    each_byte(s, old, at, constants)
-}
-
-// The `count` locations from `at`.
-fn all_locations(s: &[u8], old: bool, at: usize, count: usize, constants: u32) -> Verdict
+// The `count` locations from `at`, one by one.
+fn each_location(s: &[u8], old: bool, at: usize, count: usize, constants: u32) -> Verdict
     requires { ⌜ at + locationSize old * count ≤ length (now s) ⌝ }
     ensures { λ r. ⌜ r ≡ locations old count (now (s .entry)) constants at ⌝ }
 {
@@ -162,6 +136,62 @@ fn all_locations(s: &[u8], old: bool, at: usize, count: usize, constants: u32) -
         left -= 1;
     }
     Verdict::Valid(p)
+}
+
+// Whether a kind is one of those that need no pool entry.
+fn plain_kind(kind: u64) -> bool
+    ensures { λ r. ⌜ r ≡ (leb 1 kind && leb kind 4) ⌝ }
+{
+    if kind < 1 {
+        return false;
+    }
+    kind <= 4
+}
+
+// Whether the location at `at` is right by a look at its first bytes alone: kind 1 to 4, and in version 3 the zero bytes after the kind
+// and after the register, by one read of eight bytes. False says nothing.
+fn is_plain(s: &[u8], old: bool, at: usize) -> bool
+    requires { ⌜ at + locationSize old ≤ length (now s) ⌝ }
+    ensures { λ r. ⌜ (r ≡ true → (constants : ℕ) → locationCheck old (now (s .entry)) constants at ≡ Valid (at + locationSize old)) ⌝ }
+{
+    if old {
+        return plain_kind(s[at] as u64);
+    }
+    let bytes = wire::u64_at(s, at);
+    if bytes < 281474976710656 {
+        return plain_kind(bytes % 65536);
+    }
+    false
+}
+
+// Whether the two locations from `at` are plain.
+fn two_plain(s: &[u8], old: bool, at: usize) -> bool
+    requires { ⌜ at + 2 * locationSize old ≤ length (now s) ⌝ }
+    ensures { λ r. ⌜ (r ≡ true → (constants : ℕ) → Two old (now (s .entry)) constants at) ⌝ }
+{
+    if is_plain(s, old, at) {
+        return is_plain(s, old, at + layout::location_size(old));
+    }
+    false
+}
+
+// The `count` locations from `at`: two at a time while they are plain, and one by one from the first that isn't.
+fn all_locations(s: &[u8], old: bool, at: usize, count: usize, constants: u32) -> Verdict
+    requires { ⌜ at + locationSize old * count ≤ length (now s) ⌝ }
+    ensures { λ r. ⌜ r ≡ locations old count (now (s .entry)) constants at ⌝ }
+{
+    let step = layout::location_size(old);
+    let mut p = at;
+    let mut left = count;
+    while left > 1 {
+        if two_plain(s, old, p) {
+            p += 2 * step;
+            left -= 2;
+        } else {
+            return each_location(s, old, p, left, constants);
+        }
+    }
+    each_location(s, old, p, left, constants)
 }
 
 // The `count` live-outs from `at`.

@@ -1,12 +1,11 @@
-use borrow.Author.Needs.{needs}
-use native.Mathlib.Omega.{arith}
 use Prim.Native.Nat.{_+_, _*_, _≤_}
-use mathlib.Core.Path.{_≡_}
+use mathlib.Core.Path.{_≡_, sym, _∙_}
+use native.Mathlib.Omega.{arith}
 use lib.ListN.{length}
 use Rattle.stackmap.specs.Layout.{locationSize}
 use Rattle.stackmap.specs.Record.{locations}
-use Rattle.stackmap.specs.Verdict.{chain}
-use Rattle.stackmap.proofs.Steps.{mul-step, locations-step}
+use Rattle.stackmap.proofs.Quick.{two-step, two-more}
+use borrow.Author.Needs.{needs}
 use Rattle.stackmap.proofs.record.all_locations.Statement.{statement}
 use Rattle.stackmap.proofs.record.all_locations.Tie as tie
 
@@ -22,28 +21,14 @@ location-size-requires c κs = search needs
 loop-holds : tie.Need-loop-holds Inv-loop μ-loop
 loop-holds c = search needs
 
-location-requires : tie.Need-location-requires Inv-loop μ-loop
-location-requires c κs = let h = mul-step (locationSize (c .before .before .before .before .args .old)) (c .before .loop .left) (omega arith) in omega arith
+two-plain-requires : tie.Need-two-plain-requires Inv-loop μ-loop
+two-plain-requires c κs = let h = two-more (c .before .before .before .before .args .old) (c .before .loop .left) (omega arith) in let i = c .before .loop .inv .0 in omega arith
 
-enum-known-n : tie.Need-enum-known-n Inv-loop μ-loop
-enum-known-n c = search needs
-
-returns : tie.Need-returns Inv-loop μ-loop
-unfolding chain
-returns c =
-    let l = c .before .before .before .before .before .loop in
-    rw (
-      l .inv .1,
-      locations-step _ (l .left) _ _ _ (omega arith),
-      ← c .before .before .before .location .ensures,
-      c .before .n .given .1,
-    )
-
-enum-told : tie.Need-enum-told Inv-loop μ-loop
-enum-told c = search needs
+mul-p : tie.Need-mul-p Inv-loop μ-loop
+mul-p c = let h = two-more (c .before .before .before .before .before .before .args .old) (c .before .before .before .loop .left) (omega arith) in let i = c .before .before .before .loop .inv .0 in omega (arith, c .before .before .before .before .location-size .ensures .0)
 
 add-p : tie.Need-add-p Inv-loop μ-loop
-add-p c = let h = mul-step (locationSize (c .before .before .before .before .before .before .before .args .old)) (c .before .before .before .before .loop .left) (omega arith) in omega (arith, c .before .before .before .before .before .location-size .ensures .0)
+add-p c = let h = two-more (c .before .before .before .before .before .before .args .old) (c .before .before .before .loop .left) (omega arith) in let i = c .before .before .before .loop .inv .0 in omega (arith, c .before .before .before .before .location-size .ensures .0)
 
 sub-left : tie.Need-sub-left Inv-loop μ-loop
 sub-left c = search needs
@@ -52,40 +37,23 @@ loop-less : tie.Need-loop-less Inv-loop μ-loop
 loop-less c = search needs
 
 loop-again : tie.Need-loop-again Inv-loop μ-loop
-unfolding chain
 loop-again c =
-    let l = c .before .before .before .before .loop in
-    let h = mul-step (locationSize (c .before .before .before .before .before .before .before .args .old)) (l .left) (omega arith) in (
-      omega (arith, c .before .before .before .before .before .location-size .ensures .0),
-      rw (
-        l .inv .1,
-        locations-step _ (l .left) _ _ _ (omega arith),
-        ← c .before .before .location .ensures,
-        c .enum-told .given .1,
-        c .before .before .before .before .before .location-size .ensures .0,
-      ),
-    )
+    let h = two-more (c .before .before .before .before .before .before .args .old) (c .before .before .before .loop .left) (omega arith) in let i = c .before .before .before .loop .inv .0 in
+    let l = c .before .before .before .loop in
+    let a = c .before .before .before .before .before .before .args in
+    (omega (arith, c .before .before .before .before .location-size .ensures .0), rw (c .before .before .before .before .location-size .ensures .0) (l .inv .1 ∙ two-step (a .old) (l .left) (a .s .now) (a .constants) (l .p) (omega arith) (c .before .two-plain .ensures (c .if1 .taken) (a .constants))))
+
+each-location-requires : tie.Need-each-location-requires Inv-loop μ-loop
+each-location-requires c κs = c .before .before .before .loop .inv .0
+
+returns : tie.Need-returns Inv-loop μ-loop
+returns c = c .each-location .ensures ∙ sym (c .before .before .before .before .loop .inv .1)
+
+each-location-requires-2 : tie.Need-each-location-requires-2 Inv-loop μ-loop
+each-location-requires-2 c κs = c .before .loop .inv .0
 
 returns-2 : tie.Need-returns-2 Inv-loop μ-loop
-unfolding locations chain
-returns-2 c =
-    let none : c .before .loop .left ≡ 0 = omega arith in
-    rw (c .before .loop .inv .1, none)
+returns-2 c = c .each-location2 .ensures ∙ sym (c .before .before .loop .inv .1)
 
 pub all-locations-spec : {M : Type 1} → statement M
-all-locations-spec =
-    tie.close
-    (tie.spec
-    Inv-loop
-    μ-loop
-    location-size-requires
-    loop-holds
-    location-requires
-    enum-known-n
-    returns
-    enum-told
-    add-p
-    sub-left
-    loop-less
-    loop-again
-    returns-2)
+all-locations-spec = tie.close (tie.spec Inv-loop μ-loop location-size-requires loop-holds two-plain-requires mul-p add-p sub-left loop-less loop-again each-location-requires returns each-location-requires-2 returns-2)
