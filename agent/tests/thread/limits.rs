@@ -217,25 +217,29 @@ fn wide_lists_with_every_fault() {
         say(&format!(
             "{MOST_FRAMES} frames with {pairs} pairs, {records} records"
         ));
-        let hit = wide_faults(&mut rng, &thread);
-        assert!(hit >= 18, "only {hit} faults");
+        for number in OWN {
+            wide_fault(&mut rng, &thread, number);
+        }
     }
 }
 
-/// Gives a frame of the list each fault there is, first, among the others and last; how many.
-fn wide_faults(rng: &mut Rng, thread: &Thread) -> usize {
-    let mut hit = 0;
-    for number in OWN {
-        for position in [0, MOST_FRAMES / 2 + rng.below(1_000), MOST_FRAMES - 1] {
-            let mut faulty = thread.clone();
-            let stop = faulty.order[position];
-            if aim(rng, number, &mut faulty.scene, stop).is_some() {
-                assert_eq!(expect(&faulty).number, number);
-                hit += 1;
-            }
+/// Gives a frame of the list this fault, first, last, and at some positions between until there is one
+/// that can have it.
+fn wide_fault(rng: &mut Rng, thread: &Thread, number: u64) {
+    let between: Vec<usize> = (0..200).map(|_| rng.below(MOST_FRAMES)).collect();
+    let mut hit = false;
+    for (nth, position) in [0, MOST_FRAMES - 1].into_iter().chain(between).enumerate() {
+        if hit && nth > 2 {
+            return;
+        }
+        let mut faulty = thread.clone();
+        let stop = faulty.order[position];
+        if aim(rng, number, &mut faulty.scene, stop).is_some() {
+            assert_eq!(expect(&faulty).number, number);
+            hit = true;
         }
     }
-    hit
+    assert!(hit, "no frame can have {number}");
 }
 
 /// So many frames of null pairs, of this size each, at these bytes of the image.

@@ -34,8 +34,12 @@ pub(super) fn no_record(rng: &mut Rng, scene: &mut Scene, stop: usize) -> Option
 /// A function number that is none: the next one, one where a narrower number would be one, or any. Now
 /// and then there are also two records at the offset, or none.
 fn no_function(rng: &mut Rng, scene: &mut Scene, stop: usize) -> Option<u64> {
+    let record = scene.stops[stop].record;
+    let others = scene.stops.iter().filter(|other| other.record == record);
+    // Two records would be a fault of every frame that stands there.
+    let alone = others.count() == 1;
     match rng.below(6) {
-        0 | 1 => drop(shared(rng, scene, stop)),
+        0 | 1 if alone => drop(shared(rng, scene, stop)),
         2 => scene.stops[stop].address = scene.stops[stop].address.wrapping_add(1 << 32),
         _ => {}
     }
