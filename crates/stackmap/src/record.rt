@@ -154,14 +154,14 @@ fn is_plain(s: &[u8], old: bool, at: usize) -> bool
     requires { ⌜ at + locationSize old ≤ length (now s) ⌝ }
     ensures { λ r. ⌜ (r ≡ true → (constants : ℕ) → locationCheck old (now (s .entry)) constants at ≡ Valid (at + locationSize old)) ⌝ }
 {
-    if old {
-        return plain_kind(s[at] as u64);
-    }
-    let bytes = wire::u64_at(s, at);
-    if bytes < 281474976710656 {
+    if !old {
+        let bytes = wire::u64_at(s, at);
+        if bytes >= 281474976710656 {
+            return false;
+        }
         return plain_kind(bytes % 65536);
     }
-    false
+    plain_kind(s[at] as u64)
 }
 
 // Whether the two locations from `at` are plain.
