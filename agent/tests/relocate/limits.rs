@@ -168,9 +168,8 @@ fn pairs_at_their_limit() {
     }
 }
 
-/// A frame of these pairs of offsets from RSP, with these words on the stack, in a section of either
-/// version; 0x50000 is moved to 0x90000, and 0x60000 to 0x10.
-fn frame(version: Version, pairs: &[[i32; 2]], words: &[u64]) -> Scene {
+/// A statepoint at offset 0x20 with these pairs of offsets from RSP.
+fn statepoint(pairs: &[[i32; 2]]) -> Record {
     let location = |kind, register, offset: i32| Location {
         kind,
         size: 8,
@@ -180,12 +179,17 @@ fn frame(version: Version, pairs: &[[i32; 2]], words: &[u64]) -> Scene {
     let mut locations = vec![location(4, 0, 0); 3];
     let slots = pairs.iter().flatten();
     locations.extend(slots.map(|offset| location(3, 7, *offset)));
-    let record = Record {
+    Record {
         id: 7,
         offset: 0x20,
         locations,
         live_outs: Vec::new(),
-    };
+    }
+}
+
+/// A frame of these pairs of offsets from RSP, with these words on the stack, in a section of either
+/// version; 0x50000 is moved to 0x90000, and 0x60000 to 0x10.
+fn frame(version: Version, pairs: &[[i32; 2]], words: &[u64]) -> Scene {
     let (address, record_count) = match version {
         Version::One => (0x20, 0),
         Version::Three => (0x1020, 1),
@@ -200,7 +204,7 @@ fn frame(version: Version, pairs: &[[i32; 2]], words: &[u64]) -> Scene {
             version,
             functions: vec![function],
             constants: Vec::new(),
-            records: vec![record],
+            records: vec![statepoint(pairs)],
         },
         image: words.iter().flat_map(|word| word.to_le_bytes()).collect(),
         first: 0x7000,

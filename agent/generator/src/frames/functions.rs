@@ -156,21 +156,7 @@ fn group(
     let at = rng.pick(&[0, 0, 1, 2]);
     let mut records = Vec::new();
     for _ in 0..at + rng.pick(&[0, 0, 1]) {
-        let offset = rng.below(room + 1) as u32;
-        let outs = rng.below(2);
-        let live_outs = vec![
-            LiveOut {
-                register: 7,
-                size: 8
-            };
-            outs
-        ];
-        records.push(Record {
-            id: rng.word(),
-            offset,
-            locations: Vec::new(),
-            live_outs,
-        });
+        records.push(bystander(rng, room));
     }
     records.insert(at, record);
     if version == Version::Three {
@@ -182,6 +168,22 @@ fn group(
         records,
         at,
         stops: vec![stop],
+    }
+}
+
+/// A record that no frame stands at, with an offset of at most `room`.
+fn bystander(rng: &mut Rng, room: usize) -> Record {
+    let offset = rng.below(room + 1) as u32;
+    let outs = rng.below(2);
+    let live_out = LiveOut {
+        register: 7,
+        size: 8,
+    };
+    Record {
+        id: rng.word(),
+        offset,
+        locations: Vec::new(),
+        live_outs: vec![live_out; outs],
     }
 }
 
