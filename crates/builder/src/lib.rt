@@ -3,7 +3,6 @@ ghost use Rattle.listing.specs.Answers.{Answers};
 ghost use Rattle.listing.specs.Listing.{toSection};
 use listing::Conversion;
 use parser::Outcome;
-use parser::version;
 
 mod item;
 mod put;
@@ -27,7 +26,7 @@ pub fn to_section(listing: &[u8], out: &mut [u8]) -> Conversion
                     written: 0,
                 };
             }
-            let start = version::length(plan.old);
+            let start = listing::version_length(plan.old);
             put::section(&listing[start..], plan, out);
             Conversion {
                 number: 0,

@@ -7,21 +7,11 @@ ghost use Prim.Native.Nat.{_+_, _≤_};
 ghost use lib.ListN.{length};
 ghost use Rattle.stackmap.specs.Layout.{functionSize, constantSize, recordHeadSize, locationSize, liveOutSize};
 ghost use Rattle.stackmap.specs.Section.{readFunction, readConstant, readRecord, readLocation, readLiveOut};
-ghost use Rattle.listing.specs.Layout.{versionItemSize, functionItemSize, constantItemSize, recordItemSize, locationItemSize, liveOutItemSize};
+ghost use Rattle.listing.specs.Layout.{functionItemSize, constantItemSize, recordItemSize, locationItemSize, liveOutItemSize};
 ghost use Rattle.listing.specs.Listing.{versionLength, versionItem, functionItem, constantItem, recordItem, locationItem, liveOutItem};
 ghost use Rattle.lister.specs.Put.{Put};
 use listing::numbers;
 use stackmap::layout;
-
-// How long the version's item is: none in version 3.
-pub fn version_length(old: bool) -> usize
-    ensures { λ r. ⌜ (r ≡ versionLength old) × (r ≤ versionItemSize) ⌝ }
-{
-    if old {
-        return numbers::VERSION_ITEM_SIZE;
-    }
-    0
-}
 
 // The version's item at the start of the output, in version 1 only.
 pub fn put_version(old: bool, out: &mut [u8]) -> usize

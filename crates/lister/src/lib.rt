@@ -56,7 +56,7 @@ fn listing_length(s: &[u8]) -> usize
 {
     let tables = section_tables(s);
     let records = records::records_length(s, tables.old, tables.first, tables.records);
-    items::version_length(tables.old)
+    listing::version_length(tables.old)
         + numbers::FUNCTION_ITEM_SIZE * tables.functions
         + numbers::CONSTANT_ITEM_SIZE * tables.constants
         + records

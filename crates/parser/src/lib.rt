@@ -12,7 +12,7 @@ mod fault;
 mod grammar;
 mod narrow;
 pub mod shape;
-pub mod version;
+mod version;
 mod walk;
 
 // What is known of a listing before its section is written.
@@ -42,7 +42,7 @@ pub fn parse(l: &[u8]) -> Outcome
         return Outcome::Refused(1, 0);
     }
     let old = version::listed_old(l);
-    let start = version::length(old);
+    let start = listing::version_length(old);
     match draft::items(&l[start..], old) {
         Draft::Refused(n, p) => Outcome::Refused(n, start + p),
         Draft::Whole(plan) => match walk::section(&l[start..], plan) {

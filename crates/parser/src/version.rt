@@ -1,6 +1,6 @@
-// The item with which a listing of version 1 begins. For `builder` too.
+// The item with which a listing of version 1 begins.
 ghost use mathlib.Core.Path.{_≡_};
-ghost use Rattle.listing.specs.Listing.{listedOld, versionLength};
+ghost use Rattle.listing.specs.Listing.{listedOld};
 use listing::numbers;
 use stackmap::layout;
 
@@ -15,14 +15,4 @@ pub fn listed_old(l: &[u8]) -> bool
         return false;
     }
     l[1] == layout::OLD_VERSION
-}
-
-// The bytes of its version's item; a listing of version 3 has none.
-pub fn length(old: bool) -> usize
-    ensures { λ r. ⌜ r ≡ versionLength old ⌝ }
-{
-    if old {
-        return numbers::VERSION_ITEM_SIZE;
-    }
-    0
 }

@@ -24,24 +24,24 @@ returns c =
     rw (converted-short (a .listing .now) w (a .out .now) (rw (c .before .before .plan .given .1) at (c .before .before .before .before .parse .ensures)) (omega arith))
     (record { number = refl; place = refl; written = refl; output = refl })
 
-length-requires : tie.Need-length-requires
-length-requires c κs = search needs
+version-length-requires : tie.Need-version-length-requires
+version-length-requires c κs = search needs
 
 sub-section : tie.Need-sub-section
-sub-section c = let k = rw (c .before .before .before .plan .given .1) at (c .before .before .before .before .before .parse .ensures) in let h = start-inside (c .before .before .before .before .before .before .before .before .args .listing .now) (k .version) (c .length .ensures) in search needs
+sub-section c = let k = rw (c .before .before .before .plan .given .1) at (c .before .before .before .before .before .parse .ensures) in let h = start-inside (c .before .before .before .before .before .before .before .before .args .listing .now) (k .version) (c .version-length .ensures .0) in search needs
 
 part-section-start : tie.Need-part-section-start
-part-section-start c = let k = rw (c .before .before .before .plan .given .1) at (c .before .before .before .before .before .parse .ensures) in let h = start-inside (c .before .before .before .before .before .before .before .before .args .listing .now) (k .version) (c .length .ensures) in search needs
+part-section-start c = let k = rw (c .before .before .before .plan .given .1) at (c .before .before .before .before .before .parse .ensures) in let h = start-inside (c .before .before .before .before .before .before .before .before .args .listing .now) (k .version) (c .version-length .ensures .0) in search needs
 
 part-section-end : tie.Need-part-section-end
-part-section-end c = let k = rw (c .before .before .before .plan .given .1) at (c .before .before .before .before .before .parse .ensures) in let h = start-inside (c .before .before .before .before .before .before .before .before .args .listing .now) (k .version) (c .length .ensures) in search needs
+part-section-end c = let k = rw (c .before .before .before .plan .given .1) at (c .before .before .before .before .before .parse .ensures) in let h = start-inside (c .before .before .before .before .before .before .before .before .args .listing .now) (k .version) (c .version-length .ensures .0) in search needs
 
 section-requires : tie.Need-section-requires
 section-requires c κs =
     let k = rw (c .before .before .before .before .before .plan .given .1) at (c .before .before .before .before .before .before .before .parse .ensures) in
     let s = k .sized in
     let n = k .short in
-    let e = part-is (c .before .before .before .before .before .before .before .before .before .before .args .listing .now) (k .version) (c .before .before .length .ensures) in
+    let e = part-is (c .before .before .before .before .before .before .before .before .before .before .args .listing .now) (k .version) (c .before .before .version-length .ensures .0) in
     (rw e (k .planned), rw e (k .ready), rw (e, length-drop) (omega arith), omega arith)
 
 returns-2 : tie.Need-returns-2
@@ -60,7 +60,7 @@ returns-3 c =
     let w : Bytes (a .listing .now) = record { below = λ i. omega (arith, c .before .before .before .before .before .before .before .before .before .before .before .before .shared-slice-known .given i) } in
     let k = rw (c .before .before .before .before .before .before .before .before .plan .given .1) at (c .before .before .before .before .before .before .before .before .before .before .parse .ensures) in
     rw (converted (a .listing .now) w (a .out .now) k (c .before .before .before .before .before .before .if1 .left))
-    (record { number = refl; place = refl; written = refl; output = rw (part-is (c .before .before .before .before .before .before .before .before .before .before .before .before .before .args .listing .now) (k .version) (c .before .before .before .before .before .length .ensures), read-as (a .listing .now) w (a .out .now) k) at (c .before .before .section .ensures) })
+    (record { number = refl; place = refl; written = refl; output = rw (part-is (c .before .before .before .before .before .before .before .before .before .before .before .before .before .args .listing .now) (k .version) (c .before .before .before .before .before .version-length .ensures .0), read-as (a .listing .now) w (a .out .now) k) at (c .before .before .section .ensures) })
 
 pub to-section-spec : {M : Type 1} → statement M
 to-section-spec =
@@ -70,7 +70,7 @@ to-section-spec =
     enum-known-number
     enum-known-plan
     returns
-    length-requires
+    version-length-requires
     sub-section
     part-section-start
     part-section-end

@@ -13,17 +13,17 @@ returns c = too-long (c .before .before .args .l .now) (c .if1 .taken)
 listed-old-requires : tie.Need-listed-old-requires
 listed-old-requires c κs = search needs
 
-length-requires : tie.Need-length-requires
-length-requires c κs = search needs
+version-length-requires : tie.Need-version-length-requires
+version-length-requires c κs = search needs
 
 sub-items : tie.Need-sub-items
-sub-items c = let h = start-inside (c .before .before .before .before .args .l .now) (c .before .listed-old .ensures) (c .length .ensures) in search needs
+sub-items c = let h = start-inside (c .before .before .before .before .args .l .now) (c .before .listed-old .ensures) (c .version-length .ensures .0) in search needs
 
 part-items-start : tie.Need-part-items-start
-part-items-start c = let h = start-inside (c .before .before .before .before .args .l .now) (c .before .listed-old .ensures) (c .length .ensures) in search needs
+part-items-start c = let h = start-inside (c .before .before .before .before .args .l .now) (c .before .listed-old .ensures) (c .version-length .ensures .0) in search needs
 
 part-items-end : tie.Need-part-items-end
-part-items-end c = let h = start-inside (c .before .before .before .before .args .l .now) (c .before .listed-old .ensures) (c .length .ensures) in search needs
+part-items-end c = let h = start-inside (c .before .before .before .before .args .l .now) (c .before .listed-old .ensures) (c .version-length .ensures .0) in search needs
 
 items-requires : tie.Need-items-requires
 items-requires c κs = rw (part-from, length-drop) (omega arith)
@@ -35,20 +35,20 @@ add-t17 : tie.Need-add-t17
 add-t17 c =
     let d = rw (part-from, length-drop) at (rw (c .before .n .given .1) at (c .before .before .before .items .ensures)) in
     let p = d .1 in
-    let h = start-inside (c .before .before .before .before .before .before .before .before .before .args .l .now) (c .before .before .before .before .before .before .listed-old .ensures) (c .before .before .before .before .before .length .ensures) in
+    let h = start-inside (c .before .before .before .before .before .before .before .before .before .args .l .now) (c .before .before .before .before .before .before .listed-old .ensures) (c .before .before .before .before .before .version-length .ensures .0) in
     omega arith
 
 enum-known-plan : tie.Need-enum-known-plan
 enum-known-plan c = search needs
 
 sub-section : tie.Need-sub-section
-sub-section c = let h = start-inside (c .before .before .before .before .before .before .before .before .before .args .l .now) (c .before .before .before .before .before .before .listed-old .ensures) (c .before .before .before .before .before .length .ensures) in search needs
+sub-section c = let h = start-inside (c .before .before .before .before .before .before .before .before .before .args .l .now) (c .before .before .before .before .before .before .listed-old .ensures) (c .before .before .before .before .before .version-length .ensures .0) in search needs
 
 part-section-start : tie.Need-part-section-start
-part-section-start c = let h = start-inside (c .before .before .before .before .before .before .before .before .before .args .l .now) (c .before .before .before .before .before .before .listed-old .ensures) (c .before .before .before .before .before .length .ensures) in search needs
+part-section-start c = let h = start-inside (c .before .before .before .before .before .before .before .before .before .args .l .now) (c .before .before .before .before .before .before .listed-old .ensures) (c .before .before .before .before .before .version-length .ensures .0) in search needs
 
 part-section-end : tie.Need-part-section-end
-part-section-end c = let h = start-inside (c .before .before .before .before .before .before .before .before .before .args .l .now) (c .before .before .before .before .before .before .listed-old .ensures) (c .before .before .before .before .before .length .ensures) in search needs
+part-section-end c = let h = start-inside (c .before .before .before .before .before .before .before .before .before .args .l .now) (c .before .before .before .before .before .before .listed-old .ensures) (c .before .before .before .before .before .version-length .ensures .0) in search needs
 
 section-requires : tie.Need-section-requires
 section-requires c κs =
@@ -64,17 +64,17 @@ enum-known-size c = search needs
 returns-2 : tie.Need-returns-2
 returns-2 c =
     let d = rw (c .before .n .given .1) at (c .before .before .before .items .ensures) in
-    items-refused (c .before .before .before .before .before .before .before .before .before .args .l .now) (c .before .before .before .before .before .before .listed-old .ensures) (c .before .before .before .before .before .length .ensures) (c .before .before .before .before .before .before .before .if1 .left) (d .0)
+    items-refused (c .before .before .before .before .before .before .before .before .before .args .l .now) (c .before .before .before .before .before .before .listed-old .ensures) (c .before .before .before .before .before .version-length .ensures .0) (c .before .before .before .before .before .before .before .if1 .left) (d .0)
 
 returns-3 : tie.Need-returns-3
 returns-3 c =
     let w = rw (c .before .before .before .before .before .before .plan .given .1) at (c .before .before .before .before .before .before .before .before .items .ensures) in
-    items-accepted (c .before .before .before .before .before .before .before .before .before .before .before .before .before .before .args .l .now) (c .before .before .before .before .before .before .before .before .before .before .before .listed-old .ensures) (c .before .before .before .before .before .before .before .before .before .before .length .ensures) (c .before .before .before .before .before .before .before .before .before .before .before .before .if1 .left) (w .0) (w .1) ∙ sym (c .before .before .before .section .ensures) ∙ c .before .n2 .given .1
+    items-accepted (c .before .before .before .before .before .before .before .before .before .before .before .before .before .before .args .l .now) (c .before .before .before .before .before .before .before .before .before .before .before .listed-old .ensures) (c .before .before .before .before .before .before .before .before .before .before .version-length .ensures .0) (c .before .before .before .before .before .before .before .before .before .before .before .before .if1 .left) (w .0) (w .1) ∙ sym (c .before .before .before .section .ensures) ∙ c .before .n2 .given .1
 
 returns-4 : tie.Need-returns-4
 returns-4 c =
     let w = rw (c .before .before .before .before .before .before .plan .given .1) at (c .before .before .before .before .before .before .before .before .items .ensures) in
-    buildable (c .before .before .before .before .before .before .before .before .before .before .before .before .before .before .args .l .now) (c .before .before .before .before .before .before .before .before .before .before .before .listed-old .ensures) (c .before .before .before .before .before .before .before .before .before .before .length .ensures) (c .before .before .before .before .before .before .before .before .before .before .before .before .if1 .left) (w .0) (w .1) (sym (c .before .before .before .section .ensures) ∙ c .before .size .given .1)
+    buildable (c .before .before .before .before .before .before .before .before .before .before .before .before .before .before .args .l .now) (c .before .before .before .before .before .before .before .before .before .before .before .listed-old .ensures) (c .before .before .before .before .before .before .before .before .before .before .version-length .ensures .0) (c .before .before .before .before .before .before .before .before .before .before .before .before .if1 .left) (w .0) (w .1) (sym (c .before .before .before .section .ensures) ∙ c .before .size .given .1)
 
 pub parse-spec : {M : Type 1} → statement M
 parse-spec =
@@ -82,7 +82,7 @@ parse-spec =
     (tie.spec
     returns
     listed-old-requires
-    length-requires
+    version-length-requires
     sub-items
     part-items-start
     part-items-end
