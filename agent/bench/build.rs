@@ -1,5 +1,7 @@
 //! Compiles `parser.cpp` against LLVM 14's headers. LLVM's stack map parser is all in its header, so that only the
 //! C++ runtime is linked and no library of LLVM.
+//!
+//! Links `target/staticlib/libreads.a` too, where `rt staticlib reads` has written it. Only `bench reads` needs it.
 
 use std::path::{Path, PathBuf};
 use std::process::Command;
@@ -29,6 +31,21 @@ fn main() {
     println!("cargo:rustc-link-search=native={}", out.display());
     println!("cargo:rustc-link-lib=static=parser");
     println!("cargo:rustc-link-lib=dylib=stdc++");
+    link_reads();
+}
+
+/// Links `libreads.a` and sets the cfg `libreads`, if it is there. The folder is watched and not the file: a watched
+/// file that is missing would have all of this run at every build.
+fn link_reads() {
+    let package = std::env::var("CARGO_MANIFEST_DIR").unwrap();
+    let folder = Path::new(&package).join("../../target/staticlib");
+    println!("cargo:rerun-if-changed={}", folder.display());
+    println!("cargo:rustc-check-cfg=cfg(libreads)");
+    if folder.join("libreads.a").is_file() {
+        println!("cargo:rustc-cfg=libreads");
+        println!("cargo:rustc-link-search=native={}", folder.display());
+        println!("cargo:rustc-link-lib=static=reads");
+    }
 }
 
 /// The folder with LLVM 14's headers: where llvm-config says, else where Debian has it.

@@ -2,11 +2,13 @@
 //! the bytes. All rows of a table are measured in turn, because only ratios of one run say anything.
 //!
 //! `cargo --offline run --release -p bench [ROUNDS] [--svg DIR]`; with a folder, the rows are drawn there too.
+//! `cargo --offline run --release -p bench reads [ROUNDS]` measures the two ways to read eight bytes, and nothing else.
 
 mod conversions;
 mod frame;
 mod measure;
 mod parser;
+mod reads;
 mod section;
 mod svg;
 mod thread;
@@ -35,8 +37,24 @@ fn main() {
         eprintln!("bench: times say nothing without optimisation, run it with --release");
         std::process::exit(2);
     }
-    let rounds = svg::other_arguments().nth(1).map_or(31, |rounds| rounds.parse().expect("ROUNDS is a number"));
+    let arguments: Vec<String> = svg::other_arguments().skip(1).collect();
+    let words: Vec<&str> = arguments.iter().map(String::as_str).collect();
+    match words[..] {
+        ["reads", "--once", way] => reads::once(way, &section::build(LIMIT)),
+        ["reads", ref rest @ ..] => reads::rows(rounds(rest), &section::build(LIMIT)),
+        ref rest => all(rounds(rest)),
+    }
+}
+
+/// The number of rounds that is asked for.
+fn rounds(words: &[&str]) -> usize {
+    let rounds = words.first().map_or(31, |rounds| rounds.parse().expect("ROUNDS is a number"));
     assert!(rounds >= 21, "fewer than 21 rounds give no steady median");
+    rounds
+}
+
+/// Every table but that of `reads`.
+fn all(rounds: usize) {
     let bytes = section::build(LIMIT);
     let last = agree(&bytes);
     rows(rounds, &bytes, &last);

@@ -187,7 +187,7 @@ fn constant(value: i32) -> Location {
 
 /// A sequence of numbers that look random and are the same in every run (SplitMix64).
 #[derive(Default)]
-struct Numbers(u64);
+pub struct Numbers(pub u64);
 
 impl Numbers {
     fn next(&mut self) -> u64 {
@@ -198,7 +198,7 @@ impl Numbers {
     }
 
     /// A number from 0 up to, not including, the limit.
-    fn below(&mut self, limit: u64) -> u64 {
+    pub fn below(&mut self, limit: u64) -> u64 {
         self.next() % limit
     }
 }
