@@ -2,7 +2,7 @@
 //! are the same in every run.
 
 use crate::edges::{every_part, record};
-use crate::layout::{Function, LiveOut, Location, Record, Section};
+use crate::layout::{Function, LiveOut, Location, Section};
 use crate::questions::{addresses, Question};
 
 /// The sections.
@@ -90,34 +90,49 @@ fn kinds() -> Section {
         u64::MAX - 1,
         u64::MAX,
     ];
+    locations_of_all_kinds(&mut section, &OFFSETS, &[0, 8, u16::MAX]);
+    section
+}
+
+/// Gives the last record but one locations of kinds 1 to 4 at each of these offsets, and the last
+/// record one of kind 5 for each constant, from the last to the first. These sizes take turns.
+pub(crate) fn locations_of_all_kinds(section: &mut Section, offsets: &[u32], sizes: &[u16]) {
     let place = |nth: usize, kind: u8, offset: u32| Location {
         kind,
-        size: [0, 8, u16::MAX][nth % 3],
+        size: sizes[nth % sizes.len()],
         register: [0, 7, u16::MAX, 6][nth % 4],
         offset,
     };
+    let [.., one, last] = &mut section.records[..] else {
+        panic!("fewer than two records");
+    };
     for kind in 1..=4 {
-        for (nth, offset) in OFFSETS.into_iter().enumerate() {
-            section.records[1].locations.push(place(nth, kind, offset));
+        for (nth, offset) in offsets.iter().enumerate() {
+            one.locations.push(place(nth, kind, *offset));
         }
     }
-    section.records[2].locations = (0..section.constants.len())
+    last.locations = (0..section.constants.len())
         .rev()
         .map(|index| place(index, 5, index as u32))
         .collect();
-    section
 }
 
 /// Live-outs with numbers at the edges, in odd and even numbers, after odd and even numbers of
 /// locations.
 fn live_outs() -> Section {
     let mut section = with_records(&[(0x1000, &[1, 2, 3, 4])]);
-    for (nth, Record { live_outs, .. }) in section.records.iter_mut().enumerate() {
+    live_outs_at_edges(&mut section);
+    section
+}
+
+/// Gives the records live-outs with numbers at the edges: five to the first, and to each one less
+/// than to the one before.
+pub(crate) fn live_outs_at_edges(section: &mut Section) {
+    for (nth, record) in section.records.iter_mut().enumerate() {
         let edges = [(0, 0), (1, 255), (0x7f, 0x80), (0xff00, 1), (u16::MAX, 8)];
         let edge = |(register, size)| LiveOut { register, size };
-        *live_outs = edges[nth..].iter().copied().map(edge).collect();
+        record.live_outs = edges[nth..].iter().copied().map(edge).collect();
     }
-    section
 }
 
 /// A record with as many locations and live-outs as it can state, each unlike the one before.

@@ -1,7 +1,8 @@
 //! Small version 3 sections at the edges of the rules, the same in every run.
 
-use crate::aimed::item_at;
-use crate::layout::{Function, LiveOut, Location, Record, Section, COUNTS, HEADER};
+pub(crate) mod both;
+
+use crate::layout::{Function, LiveOut, Location, Record, Section, Version, COUNTS};
 use crate::Case;
 
 /// What the cases are handed to, one by one.
@@ -12,7 +13,7 @@ pub fn all(visit: Visit) {
     lengths(visit);
     header_counts(visit);
     sums(visit);
-    cuts(visit);
+    both::cuts(&every_part(), ["every part", "cut header", "cut"], visit);
     for (section, number, place) in addresses().into_iter().chain(pools()) {
         visit(Case::known(
             "address or pool",
@@ -21,17 +22,19 @@ pub fn all(visit: Visit) {
             place,
         ));
     }
-    full_record(visit);
-    single_bytes(visit);
+    let names = [
+        "full record",
+        "full record, cut",
+        "full record, last kind",
+        "full record, last live-out",
+    ];
+    both::full_record(every_part(), names, visit);
+    both::single_bytes(&every_part().encode(), "one byte", visit);
 }
 
 /// `03` and zeros, as many bytes as asked for.
 fn version_and_zeros(length: usize) -> Vec<u8> {
-    let mut bytes = vec![0; length];
-    if let Some(first) = bytes.first_mut() {
-        *first = 3;
-    }
-    bytes
+    both::version_and_zeros(Version::Three, length)
 }
 
 fn lengths(visit: Visit) {
@@ -70,11 +73,7 @@ fn lengths(visit: Visit) {
 
 /// A header with these counts, and `length` zeros after it.
 fn header(counts: [u32; 3], length: usize) -> Vec<u8> {
-    let mut bytes = version_and_zeros(HEADER + length);
-    for (place, count) in COUNTS.iter().zip(counts) {
-        bytes[*place..place + 4].copy_from_slice(&count.to_le_bytes());
-    }
-    bytes
+    both::header(Version::Three, counts, length)
 }
 
 fn header_counts(visit: Visit) {
@@ -202,56 +201,15 @@ pub fn function(address: u64, record_count: u64) -> Function {
 /// A section with every part: functions with no, one and several records, constants, odd and even
 /// numbers of locations and live-outs, and all five kinds.
 pub fn every_part() -> Section {
-    let mut section = Section {
+    Section {
         functions: vec![
             function(u64::MAX, 0),
             function(0x1000, 3),
             function(u64::MAX - 9, 1),
         ],
         constants: vec![0, u64::MAX],
-        records: vec![
-            record(0, 0, 0),
-            record(4, 3, 2),
-            record(4, 2, 1),
-            record(9, 1, 0),
-        ],
+        records: both::records([0, 0, 0, 8], 9),
         ..Section::default()
-    };
-    for (i, location) in section.records[1].locations.iter_mut().enumerate() {
-        *location = Location {
-            kind: i as u8 + 1,
-            size: 0,
-            register: 0xffff,
-            offset: u32::MAX,
-        };
-    }
-    section.records[2].locations[0].kind = 4;
-    section.records[2].locations[1] = Location {
-        kind: 5,
-        size: 8,
-        register: 0,
-        offset: 1,
-    };
-    section
-}
-
-/// A section cut at every byte.
-fn cuts(visit: Visit) {
-    let section = every_part();
-    let built = section.build();
-    visit(Case::known("every part", built.bytes.clone(), 0, 0));
-    for length in 0..built.bytes.len() {
-        let cut = built.bytes[..length].to_vec();
-        if length < HEADER {
-            visit(Case::known("cut header", cut, 1, 0));
-        } else {
-            visit(Case::known(
-                "cut",
-                cut,
-                4,
-                item_at(&section, &built, length),
-            ));
-        }
     }
 }
 
@@ -288,64 +246,6 @@ pub(crate) fn addresses() -> Vec<Answered> {
 
 /// Numbers of a pool's entries, and numbers that only look like one.
 pub(crate) fn pools() -> Vec<Answered> {
-    const EDGES: [u32; 4] = [0x7fff_ffff, 0x8000_0000, 0x8000_0001, 0xffff_ffff];
-    let mut sections = Vec::new();
-    for pool in 0..4 {
-        for index in (0..5).chain(EDGES) {
-            let mut section = every_part();
-            section.constants = vec![0; pool];
-            let location = Location {
-                kind: 5,
-                size: 0,
-                register: 0,
-                offset: index,
-            };
-            section.records[2].locations = vec![location];
-            let place = 16 + 3 * 24 + 8 * pool + 24 + 72 + 16;
-            let fault = index as usize >= pool;
-            let (number, place) = if fault { (7, place) } else { (0, 0) };
-            sections.push((section, number, place));
-        }
-    }
-    sections
-}
-
-/// A record with as many locations and live-outs as it can state.
-fn full_record(visit: Visit) {
-    let mut section = every_part();
-    section.records[1] = record(4, 65_535, 65_535);
-    let built = section.build();
-    let start = built.records[1].start;
-    let last = built.records[2].start - 1;
-    visit(Case::known("full record", built.bytes.clone(), 0, 0));
-    visit(Case::known(
-        "full record, cut",
-        built.bytes[..last].to_vec(),
-        4,
-        start,
-    ));
-    let mut kind = built.clone();
-    let place = built.locations[65_534];
-    kind.set(place, 1, 6);
-    visit(Case::known("full record, last kind", kind.bytes, 6, place));
-    let mut zero = built;
-    zero.set(last - 1, 1, 1);
-    visit(Case::known(
-        "full record, last live-out",
-        zero.bytes,
-        3,
-        last - 1,
-    ));
-}
-
-/// Each byte of a section at each value.
-fn single_bytes(visit: Visit) {
-    let bytes = every_part().encode();
-    for place in 0..bytes.len() {
-        for value in 0..=255 {
-            let mut changed = bytes.clone();
-            changed[place] = value;
-            visit(Case::open("one byte", changed));
-        }
-    }
+    // Before it: three functions, a record of 24 bytes and one of 72, and its own head.
+    both::pools(&every_part(), 16 + 3 * 24 + 24 + 72 + 16)
 }

@@ -1,7 +1,7 @@
 //! Sections, frames and random numbers that the tests share.
 
 use crate::relocate::{relocate, Frame};
-use crate::section::{encode, write, Function, LiveOut, Location, RecordData, Version};
+use crate::section::{encode, write, Function, LiveOut, Location, Record, RecordData, Version};
 use crate::Refusal;
 
 /// The bytes that a text of two-digit hexadecimal numbers names.
@@ -35,6 +35,28 @@ pub(crate) fn row_h() -> Vec<u8> {
          00 00 00 00
          00 00  00 00
          00 00 00 00")
+}
+
+/// The record of row H as it is read.
+pub(crate) fn row_h_record() -> Record {
+    Record {
+        id: 7,
+        offset: 0x20,
+        locations: vec![
+            small(0),
+            small(0),
+            small(0),
+            rsp(8),
+            rsp(8),
+            rsp(8),
+            rsp(16),
+        ],
+        live_outs: vec![],
+        first: 40,
+        length: 112,
+        function: 0,
+        address: 0x1020,
+    }
 }
 
 /// The listing of row H, 109 bytes.

@@ -5,18 +5,20 @@ use super::grammar::may_follow;
 use super::overfull::MOST;
 use super::{item_length, Listed, END, FUNCTION, LOCATION, RECORD, VERSION};
 use crate::asked::full_record;
-use crate::edges::{addresses, every_part, function, pools, record, Visit, SUMS};
+use crate::edges::{addresses, both, every_part, function, pools, record, Answered, Visit, SUMS};
 use crate::layout::{LiveOut, Section};
 use crate::Case;
 
 /// Hands over all of them.
 pub fn all(visit: Visit) {
     orders(visit);
-    cuts(visit);
-    after_the_end(visit);
-    values(visit);
+    let listed = Listed::of(&every_part());
+    cuts(&listed, ["cut", "every part"], visit);
+    after_the_end(every_part(), 6, "after the end", visit);
+    values(addresses().into_iter().chain(pools()), "value", visit);
+    sums(visit);
     full_records(visit);
-    single_bytes(visit);
+    both::single_bytes(&listed.bytes, "one byte", visit);
 }
 
 /// Every sequence of up to five kinds, one of them unknown. Those that begin with item 7 also as
@@ -95,37 +97,44 @@ fn ordered(kinds: &[u8], wide: bool) -> (u64, usize) {
     }
 }
 
-/// A listing cut at every byte.
-fn cuts(visit: Visit) {
-    let listed = Listed::of(&every_part());
+/// A listing cut at every byte, and whole. The names are for a cut one and for the whole one.
+pub(super) fn cuts(listed: &Listed, names: [&'static str; 2], visit: Visit) {
     for length in 0..listed.bytes.len() {
         let nth = listed.items.partition_point(|item| *item <= length) - 1;
         let cut = listed.bytes[..length].to_vec();
-        visit(Case::known("cut", cut, 22, listed.items[nth]));
+        visit(Case::known(names[0], cut, 22, listed.items[nth]));
     }
-    visit(Case::known("every part", listed.bytes, 0, 0));
+    visit(Case::known(names[1], listed.bytes.clone(), 0, 0));
 }
 
-/// Every byte after the end, alone and before others.
-fn after_the_end(visit: Visit) {
-    for section in [Section::default(), every_part()] {
+/// Every byte after the end of an empty listing and of this section's, alone, before `second`, and
+/// before more of itself.
+pub(super) fn after_the_end(section: Section, second: u8, name: &'static str, visit: Visit) {
+    let empty = Section {
+        version: section.version,
+        ..Section::default()
+    };
+    for section in [empty, section] {
         let bytes = Listed::of(&section).bytes;
         for byte in 0..=255 {
-            for after in [&[byte][..], &[byte, 6], &[byte; 26]] {
+            for after in [&[byte][..], &[byte, second], &[byte; 26]] {
                 let longer = [&bytes, after].concat();
-                visit(Case::known("after the end", longer, 22, bytes.len()));
+                visit(Case::known(name, longer, 22, bytes.len()));
             }
         }
     }
 }
 
 /// Values that the section's check tests, up to their edges.
-fn values(visit: Visit) {
-    let sections = addresses().into_iter().chain(pools());
+pub(super) fn values(sections: impl Iterator<Item = Answered>, name: &'static str, visit: Visit) {
     for (section, number, place) in sections {
         let bytes = Listed::of(&section).bytes;
-        visit(Case::known("value", bytes, number, place));
+        visit(Case::known(name, bytes, number, place));
     }
+}
+
+/// Record counts whose sum only a narrower number would take for the number of records.
+fn sums(visit: Visit) {
     for (counts, records) in SUMS {
         let section = Section {
             functions: counts.iter().map(|count| function(0, *count)).collect(),
@@ -168,16 +177,4 @@ fn full_records(visit: Visit) {
     bytes.pop();
     let length = bytes.len();
     visit(Case::known("locations, no end", bytes, 22, length));
-}
-
-/// Each byte of a listing at each value.
-fn single_bytes(visit: Visit) {
-    let bytes = Listed::of(&every_part()).bytes;
-    for place in 0..bytes.len() {
-        for value in 0..=255 {
-            let mut changed = bytes.clone();
-            changed[place] = value;
-            visit(Case::open("one byte", changed));
-        }
-    }
 }

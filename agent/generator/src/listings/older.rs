@@ -1,9 +1,10 @@
 //! Small version 1 listings at the edges of the rules, the same in every run.
 
+use super::edges::{after_the_end, cuts, values};
 use super::narrow::first_beyond;
 use super::overfull::MOST;
 use super::{Listed, END, FUNCTION, RECORD, VERSION};
-use crate::edges::{record, Visit};
+use crate::edges::{both, record, Visit};
 use crate::layout::{Section, Version};
 use crate::older::asked::full_record;
 use crate::older::edges::{addresses, every_part, function, pools};
@@ -12,14 +13,17 @@ use crate::Case;
 /// Hands over all of them.
 pub fn all(visit: Visit) {
     items_7(visit);
-    cuts(visit);
-    after_the_end(visit);
-    values(visit);
+    let listed = Listed::of(&every_part());
+    cuts(&listed, ["version 1, cut", "version 1, every part"], visit);
+    after_the_end(every_part(), 1, "version 1, after the end", visit);
+    let sections = addresses().into_iter().chain(pools());
+    values(sections, "version 1, value", visit);
+    numbers_of_records(visit);
     counts(visit);
     sizes(visit);
     before_and_after_28(visit);
     full_records(visit);
-    single_bytes(visit);
+    both::single_bytes(&listed.bytes, "version 1, one byte", visit);
 }
 
 /// Item 7 with every body, first, second and after every item; alone and cut.
@@ -55,46 +59,8 @@ fn items_7(visit: Visit) {
     }
 }
 
-/// A listing cut at every byte.
-fn cuts(visit: Visit) {
-    let listed = Listed::of(&every_part());
-    for length in 0..listed.bytes.len() {
-        let nth = listed.items.partition_point(|item| *item <= length) - 1;
-        let cut = listed.bytes[..length].to_vec();
-        visit(Case::known("version 1, cut", cut, 22, listed.items[nth]));
-    }
-    visit(Case::known("version 1, every part", listed.bytes, 0, 0));
-}
-
-/// Every byte after the end, alone and before others.
-fn after_the_end(visit: Visit) {
-    let empty = Section {
-        version: Version::One,
-        ..Section::default()
-    };
-    for section in [empty, every_part()] {
-        let bytes = Listed::of(&section).bytes;
-        for byte in 0..=255 {
-            for after in [&[byte][..], &[byte, 1], &[byte; 26]] {
-                let longer = [&bytes, after].concat();
-                visit(Case::known(
-                    "version 1, after the end",
-                    longer,
-                    22,
-                    bytes.len(),
-                ));
-            }
-        }
-    }
-}
-
-/// Values that the section's check tests, up to their edges; and any number of records.
-fn values(visit: Visit) {
-    let sections = addresses().into_iter().chain(pools());
-    for (section, number, place) in sections {
-        let bytes = Listed::of(&section).bytes;
-        visit(Case::known("version 1, value", bytes, number, place));
-    }
+/// Any number of records with any number of functions.
+fn numbers_of_records(visit: Visit) {
     for functions in 0..3 {
         for records in 0..3 {
             let section = Section {
@@ -211,16 +177,4 @@ fn full_records(visit: Visit) {
         22,
         length,
     ));
-}
-
-/// Each byte of a listing at each value.
-fn single_bytes(visit: Visit) {
-    let bytes = Listed::of(&every_part()).bytes;
-    for place in 0..bytes.len() {
-        for value in 0..=255 {
-            let mut changed = bytes.clone();
-            changed[place] = value;
-            visit(Case::open("version 1, one byte", changed));
-        }
-    }
 }

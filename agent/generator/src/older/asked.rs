@@ -1,8 +1,9 @@
 //! Whole version 1 sections that are made to be asked. They are the same in every run.
 
 use super::edges::{every_part, function};
+use crate::asked::{live_outs_at_edges, locations_of_all_kinds};
 use crate::edges::record;
-use crate::layout::{LiveOut, Location, Section, Version};
+use crate::layout::{Section, Version};
 
 /// The sections.
 pub fn all() -> Vec<Section> {
@@ -37,21 +38,7 @@ fn kinds() -> Section {
     const OFFSETS: [u32; 6] = [0, 1, 0x7fff_ffff, 0x8000_0000, u32::MAX - 7, u32::MAX];
     let mut section = at_offsets(2, &[4, 8]);
     section.constants = vec![0, 1, 1 << 31, 1 << 63, u64::MAX];
-    let place = |nth: usize, kind: u8, offset: u32| Location {
-        kind,
-        size: [0, 8, 127, 128, 255][nth % 5],
-        register: [0, 7, u16::MAX, 6][nth % 4],
-        offset,
-    };
-    for kind in 1..=4 {
-        for (nth, offset) in OFFSETS.into_iter().enumerate() {
-            section.records[0].locations.push(place(nth, kind, offset));
-        }
-    }
-    section.records[1].locations = (0..section.constants.len())
-        .rev()
-        .map(|index| place(index, 5, index as u32))
-        .collect();
+    locations_of_all_kinds(&mut section, &OFFSETS, &[0, 8, 127, 128, 255]);
     section
 }
 
@@ -59,11 +46,7 @@ fn kinds() -> Section {
 /// between.
 fn live_outs() -> Section {
     let mut section = at_offsets(1, &[1, 2, 3, 4]);
-    for (nth, record) in section.records.iter_mut().enumerate() {
-        let edges = [(0, 0), (1, 255), (0x7f, 0x80), (0xff00, 1), (u16::MAX, 8)];
-        let edge = |(register, size)| LiveOut { register, size };
-        record.live_outs = edges[nth..].iter().copied().map(edge).collect();
-    }
+    live_outs_at_edges(&mut section);
     section
 }
 

@@ -55,25 +55,7 @@ fn row_h_is_accepted_and_read() {
     let section = read(&row_h()).unwrap();
     assert_eq!(section.functions, [function(0x1000, 24, 1)]);
     assert_eq!(section.constants, []);
-    let expected = Record {
-        id: 7,
-        offset: 0x20,
-        locations: vec![
-            small(0),
-            small(0),
-            small(0),
-            rsp(8),
-            rsp(8),
-            rsp(8),
-            rsp(16),
-        ],
-        live_outs: vec![],
-        first: 40,
-        length: 112,
-        function: 0,
-        address: 0x1020,
-    };
-    assert_eq!(section.records, [expected]);
+    assert_eq!(section.records, [row_h_record()]);
 }
 
 #[test]

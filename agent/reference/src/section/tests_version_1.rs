@@ -39,22 +39,10 @@ fn row_h_is_accepted_and_read() {
     assert_eq!(section.version, Version::One);
     assert_eq!(section.functions, [function(0x1000, 24, 0)]);
     let expected = Record {
-        id: 7,
-        offset: 0x20,
-        locations: vec![
-            small(0),
-            small(0),
-            small(0),
-            rsp(8),
-            rsp(8),
-            rsp(8),
-            rsp(16),
-        ],
-        live_outs: vec![],
         first: 32,
         length: 80,
-        function: 0,
         address: 0,
+        ..row_h_record()
     };
     assert_eq!(section.records, [expected]);
 }
