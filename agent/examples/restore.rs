@@ -58,8 +58,11 @@ fn restore() -> Outcome<String> {
     let table = MoveTable::new(&old, &new);
     let pairs = treskibben::relocate_thread(&section, &mut image, first, table, &frames)?;
 
-    fs::write(option("--output")?, &image)?;
-    Ok(format!("{} frames moved, {pairs} pairs", frames.len()))
+    let output = option("--output")?;
+    fs::write(output, &image)?;
+    let word = if frames.len() == 1 { "frame" } else { "frames" };
+    let count = frames.len();
+    Ok(format!("{output}: {count} {word} moved, {pairs} pairs"))
 }
 
 fn main() -> ExitCode {

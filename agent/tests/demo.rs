@@ -1,5 +1,8 @@
 //! `./demo`, and `tools/library`, by which it builds a library that is missing or stale.
 
+#[path = "stopped/readme.rs"]
+mod readme;
+
 use std::fs;
 use std::os::unix::fs::PermissionsExt;
 use std::path::{Path, PathBuf};
@@ -95,6 +98,10 @@ fn the_live_restore_comes_first() {
     ] {
         assert!(said.contains(words), "{words}: {said}");
     }
+    // The README's lines are these, but for the addresses.
+    let shown = &readme::steps("Treskibben")[0];
+    assert_eq!((shown.line.as_str(), shown.output.len()), ("./demo", 8));
+    assert!(readme::in_order(&shown.output, &said), "{said}");
     let is_byte =
         |word: &&str| word.len() == 2 && word.bytes().all(|byte| byte.is_ascii_hexdigit());
     let bytes = |line: &str| line.split_whitespace().filter(is_byte).count();
