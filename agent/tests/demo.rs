@@ -156,8 +156,9 @@ impl Repository {
         let called = self.0.join("called");
         let _ = fs::remove_file(&called);
         let path = format!("{}:/usr/bin:/bin", self.0.join("bin").display());
-        let mut library = Command::new(self.0.join("tools/library"));
-        let ran = library.env("PATH", path).output().unwrap();
+        let mut library = Command::new("bash");
+        library.arg(self.0.join("tools/library")).env("PATH", path);
+        let ran = library.output().unwrap();
         (ran.status.success(), text(&ran.stderr), called.exists())
     }
 }

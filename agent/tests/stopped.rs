@@ -60,21 +60,8 @@ impl Place {
         let mut shell = Command::new("bash");
         shell.args(["-c", &format!("exec 2>&1; {line}")]);
         shell.current_dir(&self.0).env("PATH", path);
-        // Neither the settings of a person nor the net.
-        shell.env("HOME", &self.0).env("DEBUGINFOD_URLS", "");
-        for home in ["CARGO_HOME", "RUSTUP_HOME"] {
-            let own = std::env::var_os("HOME")
-                .map(PathBuf::from)
-                .unwrap_or_default();
-            let folder = if home == "CARGO_HOME" {
-                ".cargo"
-            } else {
-                ".rustup"
-            };
-            if std::env::var_os(home).is_none() {
-                shell.env(home, own.join(folder));
-            }
-        }
+        // No question for the net's debug symbols.
+        shell.env("DEBUGINFOD_URLS", "");
         shell.output().expect("bash can be started")
     }
 
