@@ -1,6 +1,5 @@
 //! `./demo`, and `tools/library`, by which it builds a library that is missing or stale.
 
-#[path = "stopped/readme.rs"]
 mod readme;
 
 use std::fs;

@@ -3,6 +3,8 @@
 //!
 //! Each test makes a small crate of a stranger, outside this workspace, that depends on this one.
 
+mod readme;
+
 use std::fs;
 use std::path::{Path, PathBuf};
 use std::process::{Command, Output};
@@ -273,4 +275,66 @@ fn another_version_cannot_be_linked_in_c() {
     let other = compile("TRESKIBBEN_REQUIRE_VERSION();", "libtreskibben.a");
     assert!(!other.status.success());
     assert!(text(&other.stderr).contains("treskibben_version_1"));
+}
+
+/// What the README's lines of Rust leave open.
+const AROUND_RUST: [&str; 2] = [
+    "fn restore(section: Vec<u8>, mut image: Vec<u8>, first: u64, old_starts: Vec<u64>, new_starts: Vec<u64>,
+         frame: Frame, frames: Vec<Frame>) -> Result<usize, Box<dyn std::error::Error>> {",
+    "    Ok(bytes.len() + listing.len() + pairs)
+     }
+     fn main() {
+         let answer = restore(vec![], vec![], 0, vec![], vec![], Frame::new(0, 0, 0), vec![]);
+         println!(\"{}\", answer.unwrap_err());
+     }",
+];
+
+/// The same for C.
+const AROUND_C: [&str; 2] = [
+    "uint64_t restore(const uint8_t *bytes, size_t length, uint8_t *image, size_t image_length, uint64_t first,
+                      const uint64_t *old_starts, const uint64_t *new_starts, size_t count, uint64_t address,
+                      uint64_t rbp, uint64_t rsp, uint64_t caller_address, uint64_t caller_rbp, uint64_t caller_rsp) {",
+    "return a.value; }",
+];
+
+/// The README's lines of Rust are a program, with what they leave open put around them.
+#[test]
+fn the_readmes_lines_of_rust_compile() {
+    let folder = folder("readme-rust");
+    stranger(&folder, PACKAGE, "[workspace]\n");
+    let lines = readme::code("From Rust");
+    let begin = lines.iter().position(|line| line.starts_with("if let"));
+    let (uses, body) = lines.split_at(begin.unwrap());
+    assert_eq!(body.len(), 9);
+    let program = [
+        &uses.join("\n"),
+        AROUND_RUST[0],
+        &body.join("\n"),
+        AROUND_RUST[1],
+    ]
+    .join("\n");
+    fs::write(folder.join("src/main.rs"), program).unwrap();
+    let ran = cargo_run(&folder, &folder, &folder.join("target"), None);
+    let said = text(&ran.stdout);
+    assert!(
+        said.starts_with("refused 1 at 0: "),
+        "{said}{}",
+        text(&ran.stderr)
+    );
+}
+
+/// The README's lines of C, likewise.
+#[test]
+fn the_readmes_lines_of_c_compile() {
+    let folder = folder("readme-c");
+    let lines = readme::code("From C");
+    let (include, body) = lines.split_first().unwrap();
+    assert_eq!(body.len(), 8);
+    let program = [include, AROUND_C[0], &body.join("\n"), AROUND_C[1], ""].join("\n");
+    fs::write(folder.join("yours.c"), program).unwrap();
+    let mut cc = Command::new("cc");
+    cc.args(["-std=c99", "-Wall", "-Wextra", "-Werror", "-c", "-I"]);
+    cc.arg(Path::new(PACKAGE).join("../include")).arg("yours.c");
+    let ran = cc.current_dir(&folder).output().expect("cc can be started");
+    assert!(ran.status.success(), "{}", text(&ran.stderr));
 }

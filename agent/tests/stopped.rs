@@ -4,7 +4,6 @@
 //! In place of the program `treskibben` the example `restore` runs, which has the same options; where
 //! the environment variable `TRESKIBBEN_COMMAND` names the program, that runs itself.
 
-#[path = "stopped/readme.rs"]
 mod readme;
 
 use readme::{in_order, steps, Step};

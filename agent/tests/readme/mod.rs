@@ -1,4 +1,6 @@
-//! The steps that the README shows: each a line of a shell and what it says.
+//! What the README shows: steps, each a line of a shell and what it says, and code. Each test takes of it
+//! what it needs.
+#![allow(dead_code)]
 
 use std::fs;
 
@@ -8,13 +10,19 @@ pub struct Step {
     pub output: Vec<String>,
 }
 
-/// The steps under a heading. A line of a shell begins with `$ `, and goes on where it ends in a backslash.
-pub fn steps(heading: &str) -> Vec<Step> {
+/// The lines under a heading that are code, without their indent.
+pub fn code(heading: &str) -> Vec<String> {
     let readme = fs::read_to_string(concat!(env!("CARGO_MANIFEST_DIR"), "/../README.md")).unwrap();
     let (_, part) = readme.split_once(&format!("# {heading}\n")).unwrap();
     let part = part.split("\n## ").next().unwrap();
+    let lines = part.lines().filter_map(|line| line.strip_prefix("    "));
+    lines.map(str::to_string).collect()
+}
+
+/// The steps under a heading. A line of a shell begins with `$ `, and goes on where it ends in a backslash.
+pub fn steps(heading: &str) -> Vec<Step> {
     let mut steps: Vec<Step> = Vec::new();
-    for line in part.lines().filter_map(|line| line.strip_prefix("    ")) {
+    for line in code(heading) {
         if let Some(line) = line.strip_prefix("$ ") {
             let (line, output) = (line.to_string(), Vec::new());
             steps.push(Step { line, output });
@@ -25,7 +33,7 @@ pub fn steps(heading: &str) -> Vec<Step> {
         };
         match step.line.strip_suffix('\\') {
             Some(begun) => step.line = format!("{begun}{}", line.trim_start()),
-            None => step.output.push(line.to_string()),
+            None => step.output.push(line),
         }
     }
     steps
