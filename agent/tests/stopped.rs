@@ -28,7 +28,7 @@ impl Place {
         }
         let place = Place(folder);
         place.command();
-        for tool in ["opt", "llc"] {
+        for tool in ["opt", "llc", "llvm-extract"] {
             let own = Path::new("/usr/bin").join(format!("{tool}-14"));
             if own.exists() {
                 symlink(own, place.0.join("bin").join(tool)).unwrap();
@@ -199,5 +199,41 @@ fn the_section_in_memory_is_right_where_the_file_is_not() {
             !right,
             "{name}: {said}"
         );
+    }
+}
+
+/// Two objects, each with a map of its own, which the linker puts one after the other: of each map the
+/// section and its frames are saved.
+#[test]
+fn frames_of_several_maps_are_saved_by_map() {
+    if !gdb("frames_of_several_maps_are_saved_by_map") {
+        return;
+    }
+    let place = Place::new("maps");
+    for function in ["inner", "outer"] {
+        place.says(&format!(
+            "llvm-extract -func={function} samples/stopped/sum.ll -o {function}.ll"
+        ));
+        place.says(&format!(
+            "opt -passes=rewrite-statepoints-for-gc {function}.ll -o {function}.bc"
+        ));
+        place.says(&format!(
+            "llc -filetype=obj -no-x86-call-frame-opt {function}.bc -o {function}.o"
+        ));
+    }
+    place.says("cc -no-pie samples/stopped/main.c inner.o outer.o -o program");
+    let saved = "gdb --batch -x tools/stopped.py -ex 'break stop' -ex run -ex 'treskibben-save saved' program";
+    let said = place.says(saved);
+    assert!(said.contains("saved: 2 frames, an image of "), "{said}");
+    for map in 0..2 {
+        let file = |kind: &str| place.0.join(format!("saved/{map}.{kind}"));
+        let section = fs::read(file("section")).unwrap();
+        assert_eq!(treskibben::check(&section), Ok(()));
+        let frames = fs::read_to_string(file("frames")).unwrap();
+        let lines: Vec<&str> = frames.lines().collect();
+        assert_eq!(lines.len(), 1, "{frames}");
+        let address = lines[0].split(' ').next().unwrap().trim_start_matches("0x");
+        let address = u64::from_str_radix(address, 16).unwrap();
+        assert_eq!(treskibben::find(&section, address).unwrap().sharing, 1);
     }
 }
