@@ -16,6 +16,19 @@ extern "C" {
 #endif
 
 /*
+ * The version of this interface: of the names, structs and numbers below. It is raised by one with
+ * every change that a program written for the version before could not live with.
+ *
+ * treskibben_version answers the version of the library that is linked. treskibben_version_1 answers
+ * the same, and only a library of version 1 has it: a program that calls it, as
+ * TRESKIBBEN_REQUIRE_VERSION() does, can't be linked with another.
+ */
+#define TRESKIBBEN_VERSION 1
+uint32_t treskibben_version(void);
+uint32_t treskibben_version_1(void);
+#define TRESKIBBEN_REQUIRE_VERSION() ((void)treskibben_version_1())
+
+/*
  * What a call answers. The answers to questions begin with the same two fields.
  *
  * number: 0 where the input is accepted, else the number of the refusal.

@@ -96,6 +96,8 @@ const _: () = {
 };
 
 extern "C" {
+    fn treskibben_version() -> u32;
+    fn treskibben_version_1() -> u32;
     fn treskibben_check(section: *const u8, length: usize) -> Answer;
     fn treskibben_find(section: *const u8, length: usize, address: u64) -> Found;
     fn treskibben_find_in_function(
@@ -154,6 +156,17 @@ extern "C" {
         frames: *const u64,
         frames_length: usize,
     ) -> Answer;
+}
+
+/// The name is of the version that this crate is written for alone: with a library of another version,
+/// what uses the crate can't be linked. `build.rs` says so earlier and in words.
+#[used]
+static OF_THIS_VERSION: unsafe extern "C" fn() -> u32 = treskibben_version_1;
+
+/// The version of the library.
+pub(crate) fn version() -> u32 {
+    // SAFETY: the function takes nothing and answers a number.
+    unsafe { treskibben_version() }
 }
 
 /// The check of a section.

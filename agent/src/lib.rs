@@ -44,6 +44,21 @@ pub use refusal::Refusal;
 pub use relocate::{relocate, Frame, MoveTable};
 pub use thread::{relocate_thread, Frames, ThreadRefusal};
 
+/// The version of the library's interface that this crate is written for.
+///
+/// A library of another version is refused: by the build, or else by the linker, as
+/// it lacks a name that the crate refers to.
+pub const VERSION: u32 = 1;
+
+/// The version of the library that is linked, as it tells itself; it is [`VERSION`].
+///
+/// ```
+/// assert_eq!(treskibben::version(), treskibben::VERSION);
+/// ```
+pub fn version() -> u32 {
+    ffi::version()
+}
+
 /// Checks that `section` is a whole stack map section, of version 3 or 1, and nothing else.
 ///
 /// # Errors

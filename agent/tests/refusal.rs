@@ -1,8 +1,11 @@
 //! The type of a refusal: its numbers, its words, and its use as an error.
 
-use std::collections::HashSet;
+use generator::frames::faults::{aim, NUMBERS};
+use generator::frames::Scene;
+use generator::Rng;
+use std::collections::{BTreeMap, HashSet};
 use std::error::Error;
-use treskibben::{check, Refusal};
+use treskibben::{check, Frame, MoveTable, Refusal};
 
 /// A section of 16 bytes with these counts, `rest` after it.
 fn section(counts: [u8; 3], rest: &[u8]) -> Vec<u8> {
@@ -109,6 +112,98 @@ fn refusals_of_the_other_version_print_too() {
     assert!([by_address, beyond]
         .iter()
         .all(|refusal| refusal.cause() != unknown));
+}
+
+/// The lines of a table in a document: each number with its words, less what stands in parentheses at
+/// their end.
+fn table(document: &str) -> BTreeMap<u64, String> {
+    let line = |line: &str| {
+        let mut cells = line.strip_prefix("| ")?.split(" | ");
+        let number = cells.next()?.parse().ok()?;
+        let words = cells.next()?;
+        let words = words
+            .strip_suffix(')')
+            .and_then(|it| it.rsplit_once(" ("))
+            .map_or(words, |it| it.0);
+        Some((number, words.to_string()))
+    };
+    document.lines().filter_map(line).collect()
+}
+
+/// The listings that are refused by themselves, and an output that is too short.
+fn refused_listings() -> [Refusal; 4] {
+    let overfull = {
+        let mut listing = vec![3, 7, 0, 0, 0, 0, 0, 0, 0, 0, 0, 0, 0];
+        listing.extend([5, 3, 0, 8].repeat(65_536));
+        listing.push(6);
+        listing
+    };
+    let older = [&[7, 1, 1][..], &[0; 16], &[1, 0, 0, 0, 0, 0, 0, 0, 6]].concat();
+    [
+        treskibben::section_of(&[6, 0]).unwrap_err(),
+        treskibben::section_of(&overfull).unwrap_err(),
+        treskibben::to_section(&[6], &mut []).unwrap_err(),
+        treskibben::section_of(&older).unwrap_err(),
+    ]
+}
+
+/// A refusal of a frame for each number that a frame can get by itself.
+fn refused_frames() -> Vec<Refusal> {
+    let mut rng = Rng::new(14);
+    let mut refused = |number| loop {
+        let mut scene = Scene::one(&mut rng);
+        if aim(&mut rng, number, &mut scene, 0).is_some() {
+            let (section, stop) = (scene.section.encode(), scene.stops[0]);
+            let frame = match section[0] {
+                1 => Frame::in_function(stop.named, stop.address, stop.rbp, stop.rsp),
+                _ => Frame::new(stop.address, stop.rbp, stop.rsp),
+            };
+            let table = MoveTable::new(&scene.table.olds, &scene.table.news);
+            let first = scene.first;
+            break treskibben::relocate(&section, &mut scene.image, first, table, frame)
+                .unwrap_err();
+        }
+    };
+    NUMBERS.map(&mut refused).to_vec()
+}
+
+/// A thread of too many frames, and one with a frame that stands in it twice.
+fn refused_threads() -> [Refusal; 2] {
+    let section = include_bytes!("../../samples/h-statepoint.section");
+    let table = MoveTable::new(&[0x50000], &[0x90000]);
+    let refused = |count| {
+        let frames = vec![Frame::new(0x1020, 0, 0x7000); count];
+        let moved = treskibben::relocate_thread(section, &mut [0; 24], 0x7000, table, &frames);
+        Refusal::from(moved.unwrap_err())
+    };
+    [refused(4_097), refused(2)]
+}
+
+/// Each number from 1 to 28, as a call gives it, has the words of its line in docs/REFUSALS.md; and the
+/// table has no other number.
+#[test]
+fn the_words_are_those_of_the_table() {
+    let table = table(include_str!("../../docs/REFUSALS.md"));
+    assert_eq!(
+        table.keys().copied().collect::<Vec<u64>>(),
+        (1..=28).collect::<Vec<u64>>()
+    );
+    let section = section([0, 0, 0], &[]);
+    let record = with_location([0; 8], [1, 0, 8, 0, 3, 0, 0, 0, 0, 0, 0, 0]);
+    let mut told: Vec<Refusal> = refused()
+        .iter()
+        .map(|(bytes, _)| check(bytes).unwrap_err())
+        .collect();
+    told.push(treskibben::location(&record, 0, 1).unwrap_err());
+    told.push(treskibben::find_in_function(&section, 0, 0).unwrap_err());
+    told.extend(refused_listings());
+    told.extend(refused_frames());
+    told.extend(refused_threads());
+    let told: BTreeMap<u64, String> = told
+        .iter()
+        .map(|it| (it.number(), it.cause().to_string()))
+        .collect();
+    assert_eq!(told, table);
 }
 
 #[test]

@@ -1,58 +1,79 @@
-//! A section, its listing item by item, and the section again.
+//! A section's listing, item by item, and the section again.
 
+use crate::record::{register, sum};
 use treskibben::Refusal;
 
-/// The items of a listing, by kind from 1: name and number of bytes.
-const ITEMS: [(&str, usize); 7] = [
-    ("function", 25),
-    ("constant", 9),
-    ("record", 13),
-    ("location", 10),
-    ("live-out", 4),
-    ("end", 1),
-    ("version", 2),
+/// The items of a listing, by kind from 1: name, and the widths of its numbers.
+const ITEMS: [(&str, &[usize]); 7] = [
+    ("function", &[8, 8, 8]),
+    ("constant", &[8]),
+    ("record", &[8, 4]),
+    ("location", &[1, 2, 2, 4]),
+    ("live-out", &[2, 1]),
+    ("end", &[]),
+    ("version", &[1]),
 ];
 
-/// Bytes of a section to a line.
-const LINE: usize = 24;
-
-/// The bytes in hex.
-fn hex(bytes: &[u8]) -> String {
-    let digits: Vec<String> = bytes.iter().map(|byte| format!("{byte:02x}")).collect();
-    digits.join(" ")
+/// The next item of a listing that is right: its name and its numbers.
+fn item(listing: &mut &[u8]) -> Option<(&'static str, Vec<u64>)> {
+    let (kind, rest) = listing.split_first()?;
+    let (name, widths) = ITEMS[usize::from(*kind) - 1];
+    *listing = rest;
+    let numbers = widths.iter().map(|width| {
+        let (bytes, rest) = listing.split_at(*width);
+        *listing = rest;
+        let digits = bytes.iter().rev();
+        digits.fold(0, |sum, byte| sum << 8 | u64::from(*byte))
+    });
+    Some((name, numbers.collect()))
 }
 
-/// The items of a whole listing: the name and the bytes of each.
-fn items(mut listing: &[u8]) -> impl Iterator<Item = (&'static str, &[u8])> {
-    std::iter::from_fn(move || {
-        let kind = usize::from(*listing.first()?);
-        let (name, length) = ITEMS[kind - 1];
-        let (item, rest) = listing.split_at(length);
-        listing = rest;
-        Some((name, item))
-    })
+/// A location in words, by its numbers.
+fn location(kind: u64, size: u64, dwarf: u64, offset: u64) -> String {
+    let (dwarf, offset) = (dwarf as u16, offset as u32 as i32);
+    let value = match kind {
+        1 => format!("in {}", register(dwarf)),
+        2 => format!("the address {}", sum(dwarf, offset)),
+        3 => format!("in memory at {}", sum(dwarf, offset)),
+        4 => format!("the constant {offset}"),
+        _ => format!("constant number {offset}"),
+    };
+    format!("{value}, {size} bytes")
 }
 
-/// The section's bytes, its listing, and whether the listing gives the same section, line by line.
+/// An item in words.
+fn words(numbers: &[u64]) -> String {
+    match *numbers {
+        [address, size, 1] => format!("at {address:#x}, stack size {size}, 1 record"),
+        [address, size, many] => format!("at {address:#x}, stack size {size}, {many} records"),
+        [kind, size, dwarf, offset] => location(kind, size, dwarf, offset),
+        _ => String::new(),
+    }
+}
+
+/// The listing in words, and whether it gives the same section, line by line.
 pub fn describe(section: &[u8]) -> Result<String, Refusal> {
     let listing = treskibben::listing_of(section)?;
     let again = treskibben::section_of(&listing)?;
-    let mut text = format!("a section of {} bytes", section.len());
-    for line in section.chunks(LINE) {
-        text += &format!("\n  {}", hex(line));
+    let (length, bytes) = (section.len(), listing.len());
+    let mut text = format!("a section of {length} bytes; its listing, {bytes} bytes, says");
+    let mut rest = &listing[..];
+    while let Some((name, numbers)) = item(&mut rest) {
+        let words = match (name, &numbers[..]) {
+            ("record", [id, offset]) => format!("ID {id}, offset {offset:#x}"),
+            ("live-out", [dwarf, size]) => format!("{size} bytes of {}", register(*dwarf as u16)),
+            ("constant" | "version", [number]) => number.to_string(),
+            (_, numbers) => words(numbers),
+        };
+        text += format!("\n  {name:<9} {words}").trim_end();
     }
-    text += &format!("\nits listing, {} bytes, item by item", listing.len());
-    for (name, item) in items(&listing) {
-        text += &format!("\n  {name:<9} {}", hex(item));
-    }
-    let same = if again == section {
-        "equal to the first"
-    } else {
-        "NOT equal to the first"
+    let same = match again == section {
+        true => "the same to the last byte",
+        false => "NOT the same",
     };
-    text += &format!("\nthe listing's section, {} bytes, {same}", again.len());
-    for line in again.chunks(LINE) {
-        text += &format!("\n  {}", hex(line));
-    }
+    text += &format!(
+        "\nand the section made from it has {} bytes, {same}",
+        again.len()
+    );
     Ok(text)
 }

@@ -6,6 +6,7 @@ use live::maps::Place;
 use live::mover::{Mover, FATAL, WRONG};
 use live::program::{function, Program};
 use live::run::{maps, run, Stop, Stops, Trouble};
+use std::io::Write;
 use std::process::{Command, ExitCode, Output};
 
 /// Why nothing was moved.
@@ -65,36 +66,64 @@ pub fn brief(name: &str) -> Option<ExitCode> {
     let maps = maps();
     let plain = run(&maps, program, Mover::Library, Stops::None);
     let moved = run(&maps, program, Mover::Library, Stops::Only(0));
-    let compiled = program.compiled;
-    println!("A live restore: a program compiled by LLVM ({compiled}) is stopped.");
-    match moved.stops.first() {
-        Some(Ok(stop)) => tell_stop(stop),
-        Some(Err(why)) => println!("  Nothing was moved: {}.", trouble(*why)),
-        None => println!("  It ended without a stop."),
-    }
-    let right = moved.checksum == plain.checksum;
-    let as_ever = if right {
-        "as it does without a stop"
-    } else {
-        "which is WRONG"
-    };
-    println!(
-        "  With the move it runs on and comes to {:#x}, {as_ever}.",
-        moved.checksum
-    );
     let unmoved = process(name, Mover::Nothing);
-    println!("  The same without the move: it {}.", end_of(&unmoved));
+    let right = moved.checksum == plain.checksum;
+    let told = match moved.stops.first() {
+        Some(Ok(stop)) => tell_stop(stop),
+        Some(Err(why)) => format!("Nothing was moved: {}.\n", trouble(*why)),
+        None => "It ended without a stop.\n".to_string(),
+    };
+    let result = if right {
+        "has the result of a run without a stop"
+    } else {
+        "its result is WRONG"
+    };
+    let text = format!(
+        "A program compiled by LLVM ({}) is stopped.\n{told}\
+         With the move: it runs on and {result}, checksum {:#x}.\n\
+         Without the move: it {}.\n",
+        program.compiled,
+        moved.checksum,
+        end_of(&unmoved)
+    );
+    // Whoever reads it may have gone away.
+    let _ = std::io::stdout().write_all(text.as_bytes());
     let went_well =
         right && moved.stops.iter().all(Result::is_ok) && unmoved.status.code().is_none();
     Some(ExitCode::from(u8::from(!went_well)))
 }
 
-/// What was moved at a stop.
-fn tell_stop(stop: &Stop) {
-    let (frames, objects) = (stop.frames.len(), stop.objects.len());
-    let pairs = stop.pairs;
-    println!("  {frames} frames wait on its stack, with {pairs} pairs of a base and a pointer derived from it.");
-    println!("  The {objects} objects of its heap are copied elsewhere, and the old ones made unreadable.");
+/// What was moved at a stop, with one pointer of it.
+fn tell_stop(stop: &Stop) -> String {
+    let names: Vec<&str> = stop.frames.iter().rev().map(name_of).collect();
+    let (calls, objects) = (names.len(), stop.objects.len());
+    let mut text = format!(
+        "{calls} calls wait on its stack: {}.\n\
+         The {objects} objects of its heap are copied elsewhere, and the old ones made unreadable.\n\
+         The library moves the {} pairs of a base and a pointer derived from it.",
+        names.join(" > "),
+        stop.pairs
+    );
+    let pairs = stop.frames.iter().flat_map(|stopped| {
+        let slots = stopped.all_slots();
+        slots.map(move |slots| (name_of(stopped), slots))
+    });
+    let mut inside = pairs.filter_map(|(name, [base, derived])| {
+        let [start, pointer] = [base, derived].map(|slot| stop.before.word(slot));
+        let distance = pointer.checked_sub(start)?;
+        (start != 0 && distance != 0).then_some((name, derived, distance))
+    });
+    if let Some((name, slot, distance)) = inside.next() {
+        let [old, new] = [&stop.before, &stop.after].map(|image| image.word(slot));
+        text += &format!(
+            " One of `{name}`'s is\n  {old:#x} -> {new:#x}, {distance} bytes into its object"
+        );
+    }
+    text + "\n"
+}
+
+fn name_of(stopped: &Stopped) -> &'static str {
+    function(stopped.site.id)
 }
 
 /// A run by a wrong mover, in a process of its own.

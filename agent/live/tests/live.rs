@@ -215,9 +215,9 @@ fn the_short_report_tells_both_ends() {
         let said = String::from_utf8(ran.stdout).unwrap();
         assert!(ran.status.success(), "{said}");
         for words in [
-            "9 frames wait on its stack, with ",
-            "comes to 0xc12dea0c01d34f7b, as it does without a stop.",
-            "without the move: it touched the old heap and died, signal: 11",
+            "9 calls wait on its stack: live_run > choose > descend > ",
+            "it runs on and has the result of a run without a stop, checksum 0xc12dea0c01d34f7b.",
+            "Without the move: it touched the old heap and died, signal: 11",
         ] {
             assert!(said.contains(words), "{said}");
         }

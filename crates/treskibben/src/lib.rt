@@ -6,7 +6,26 @@ ghost use Rattle.listing.specs.Listing.{toListing, toSection};
 ghost use Rattle.relocate.specs.Relocation;
 ghost use Rattle.thread.specs.Thread.{threadAnswer, threadImage};
 ghost use Rattle.treskibben.specs.Answer.{answer, converted, moveAnswer, frameOf, foundAt, standsAt, placed, passed};
+ghost use Rattle.treskibben.specs.Version.{version};
 use stackmap::Verdict;
+
+const VERSION: u32 = 1;
+
+// The number of this interface, which include/treskibben.h has as TRESKIBBEN_VERSION.
+#[no_mangle]
+pub extern "C" fn treskibben_version() -> u32
+    ensures { λ r. ⌜ r ≡ version ⌝ }
+{
+    VERSION
+}
+
+// The same. Its name is of this version alone, so that a program that refers to it can't be linked with a library of another.
+#[no_mangle]
+pub extern "C" fn treskibben_version_1() -> u32
+    ensures { λ r. ⌜ r ≡ version ⌝ }
+{
+    VERSION
+}
 
 // A refusal's number and place, or 0 and 0 and the value that the call is for.
 #[repr(C)]
