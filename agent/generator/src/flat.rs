@@ -3,6 +3,7 @@
 //! the same in every run.
 
 pub mod aimed;
+pub mod asked;
 mod damage;
 pub mod edges;
 pub mod largest;

@@ -158,7 +158,7 @@ fn whole_sections_have_every_shape() {
         paddings[padding / 2] += 1;
         let records = flat.records.len();
         odd += u64::from(records % 2 == 1);
-        even += u64::from(records > 0 && records % 2 == 0);
+        even += u64::from(records > 0 && records.is_multiple_of(2));
         let padding = built.starts[LOCATIONS] - built.entry(RECORDS, records);
         assert_eq!(padding, 2 * (records % 2));
         shared += u64::from(flat.counts()[FRAMES] < 10 && shares_records(&flat));

@@ -1,5 +1,6 @@
 //! Questions against the second implementation, and the slow sections.
 
+use super::asked::{all, every_question};
 use super::layout::{Frame, FrameRegister, Location, Range, Record, LARGEST};
 use super::questions::{answer, question, Answer, Question};
 use super::slow::{section, Kind, LEAST_SLOW};
@@ -109,6 +110,24 @@ fn questions_are_answered_as_the_data_say() {
     let counts = [found, later, given, none, no_record, no_entry];
     println!("first frame, later frame, by number, 41, 10, 11: {counts:?}");
     assert!(counts.iter().all(|count| *count >= 1_000), "{counts:?}");
+}
+
+#[test]
+fn every_question_is_answered_as_the_data_say() {
+    let mut found = 0;
+    for flat in all() {
+        let bytes = flat.encode();
+        for question in every_question(&flat) {
+            let expected = answer(&flat, question);
+            found += u64::from(matches!(expected, Answer::Found { .. }));
+            assert_eq!(
+                asked(&bytes, question),
+                expected,
+                "{question:?} of {flat:?}"
+            );
+        }
+    }
+    assert!(found >= 100, "{found}");
 }
 
 #[test]
