@@ -1,6 +1,6 @@
-//! Random flat sections, source document 002's version 2: whole ones, aimed at one refusal, damaged,
-//! at the edges of the rules, and ones that are slow to search. Everything is made from a seed or is
-//! the same in every run.
+//! Random flat sections, source document 002's version 2: whole ones, aimed at one refusal,
+//! damaged, at the edges of the rules, and ones that are slow to search. Everything is made from a
+//! seed or is the same in every run.
 
 pub mod aimed;
 pub mod asked;
@@ -31,8 +31,8 @@ pub fn case(rng: &mut Rng) -> Case {
     case_of(rng, &flat)
 }
 
-/// A random case that is made of this section. Where it is known to be accepted, its bytes are those
-/// of the section.
+/// A random case that is made of this section. Where it is known to be accepted, its bytes are
+/// those of the section.
 pub fn case_of(rng: &mut Rng, flat: &Flat) -> Case {
     match rng.below(16) {
         0..=2 => Case::known("whole", flat.encode(), 0, 0),

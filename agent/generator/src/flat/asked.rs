@@ -1,5 +1,5 @@
-//! Whole flat sections that are made to be asked, and every question worth asking of a small one. They
-//! are the same in every run.
+//! Whole flat sections that are made to be asked, and every question worth asking of a small one.
+//! They are the same in every run.
 
 use super::edges::{bases, of_counts};
 use super::layout::{Flat, Range};
@@ -72,9 +72,9 @@ fn wide_offsets() -> Flat {
     with_records(&frames, &[0x8000_0000, 0x7fff_ffff, u32::MAX, 0])
 }
 
-/// Every question on a section: every sum of a frame and a record, whether its own or not and modulo
-/// 2^64, and those beside it; and every number that is there or that a narrower number would take for
-/// one that is.
+/// Every question on a section: every sum of a frame and a record, whether its own or not and
+/// modulo 2^64, and those beside it; and every number that is there or that a narrower number would
+/// take for one that is.
 pub fn every_question(flat: &Flat) -> Vec<Question> {
     let mut sums = vec![0];
     for frame in &flat.frames {

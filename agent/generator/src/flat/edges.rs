@@ -1,5 +1,5 @@
-//! Small flat sections at the edges of the rules, and indexes at the end of their 16 bits; the same in
-//! every run.
+//! Small flat sections at the edges of the rules, and indexes at the end of their 16 bits; the same
+//! in every run.
 
 use super::aimed::{frame_reach, record_reaches, register_range, set_range, wrong_offsets, Reach};
 use super::layout::{Built, Flat, Frame, FrameRegister, LiveOut, Location, Range, Record};
@@ -88,8 +88,8 @@ fn live_out(nth: usize) -> LiveOut {
     }
 }
 
-/// Sections with nothing, with one array, with all but one, with everything, with both parities of the
-/// records and with every length of the padding after the frame registers.
+/// Sections with nothing, with one array, with all but one, with everything, with both parities of
+/// the records and with every length of the padding after the frame registers.
 pub fn bases() -> Vec<Flat> {
     let mut bases = vec![of_counts([0; 6])];
     for array in 0..6 {

@@ -16,9 +16,9 @@ pub fn all(visit: Visit) {
     visit(Case::known("largest, ones", vec![0xff; LARGEST], 37, 0));
 }
 
-/// Hands over whole sections of exactly the largest length, with as many constants, frames, records,
-/// locations or live-outs as there can be, each with the place of its last reserved byte. Where one
-/// array doesn't reach the length, a few entries of another fill it.
+/// Hands over whole sections of exactly the largest length, with as many constants, frames,
+/// records, locations or live-outs as there can be, each with the place of its last reserved byte.
+/// Where one array doesn't reach the length, a few entries of another fill it.
 pub fn sections(visit: &mut dyn FnMut(&Flat, usize)) {
     visit(&of_counts([2_097_148, 0, 0, 0, 0, 0]), LEAST - 1);
     visit(&of_counts([4, 599_184, 0, 0, 0, 0]), LARGEST - 28 + 17);
@@ -27,8 +27,8 @@ pub fn sections(visit: &mut dyn FnMut(&Flat, usize)) {
     visit(&of_counts([0, 0, 0, 0, 0, 4_194_296]), LARGEST - 4 + 2);
 }
 
-/// A section of exactly the largest length: as it is, with its last reserved bit set, a byte too long,
-/// and a byte too short.
+/// A section of exactly the largest length: as it is, with its last reserved bit set, a byte too
+/// long, and a byte too short.
 fn whole(flat: &Flat, reserved: usize, visit: Visit) {
     let mut bytes = flat.encode();
     assert_eq!(bytes.len(), LARGEST);

@@ -88,8 +88,8 @@ pub struct Location {
     pub offset: i32,
 }
 
-/// A flat section. It is whole if there are as many frame registers as the frames' ranges reach, and
-/// no other range reaches past its array.
+/// A flat section. It is whole if there are as many frame registers as the frames' ranges reach,
+/// and no other range reaches past its array.
 #[derive(Clone, Debug, Default)]
 pub struct Flat {
     pub constants: Vec<u64>,

@@ -1,6 +1,7 @@
-//! Flat sections that are slow to search: many frames name many records each, and an address is asked
-//! for that none of them has, or only the last record of the last frame. A search that tries each
-//! record of each frame takes frames times records steps, 36 thousand million in the largest section.
+//! Flat sections that are slow to search: many frames name many records each, and an address is
+//! asked for that none of them has, or only the last record of the last frame. A search that tries
+//! each record of each frame takes frames times records steps, 36 thousand million in the largest
+//! section.
 
 use super::layout::{Flat, Frame, Range, Record, LEAST};
 
@@ -12,8 +13,8 @@ pub enum Kind {
     Same,
     /// As `Same`, but the frames' ranges differ: each names half of the records, from its own on.
     Staggered,
-    /// Half of the records have one offset, half another. Every frame names the one half and asks for
-    /// what all records of the other have.
+    /// Half of the records have one offset, half another. Every frame names the one half and asks
+    /// for what all records of the other have.
     Crossed,
 }
 
@@ -43,8 +44,8 @@ const ADDRESS: u64 = 0x7fff_0000_0000;
 /// The least number of bytes of a slow section: a header, a frame with its padding and two records.
 pub const LEAST_SLOW: usize = LEAST + 32 + 44;
 
-/// A section of at most `length` bytes, which are at least [`LEAST_SLOW`], and at most 31 fewer. `found`
-/// says whether the last record of the last frame has the address.
+/// A section of at most `length` bytes, which are at least [`LEAST_SLOW`], and at most 31 fewer.
+/// `found` says whether the last record of the last frame has the address.
 pub fn section(kind: Kind, length: usize, found: bool) -> Slow {
     assert!(length >= LEAST_SLOW, "no room for a frame and two records");
     let (frames, records) = counts(kind, length - LEAST);
@@ -74,8 +75,8 @@ pub fn section(kind: Kind, length: usize, found: bool) -> Slow {
     }
 }
 
-/// How many frames and records, an even number, make the most steps in so many bytes. Half of the bytes
-/// are records, unless a frame can't name so many.
+/// How many frames and records, an even number, make the most steps in so many bytes. Half of the
+/// bytes are records, unless a frame can't name so many.
 fn counts(kind: Kind, bytes: usize) -> (usize, usize) {
     let most = match kind {
         Kind::Same => 65_534,

@@ -1,5 +1,5 @@
-//! Random flat sections that keep every rule, with numbers at their edges wherever a rule leaves them
-//! free.
+//! Random flat sections that keep every rule, with numbers at their edges wherever a rule leaves
+//! them free.
 
 use super::layout::{Flat, Frame, FrameRegister, Location, Range, Record, REACH};
 use crate::rng::Rng;
@@ -39,8 +39,8 @@ pub(crate) fn shape(rng: &mut Rng) -> Shape {
     shape
 }
 
-/// A shape with one array that is as long as an index and a count reach, or nearly so, or longer by a
-/// few where its length is free.
+/// A shape with one array that is as long as an index and a count reach, or nearly so, or longer by
+/// a few where its length is free.
 pub(crate) fn wide_shape(rng: &mut Rng) -> Shape {
     let mut shape = shape(rng);
     shape.frames = shape.frames.max(1);

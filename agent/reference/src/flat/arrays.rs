@@ -58,36 +58,25 @@ impl<'a> Arrays<'a> {
     /// array before.
     pub(super) fn of(section: &'a [u8]) -> Option<Arrays<'a>> {
         let header = section.first_chunk::<HEADER>()?;
-        let offset = |at| u32_at(header, at) as usize;
-        let constants_at = offset(4);
-        let frames_at = offset(8);
-        let frame_registers_at = offset(12);
-        let records_at = offset(16);
-        let locations_at = offset(20);
-        let live_outs_at = offset(24);
-        let end = section.len();
-
+        let offsets = [4, 8, 12, 16, 20, 24].map(|at| u32_at(header, at) as usize);
+        let [constants_at, frames_at, registers_at, records_at, locations_at, live_outs_at] =
+            offsets;
         if constants_at != aligned(HEADER, CONSTANTS_ALIGNMENT) {
             return None;
         }
         let header_padding = section.get(HEADER..constants_at)?;
         let (constants, _) = array(section, constants_at, frames_at, FRAMES_ALIGNMENT)?;
-        let (frames, _) = array(
-            section,
-            frames_at,
-            frame_registers_at,
-            FRAME_REGISTERS_ALIGNMENT,
-        )?;
-        let registers_end = frame_registers_at + FRAME_REGISTER * num_frame_registers(frames);
+        let (frames, _) = array(section, frames_at, registers_at, FRAME_REGISTERS_ALIGNMENT)?;
+        let registers_end = registers_at + FRAME_REGISTER * num_frame_registers(frames);
         if records_at != aligned(registers_end, RECORDS_ALIGNMENT) {
             return None;
         }
-        let frame_registers = section.get(frame_registers_at..registers_end)?;
+        let frame_registers = section.get(registers_at..registers_end)?;
         let frame_register_padding = section.get(registers_end..records_at)?;
         let (records, record_padding) =
             array(section, records_at, locations_at, LOCATIONS_ALIGNMENT)?;
         let (locations, _) = array(section, locations_at, live_outs_at, LIVE_OUTS_ALIGNMENT)?;
-        let (live_outs, _) = array(section, live_outs_at, end, END_ALIGNMENT)?;
+        let (live_outs, _) = array(section, live_outs_at, section.len(), END_ALIGNMENT)?;
         Some(Arrays {
             header_reserved: &section[1..4],
             header_padding,
