@@ -1,5 +1,5 @@
-//! Random stack map sections and listings for tests and benchmarks, of versions 1 and 3: whole ones,
-//! and damaged ones.
+//! Random stack map sections and listings for tests and benchmarks, of versions 1 and 3, and flat
+//! sections: whole ones, and damaged ones.
 //!
 //! Everything is made from a seed, so that a run can be had again. The encoder is this package's
 //! own: where it says what a section must be answered, that is one more opinion beside those of
@@ -9,6 +9,7 @@ pub mod aimed;
 pub mod asked;
 pub mod damage;
 pub mod edges;
+pub mod flat;
 pub mod frames;
 pub mod largest;
 pub mod layout;

@@ -4,7 +4,8 @@
 //! It reads sections in the stack map layouts of versions 1 and 3, answers
 //! questions on them, turns them into listings and back, relocates the pointers
 //! of one stopped frame or of a whole thread, and holds what the small program
-//! writes.
+//! writes. It also reads and looks up the flat proposal's sections, which have
+//! a layout of their own ([`flat`]).
 //!
 //! Every function answers every input: with a result, or with a [`Refusal`]
 //! that has a fixed number and place. A refused call changes no byte of what
@@ -14,6 +15,7 @@
 #![deny(missing_docs)]
 
 mod bytes;
+pub mod flat;
 pub mod listing;
 pub mod program;
 pub mod questions;
@@ -36,7 +38,7 @@ pub use thread::thread;
 /// the place that line names.
 #[derive(Clone, Copy, Debug, PartialEq, Eq)]
 pub struct Refusal {
-    /// The refusal's number, 1 to 28.
+    /// The refusal's number, 1 to 28 or, of a flat section, 36 to 41.
     pub number: u64,
     /// The refusal's place: a byte, a pair, a frame's position in a list, or 0
     /// where its line has none.
