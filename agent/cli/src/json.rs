@@ -26,7 +26,7 @@ pub enum Answer<'a> {
     /// Any command: a file that cannot be read or written, or a bad line.
     Failed {
         #[serde(skip_serializing_if = "Option::is_none")]
-        file: Option<&'a str>,
+        file: Option<String>,
         #[serde(skip_serializing_if = "Option::is_none")]
         line: Option<usize>,
         error: &'a str,
@@ -77,7 +77,7 @@ pub enum Answer<'a> {
 
 #[derive(Serialize)]
 pub struct Refusal<'a> {
-    file: &'a str,
+    file: String,
     #[serde(skip_serializing_if = "Option::is_none")]
     line: Option<usize>,
     #[serde(skip_serializing_if = "Option::is_none")]
@@ -169,7 +169,7 @@ pub fn name(path: &Path) -> String {
 impl<'a> Answer<'a> {
     pub fn refused(refused: &'a Refused) -> Answer<'a> {
         Answer::Refused(Refusal {
-            file: &refused.file,
+            file: name(&refused.file),
             line: refused.line,
             frame: refused.frame,
             pair: refused.pair,
@@ -184,7 +184,7 @@ impl<'a> Answer<'a> {
 
     pub fn failed(fault: &'a Fault) -> Answer<'a> {
         Answer::Failed {
-            file: fault.file.as_deref(),
+            file: fault.file.as_deref().map(name),
             line: fault.line,
             error: &fault.error,
         }

@@ -7,7 +7,7 @@ use crate::{output, system};
 use nix::sys::signal::Signal;
 use std::fmt::Display;
 use std::io::{self, Write};
-use std::path::Path;
+use std::path::{Path, PathBuf};
 use std::process::ExitCode;
 
 /// How a command tells what it finds.
@@ -43,8 +43,8 @@ impl From<Status> for ExitCode {
 /// What was refused, by the library or by the command itself.
 #[derive(Debug, Default)]
 pub struct Refused {
-    /// The file at fault, as it is shown.
-    pub file: String,
+    /// The file at fault.
+    pub file: PathBuf,
     /// The line in it, if it is a list.
     pub line: Option<usize>,
     /// The frame at fault, by its position in the list, and the pair, if it is one.
@@ -62,8 +62,8 @@ pub struct Refused {
 /// A file that cannot be read or written, or a line in it that cannot be understood.
 #[derive(Debug)]
 pub struct Fault {
-    /// The file, as it is shown; none of standard output.
-    pub file: Option<String>,
+    /// The file; none of standard output.
+    pub file: Option<PathBuf>,
     pub line: Option<usize>,
     pub error: String,
 }
@@ -87,7 +87,7 @@ impl Trouble {
     /// A refusal of a file by the library.
     pub fn refused(file: &Path, refusal: Refusal, found: Option<String>) -> Trouble {
         Trouble::Refused(Box::new(Refused {
-            file: shown(file),
+            file: file.to_path_buf(),
             answer: Some((refusal.number, refusal.place)),
             cause: refusal.cause.to_string(),
             found,
@@ -98,7 +98,7 @@ impl Trouble {
     /// A refusal of a file by the command itself.
     pub fn declined(file: &Path, cause: &str, found: String) -> Trouble {
         Trouble::Refused(Box::new(Refused {
-            file: shown(file),
+            file: file.to_path_buf(),
             cause: cause.to_string(),
             found: Some(found),
             ..Refused::default()
@@ -108,7 +108,7 @@ impl Trouble {
     /// A file, what cannot be done with it, and why.
     pub fn file(path: &Path, what: &str, why: impl Display) -> Trouble {
         Trouble::File(Fault {
-            file: Some(shown(path)),
+            file: Some(path.to_path_buf()),
             line: None,
             error: format!("{what}: {why}"),
         })
@@ -117,7 +117,7 @@ impl Trouble {
     /// A line of a file that cannot be understood.
     pub fn line(path: &Path, line: usize, error: String) -> Trouble {
         Trouble::File(Fault {
-            file: Some(shown(path)),
+            file: Some(path.to_path_buf()),
             line: Some(line),
             error,
         })
@@ -174,8 +174,8 @@ impl Fault {
 }
 
 /// A file and a line in it, before what is said of them.
-fn place(file: Option<&str>, line: Option<usize>) -> String {
-    match (file, line) {
+fn place(file: Option<&Path>, line: Option<usize>) -> String {
+    match (file.map(shown), line) {
         (Some(file), Some(line)) => format!("{file}:{line}: "),
         (Some(file), None) => format!("{file}: "),
         _ => String::new(),

@@ -3,7 +3,6 @@
 mod write;
 
 use crate::library::{self, Refusal};
-use crate::names::shown;
 use crate::numbers::count;
 use crate::progress::Progress;
 use crate::trouble::{Refused, Status, Trouble, Voice};
@@ -45,7 +44,7 @@ pub fn run(arguments: &Arguments, voice: Voice) -> Result<Status, Trouble> {
     let path = &arguments.file;
     let mut file = files::open(path)?;
     let Some(folder) = &arguments.into else {
-        parts(path, &mut file, voice)?;
+        parts(path, &mut file, voice, false)?;
         return Ok(Status::Done);
     };
     if !file.metadata().is_ok_and(|there| there.is_file()) {
@@ -53,7 +52,7 @@ pub fn run(arguments: &Arguments, voice: Voice) -> Result<Status, Trouble> {
         return Err(Trouble::file(path, "cannot be cut", why));
     }
     let target = write::target(folder)?;
-    let parts = parts(path, &mut file, voice)?;
+    let parts = parts(path, &mut file, voice, true)?;
     write::all(path, &mut file, &parts, &target)?;
     if voice == Voice::Json {
         // The parts are written, whether anybody hears of it or not.
@@ -67,8 +66,8 @@ pub fn run(arguments: &Arguments, voice: Voice) -> Result<Status, Trouble> {
 }
 
 /// The parts of a file, each checked and told. Where nobody listens any more, it goes on all the same:
-/// the status counts.
-fn parts(path: &Path, file: &mut File, voice: Voice) -> Result<Vec<Part>, Trouble> {
+/// the status counts. `deaf` goes on where nobody can be told at all.
+fn parts(path: &Path, file: &mut File, voice: Voice, deaf: bool) -> Result<Vec<Part>, Trouble> {
     let mut progress = Progress::of("bytes cut");
     let all = file.metadata().map_or(0, |metadata| metadata.len());
     let mut parts = Vec::new();
@@ -79,8 +78,8 @@ fn parts(path: &Path, file: &mut File, voice: Voice) -> Result<Vec<Part>, Troubl
         let length = part_length(window.bytes())
             .map_err(|refusal| refused(path, number, first, window.bytes(), refusal))?;
         match tell(path, number, first, length, voice) {
-            Err(Trouble::Closed) => {}
-            told => told?,
+            Err(trouble) if !deaf && !matches!(trouble, Trouble::Closed) => return Err(trouble),
+            _ => {}
         }
         parts.push(Part { first, length });
         window.pass(length);
@@ -111,7 +110,7 @@ fn refused(path: &Path, number: u64, first: u64, bytes: &[u8], refusal: Refusal)
     let found = found::of_section(path, bytes, refusal);
     let found = found.map(|found| format!(": {found}")).unwrap_or_default();
     Trouble::Refused(Box::new(Refused {
-        file: shown(path),
+        file: path.to_path_buf(),
         part: Some((number, first)),
         answer: Some((refusal.number, refusal.place)),
         cause: refusal.cause.to_string(),

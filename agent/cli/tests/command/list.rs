@@ -45,7 +45,7 @@ fn call() -> Record {
 }
 
 /// A section with every kind of thing.
-fn rich() -> Section {
+pub fn rich() -> Section {
     let function = |address, stack_size, record_count| Function {
         address,
         stack_size,

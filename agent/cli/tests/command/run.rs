@@ -4,8 +4,10 @@ use std::ffi::OsStr;
 use std::fs::{self, File};
 use std::os::unix::fs::MetadataExt;
 use std::path::{Path, PathBuf};
-use std::process::{Command, Output, Stdio};
+use std::process::{Child, Command, Output, Stdio};
 use std::sync::atomic::{AtomicU64, Ordering};
+use std::thread::sleep;
+use std::time::Duration;
 
 /// The program.
 pub const PROGRAM: &str = env!("CARGO_BIN_EXE_treskibben");
@@ -102,6 +104,14 @@ impl Folder {
 impl Drop for Folder {
     fn drop(&mut self) {
         let _ = fs::remove_dir_all(&self.0);
+    }
+}
+
+/// Waits until something in the folder has this name, or the run is over.
+pub fn until_there(child: &mut Child, folder: &Folder, name: &str) {
+    let path = folder.at(name);
+    while fs::symlink_metadata(&path).is_err() && child.try_wait().unwrap().is_none() {
+        sleep(Duration::from_micros(10));
     }
 }
 

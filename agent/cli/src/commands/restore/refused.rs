@@ -3,7 +3,6 @@
 use super::Inputs;
 use crate::found::{self, Sizes};
 use crate::library::{self, Refusal};
-use crate::names::shown;
 use crate::numbers::count;
 use crate::trouble::{Refused, Trouble};
 
@@ -43,7 +42,7 @@ impl Inputs<'_> {
             }
         };
         Refused {
-            file: shown(file),
+            file: file.clone(),
             line,
             found,
             ..Refused::default()
@@ -68,7 +67,7 @@ impl Inputs<'_> {
         let more = more.map(|more| format!(": {more}")).unwrap_or_default();
         let words = self.naming.words(&frame);
         Refused {
-            file: shown(&self.arguments.frames),
+            file: self.arguments.frames.clone(),
             line: Some(entry.line),
             frame: Some(position as u64),
             pair,

@@ -1,9 +1,9 @@
 //! Signals that ask a restore to end: it ends by them with everything as it was, or it goes on to its
 //! end and says so.
 
-use super::killed::{image, start, thread, until_there, whole_run, BESIDE, NEW, SAYS};
+use super::killed::{image, start, thread, whole_run, BESIDE, NEW, SAYS};
 use super::{DONE, FILES, RECEIPT};
-use crate::run::{Folder, Ran};
+use crate::run::{until_there, Folder, Ran};
 use nix::sys::signal::{kill, Signal};
 use nix::unistd::Pid;
 use std::fs;
@@ -15,7 +15,7 @@ const SIGNALS: [Signal; 3] = [Signal::SIGHUP, Signal::SIGINT, Signal::SIGTERM];
 
 #[test]
 fn asked_to_end_at_any_moment() {
-    const ASKED: usize = 360;
+    const ASKED: usize = 306;
     let (row, folder) = (thread(), Folder::new());
     let long = whole_run(&row, &folder).as_micros() as usize;
     let mut rng = generator::Rng::part(0x51, 0);

@@ -199,40 +199,6 @@ fn a_file_that_must_not_grow() {
     assert_eq!(folder.names(), FILES);
 }
 
-/// The disk is full in the middle of the writing: a file system in memory with room for one image.
-#[test]
-fn a_full_disk() {
-    let (row, folder) = (large(), Folder::new());
-    row.put(&folder);
-    fs::create_dir(folder.at("disk")).unwrap();
-    let script = "mount -t tmpfs -o size=1400k none disk || exit 99
-        cp image section moves frames disk/ && cd disk || exit 99
-        \"$0\" \"$@\"
-        status=$?
-        cmp image ../image || exit 98
-        ls -A
-        exit $status";
-    let mut command = Command::new("unshare");
-    command.args(["--mount", "sh", "-c", script, PROGRAM]);
-    command.current_dir(folder.path()).stdin(Stdio::null());
-    let Ok(output) = row.call(&mut command).output() else {
-        return skipped("a full disk: no unshare");
-    };
-    let ran = Ran::from(output);
-    if ran.err.starts_with("unshare: ") || ran.status == Some(99) {
-        return skipped("a full disk: no file system can be mounted");
-    }
-    assert!(
-        ran.err.contains("image: cannot be replaced: No space left"),
-        "{}",
-        ran.err
-    );
-    assert_eq!(
-        (ran.status, ran.text()),
-        (Some(2), "frames\nimage\nmoves\nsection\n")
-    );
-}
-
 /// The image is restored, whether its last line can be written or not.
 #[test]
 fn a_restore_that_nobody_hears_of() {

@@ -3,7 +3,7 @@
 
 use super::{Restore, DONE, FILES, RECEIPT};
 use crate::fixtures::{of_pairs, rsp, words};
-use crate::run::{Folder, Ran};
+use crate::run::{until_there, Folder, Ran};
 use std::fs;
 use std::process::{Child, Stdio};
 use std::thread::sleep;
@@ -56,12 +56,6 @@ pub fn start(row: &Restore, folder: &Folder) -> Child {
     command.spawn().unwrap()
 }
 
-/// Waits until the new image is being written beside the old one, or the run is over.
-pub fn until_there(child: &mut Child, folder: &Folder, name: &str) {
-    let beside = folder.at(name);
-    while fs::symlink_metadata(&beside).is_err() && child.try_wait().unwrap().is_none() {}
-}
-
 /// How long a whole run takes.
 pub fn whole_run(row: &Restore, folder: &Folder) -> Duration {
     let mut longest = Duration::ZERO;
@@ -77,7 +71,7 @@ pub fn whole_run(row: &Restore, folder: &Folder) -> Duration {
 
 #[test]
 fn killed_at_any_moment() {
-    const KILLS: u64 = 240;
+    const KILLS: u64 = 160;
     let (row, folder) = (thread(), Folder::new());
     let (old, new) = (image(OLD), image(NEW));
     let long = whole_run(&row, &folder);
@@ -127,7 +121,7 @@ fn killed_at_any_moment() {
 /// The same where the new image is a new file: there is none, or it is whole and has its receipt.
 #[test]
 fn killed_while_it_writes_a_new_file() {
-    const KILLS: u64 = 100;
+    const KILLS: u64 = 60;
     let (row, folder) = (thread(), Folder::new());
     row.put(&folder);
     let new = image(NEW);
