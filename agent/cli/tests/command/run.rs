@@ -107,10 +107,10 @@ impl Drop for Folder {
     }
 }
 
-/// Waits until something in the folder has this name, or the run is over.
-pub fn until_there(child: &mut Child, folder: &Folder, name: &str) {
-    let path = folder.at(name);
-    while fs::symlink_metadata(&path).is_err() && child.try_wait().unwrap().is_none() {
+/// Waits until something in the folder has one of these names, or the run is over.
+pub fn until_there(child: &mut Child, folder: &Folder, names: &[&str]) {
+    let missing = |name: &&str| fs::symlink_metadata(folder.at(name)).is_err();
+    while names.iter().all(missing) && child.try_wait().unwrap().is_none() {
         sleep(Duration::from_micros(10));
     }
 }

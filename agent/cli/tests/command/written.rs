@@ -1,6 +1,6 @@
 //! Files that `list`, `build` and `cut` write: whole or not there, whoever ends the program and when.
 
-use crate::fixtures::{of_pairs, row_h, rsp, C};
+use crate::fixtures::{of_pairs, one_function, row_h, rsp, statepoint, C};
 use crate::run::{until_there, Folder, Ran};
 use nix::sys::signal::{kill, Signal};
 use nix::unistd::Pid;
@@ -34,8 +34,10 @@ fn killed(folder: &Folder, call: &str, kills: u64, part: u64) {
     for number in 0..kills {
         fs::remove_file(folder.at("new")).unwrap();
         let mut child = start(folder, call);
-        until_there(&mut child, folder, ".new.treskibben-new");
-        sleep(Duration::from_micros(rng.below(within + 1) as u64));
+        until_there(&mut child, folder, &["new", ".new.treskibben-new"]);
+        // Every second kill comes when the writing has just begun.
+        let pause = rng.below(within + 1) as u64 * (number % 2);
+        sleep(Duration::from_micros(pause));
         child.kill().unwrap();
         child.wait().unwrap();
         if !folder.at("new").exists() {
@@ -53,17 +55,17 @@ fn killed(folder: &Folder, call: &str, kills: u64, part: u64) {
 #[test]
 fn list_and_build_killed() {
     let folder = Folder::new();
-    let many = vec![[rsp(8), rsp(8)]; 30_000];
-    folder.put("section", of_pairs(24, &many));
+    let record = statepoint(0x20, &vec![[rsp(8), rsp(8)]; 30_000]);
+    folder.put("section", one_function(24, vec![record; 4]).encode());
     folder
         .run(["list", "section", "--output", "listing"])
         .done("");
-    killed(&folder, "list section --output new", 50, 0);
-    killed(&folder, "list --text section --output new", 20, 1);
-    killed(&folder, "build listing --output new", 50, 2);
+    killed(&folder, "list section --output new", 40, 0);
+    killed(&folder, "list --text section --output new", 12, 1);
+    killed(&folder, "build listing --output new", 40, 2);
 }
 
-const PARTS: usize = 1_000;
+const PARTS: usize = 600;
 
 /// The parts are all there, or the folder is not.
 fn whole(folder: &Folder, name: &str) -> bool {
@@ -88,10 +90,10 @@ fn cut_killed() {
     let within = long(&folder, CUT);
     let mut rng = generator::Rng::part(0xF11E, 3);
     let (mut missing, mut left) = (0, 0);
-    for _ in 0..20 {
+    for _ in 0..16 {
         let _ = fs::remove_dir_all(folder.at("parts"));
         let mut child = start(&folder, CUT);
-        until_there(&mut child, &folder, ".parts.treskibben-new");
+        until_there(&mut child, &folder, &["parts", ".parts.treskibben-new"]);
         sleep(Duration::from_micros(rng.below(within + 1) as u64));
         child.kill().unwrap();
         child.wait().unwrap();
@@ -112,11 +114,11 @@ fn cut_asked_to_end() {
     let within = long(&folder, CUT);
     let mut rng = generator::Rng::part(0xF11E, 4);
     let (mut ended, mut done) = (0, 0);
-    for round in 0..30 {
+    for round in 0..24 {
         let _ = fs::remove_dir_all(folder.at("parts"));
         let signal = [Signal::SIGHUP, Signal::SIGINT, Signal::SIGTERM][round % 3];
         let mut child = start(&folder, CUT);
-        until_there(&mut child, &folder, ".parts.treskibben-new");
+        until_there(&mut child, &folder, &["parts", ".parts.treskibben-new"]);
         sleep(Duration::from_micros(rng.below(within + 1) as u64));
         let _ = kill(Pid::from_raw(child.id() as i32), signal);
         let output = child.wait_with_output().unwrap();
@@ -151,7 +153,7 @@ fn cut_under_nohup() {
     let mut command = folder.shell("trap '' HUP");
     let command = command.args(CUT.split(' ')).stdout(Stdio::null());
     let mut child = command.spawn().unwrap();
-    until_there(&mut child, &folder, ".parts.treskibben-new");
+    until_there(&mut child, &folder, &["parts", ".parts.treskibben-new"]);
     let _ = kill(Pid::from_raw(child.id() as i32), Signal::SIGHUP);
     assert_eq!(child.wait().unwrap().code(), Some(0));
     assert!(whole(&folder, "parts"));

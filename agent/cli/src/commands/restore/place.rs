@@ -46,6 +46,10 @@ impl<'a> Target<'a> {
             return Err(Trouble::Usage(why.to_string()));
         }
         is_free(output).map_err(|error| Trouble::file(output, CANNOT_BE_WRITTEN, error))?;
+        if !arguments.again {
+            // A receipt that stands there is replaced; what is none is somebody's file.
+            receipt::beside(output)?;
+        }
         let file = files::open(image)?;
         let metadata = file.metadata().ok().filter(|there| there.is_file());
         let old = Old {

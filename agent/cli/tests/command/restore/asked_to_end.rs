@@ -29,7 +29,7 @@ fn asked_to_end_at_any_moment() {
         let within = if asked / 3 % 3 == 0 {
             long
         } else {
-            until_there(&mut child, &folder, BESIDE);
+            until_there(&mut child, &folder, &[BESIDE]);
             long / 2
         };
         sleep(Duration::from_micros(rng.below(within + 1) as u64));

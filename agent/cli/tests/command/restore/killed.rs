@@ -85,7 +85,7 @@ fn killed_at_any_moment() {
         let within = match kill % 2 {
             0 => long.as_micros() * 5 / 4,
             _ => {
-                until_there(&mut child, &folder, BESIDE);
+                until_there(&mut child, &folder, &[BESIDE]);
                 long.as_micros() / 8
             }
         };
@@ -134,7 +134,7 @@ fn killed_while_it_writes_a_new_file() {
         let mut command = folder.command();
         let command = row.inputs(&mut command).args(["--output", "new"]);
         let mut child = command.stdout(Stdio::null()).spawn().unwrap();
-        until_there(&mut child, &folder, ".new.treskibben-new");
+        until_there(&mut child, &folder, &[".new.treskibben-new"]);
         let within = long.as_micros() / 4;
         sleep(Duration::from_micros(rng.below(within as usize + 1) as u64));
         child.kill().unwrap();

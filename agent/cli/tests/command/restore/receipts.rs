@@ -128,6 +128,11 @@ fn a_receipt_that_is_none() {
     let (row, folder) = (Restore::row_i(), Folder::new());
     row.put(&folder);
     for text in ["", "{}", "[1, 2", "\"image\""] {
+        folder.put("new.receipt.json", text);
+        let mut command = folder.command();
+        let ran = Ran::of(row.inputs(&mut command).args(["--output", "new"]));
+        ran.failed("new.receipt.json: is no receipt: ", "--again");
+        fs::remove_file(folder.at("new.receipt.json")).unwrap();
         folder.put(RECEIPT, text);
         let ran = Ran::of(row.call(&mut folder.command()));
         ran.failed(&format!("{RECEIPT}: is no receipt: "), "--again");
