@@ -39,7 +39,8 @@ pub fn of_section(path: &Path, section: &[u8], refusal: Refusal) -> Option<Strin
 fn elf(path: &Path) -> String {
     let name = shown(path);
     format!(
-        "it is an ELF file: 'objcopy --dump-section .llvm_stackmaps=FILE {name} /dev/null' writes its section to FILE"
+        "it is an ELF file: \
+         'objcopy --dump-section .llvm_stackmaps=FILE {name} /dev/null' writes its section to FILE"
     )
 }
 

@@ -34,7 +34,12 @@ pub fn without_controls(text: &str) -> String {
 
 /// Adds a character. Escaped are control characters, and those that turn or break a line.
 fn push(text: &mut String, character: char) {
-    let turns = matches!(character, '\u{200e}' | '\u{200f}' | '\u{2028}'..='\u{202e}' | '\u{2066}'..='\u{2069}');
+    let turns = [
+        '\u{200e}'..='\u{200f}',
+        '\u{2028}'..='\u{202e}',
+        '\u{2066}'..='\u{2069}',
+    ];
+    let turns = turns.iter().any(|range| range.contains(&character));
     if character.is_control() || turns {
         text.extend(character.escape_default());
     } else {

@@ -183,12 +183,10 @@ impl<'a> Inputs<'a> {
         }
         match receipt::beside(path)? {
             Some(receipt) if receipt.made(&receipt::digest(image)) => {
-                let why = "the receipt beside it has its digest as that after a restore; --again restores it once more";
-                Err(Trouble::declined(
-                    path,
-                    "it was restored already",
-                    why.to_string(),
-                ))
+                let beside = shown(&receipt::path_of(path));
+                let why =
+                    format!("its SHA-256 is 'after' in {beside}; --again restores it once more");
+                Err(Trouble::declined(path, "it was restored already", why))
             }
             _ => Ok(()),
         }

@@ -163,10 +163,13 @@ fn what_was_found() {
     folder.put("two", [&C[..], &C[..]].concat());
     for (file, number, place, found) in [
         ("few", 1, 0, "it has 5 bytes"),
-        ("elf", 2, 0, "it is an ELF file: 'objcopy --dump-section .llvm_stackmaps=FILE elf /dev/null' writes its section to FILE"),
-        ("cut", 1, 0, "it is an ELF file: 'objcopy --dump-section .llvm_stackmaps=FILE cut /dev/null' writes its section to FILE"),
+        ("elf", 2, 0, "it is an ELF file: \
+             'objcopy --dump-section .llvm_stackmaps=FILE elf /dev/null' writes its section to FILE"),
+        ("cut", 1, 0, "it is an ELF file: \
+             'objcopy --dump-section .llvm_stackmaps=FILE cut /dev/null' writes its section to FILE"),
         ("kind", 6, 56, "it is 0x09"),
-        ("two", 9, 16, "16 bytes from there on: 'treskibben cut' takes apart what a linker put one after the other"),
+        ("two", 9, 16, "16 bytes from there on: \
+             'treskibben cut' takes apart what a linker put one after the other"),
     ] {
         for command in ["check", "list"] {
             let ran = folder.run([command, file]);

@@ -2,6 +2,7 @@
 
 use crate::fixtures::{of_pairs, row_h, rsp};
 use crate::run::{Folder, Ran, PROGRAM};
+use std::path::Path;
 use std::process::{Command, Stdio};
 
 const COMMANDS: [&str; 7] = [
@@ -53,6 +54,15 @@ fn version() {
     folder
         .run(["--version"])
         .done(concat!("treskibben ", env!("CARGO_PKG_VERSION"), "\n"));
+}
+
+/// The command is a workspace of its own, and has the library's version all the same.
+#[test]
+fn the_version_is_the_library_s() {
+    let manifest = Path::new(env!("CARGO_MANIFEST_DIR")).join("../Cargo.toml");
+    let text = std::fs::read_to_string(manifest).unwrap();
+    let own = concat!("version = \"", env!("CARGO_PKG_VERSION"), "\"");
+    assert!(text.lines().any(|line| line == own), "not {own}");
 }
 
 #[test]

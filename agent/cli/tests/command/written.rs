@@ -204,6 +204,28 @@ fn one_file_at_once() {
     }
 }
 
+/// The same of a folder of parts.
+#[test]
+fn one_folder_at_once() {
+    let folder = Folder::new();
+    folder.put("all", C.repeat(PARTS));
+    for _ in 0..5 {
+        let children: Vec<Child> = (0..3).map(|_| start(&folder, CUT)).collect();
+        let mut done = 0;
+        for child in children {
+            let ran = Ran::from(child.wait_with_output().unwrap());
+            match ran.status {
+                Some(0) => done += 1,
+                _ => ran.failed("parts: cannot be made: ", ""),
+            }
+        }
+        assert_eq!(done, 1);
+        assert!(whole(&folder, "parts"));
+        assert_eq!(folder.names(), ["all", "parts"]);
+        fs::remove_dir_all(folder.at("parts")).unwrap();
+    }
+}
+
 /// Names as long as a file's may be.
 #[test]
 fn long_names() {

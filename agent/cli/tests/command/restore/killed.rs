@@ -135,7 +135,7 @@ fn killed_while_it_writes_a_new_file() {
         let command = row.inputs(&mut command).args(["--output", "new"]);
         let mut child = command.stdout(Stdio::null()).spawn().unwrap();
         until_there(&mut child, &folder, &[".new.treskibben-new"]);
-        let within = long.as_micros() / 4;
+        let within = long.as_micros();
         sleep(Duration::from_micros(rng.below(within as usize + 1) as u64));
         child.kill().unwrap();
         child.wait().unwrap();

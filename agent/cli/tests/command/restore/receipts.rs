@@ -86,7 +86,10 @@ fn nor_is_one_that_was_written_as_a_new_file() {
     let (row, folder) = (chain(), Folder::new());
     row.put(&folder);
     let call = |image: &str, output: &str| {
-        let call = format!("restore --section section --image {image} --first 7000 --moves moves --frames frames --output {output}");
+        let call = format!(
+            "restore --section section --image {image} --first 7000 \
+             --moves moves --frames frames --output {output}"
+        );
         folder.run(call.split(' '))
     };
     call("image", "new").done("new: 1 frame moved, 2 pairs\n");
