@@ -54,6 +54,9 @@ pub struct Arguments {
     #[arg(long)]
     in_place: bool,
     /// Restore an image whose receipt tells that it was restored already
+    ///
+    /// So it is from the second call on where a thread's frames stand in several sections, which have
+    /// a call each.
     #[arg(long)]
     again: bool,
     /// Accept a list of no frames, which moves nothing
