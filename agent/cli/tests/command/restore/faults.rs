@@ -4,6 +4,7 @@ use super::{Restore, DONE, FILES, RECEIPT};
 use crate::fixtures::words;
 use crate::run::{is_root, skipped, Folder, Ran, NOBODY, PROGRAM};
 use std::fs::{self, File, Permissions};
+use std::io::{Error, ErrorKind};
 use std::os::unix::fs::{chown, symlink, MetadataExt, PermissionsExt};
 use std::os::unix::process::CommandExt;
 use std::path::Path;
@@ -41,11 +42,16 @@ fn as_a_stranger(row: &Restore) -> Option<(Folder, Command)> {
             chown(folder.at(name), Some(NOBODY), Some(NOBODY)).unwrap();
         }
     }
-    if !probe
-        .arg("--version")
-        .output()
-        .is_ok_and(|ran| ran.status.success())
-    {
+    // A process that another test is just starting may still have the copy open.
+    let busy = |tried: &Result<_, Error>| {
+        let error = tried.as_ref().err();
+        error.is_some_and(|error| error.kind() == ErrorKind::ExecutableFileBusy)
+    };
+    let mut tried = probe.arg("--version").output();
+    while busy(&tried) {
+        tried = probe.output();
+    }
+    if !tried.is_ok_and(|ran| ran.status.success()) {
         skipped("no other user can run the program");
         return None;
     }
