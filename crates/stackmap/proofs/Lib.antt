@@ -12,3 +12,4 @@ pub mod Entries
 pub mod OneWalk
 pub mod Numbers
 pub mod Quick
+pub mod Looks

@@ -3,6 +3,7 @@
 ghost use mathlib.Core.Path.{_≡_};
 ghost use Rattle.stackmap.specs.Check.{sectionCheck};
 
+mod glance;
 pub mod layout;
 mod record;
 pub mod tables;
