@@ -1,0 +1,69 @@
+use Prim.Native.Nat.{ℕ, _+_, _*_, _-_, _/_, _%_, _^_, _≤_, _<_}
+use mathlib.Core.Path.{_≡_, refl, sym}
+use mathlib.Core.Bool.{Bool, true, false, true≢false}
+use native.Mathlib.Omega.{arith}
+use borrow.Author.Tests.{ltb-true}
+use lib.ListN.{length, getD}
+use lib.Bits.{bitOr}
+use Rattle.wire.specs.Word.{Bytes, word}
+use Rattle.glance.specs.Look.{size, Right, Rights, Outs, less, Low}
+use Rattle.glance.proofs.Laws.{inside, eight, least, low-left, low-right, low-each, of-low, of-index, none, join, more, four, three-cover, cover, low-four, outs-none, outs-more}
+use borrow.Author.Needs.{needs}
+use Rattle.glance.proofs.any.Statement.{statement}
+use Rattle.glance.proofs.any.Tie as tie
+
+abbrev Inv-loop : tie.InvT-loop
+Inv-loop s old at count limit done₀ done = (done ≤ count) × Rights old s limit at done
+
+abbrev μ-loop : tie.MeasureT-loop
+μ-loop s old at count limit done₀ done = count - done
+
+loop-holds : tie.Need-loop-holds Inv-loop μ-loop
+loop-holds c = (omega arith, none _ _ _ _)
+
+sub-loop : tie.Need-sub-loop Inv-loop μ-loop
+sub-loop c = search needs
+
+place-requires : tie.Need-place-requires Inv-loop μ-loop
+place-requires c κs = let p = c .before .before .before .pre in let h = eight (c .before .before .before .args .old) (c .before .before .before .args .at) (c .before .loop .done) (c .before .before .before .args .count) _ (omega arith) p in search needs
+
+any-four-requires : tie.Need-any-four-requires Inv-loop μ-loop
+any-four-requires c κs = let p = c .before .before .before .before .pre in let h = inside (c .before .before .before .before .args .old) (c .before .before .before .before .args .at) (c .before .before .loop .done) 4 (c .before .before .before .before .args .count) _ (omega arith) p in omega (arith, c .place .ensures)
+
+add-done : tie.Need-add-done Inv-loop μ-loop
+add-done c = search needs
+
+loop-less : tie.Need-loop-less Inv-loop μ-loop
+loop-less c = search needs
+
+loop-again : tie.Need-loop-again Inv-loop μ-loop
+loop-again c =
+    let a = c .before .before .before .before .before .before .args in
+    let l = c .before .before .before .before .loop in
+    (omega arith, join (a .old) (a .s .now) (a .limit) (a .at) (l .done) (l .done) 4 (omega arith) (l .inv .1) (rw (c .before .before .place .ensures) at (c .before .any-four .ensures (c .if1 .taken))))
+
+returns : tie.Need-returns Inv-loop μ-loop
+returns c = λ h. absurd (true≢false (sym h))
+
+rest-requires : tie.Need-rest-requires Inv-loop μ-loop
+rest-requires c κs = (c .before .before .before .pre, c .before .loop .inv .0)
+
+returns-2 : tie.Need-returns-2 Inv-loop μ-loop
+returns-2 c = λ h. c .rest .ensures h (c .before .before .loop .inv .1)
+
+pub any-spec : {M : Type 1} → statement M
+any-spec =
+    tie.close
+    (tie.spec
+    Inv-loop
+    μ-loop
+    loop-holds
+    sub-loop
+    place-requires
+    any-four-requires
+    add-done
+    loop-less
+    loop-again
+    returns
+    rest-requires
+    returns-2)

@@ -1,0 +1,25 @@
+use Prim.Native.Nat.{ℕ, _+_, _*_, _-_, _/_, _%_, _^_, _≤_, _<_}
+use mathlib.Core.Path.{_≡_, refl, sym}
+use mathlib.Core.Bool.{Bool, true, false, true≢false}
+use native.Mathlib.Omega.{arith}
+use borrow.Author.Tests.{ltb-true}
+use lib.ListN.{length, getD}
+use lib.Bits.{bitOr}
+use Rattle.wire.specs.Word.{Bytes, word}
+use Rattle.glance.specs.Look.{size, Right, Rights, Outs, less, Low}
+use Rattle.glance.proofs.Laws.{inside, eight, least, low-left, low-right, low-each, of-low, of-index, none, join, more, four, three-cover, cover, low-four, outs-none, outs-more}
+use borrow.Author.Needs.{needs}
+use Rattle.glance.proofs.low.Statement.{statement}
+use Rattle.glance.proofs.low.Tie as tie
+
+returns : tie.Need-returns
+returns c = λ h. rw (c .if1 .taken) (record { high = λ q. absurd (true≢false q); low = ltb-true _ _ h })
+
+returns-2 : tie.Need-returns-2
+returns-2 c = λ h. rw (c .before .if1 .left) (record { high = λ q. omega arith; low = ltb-true _ _ h })
+
+returns-3 : tie.Need-returns-3
+returns-3 c = λ h. absurd (true≢false (sym h))
+
+pub low-spec : {M : Type 1} → statement M
+low-spec = tie.close (tie.spec returns returns-2 returns-3)

@@ -1,0 +1,34 @@
+use Prim.Native.Nat.{ℕ, _+_, _*_, _-_, _/_, _%_, _^_, _≤_, _<_}
+use mathlib.Core.Path.{_≡_, refl, sym}
+use mathlib.Core.Bool.{Bool, true, false, true≢false}
+use native.Mathlib.Omega.{arith}
+use borrow.Author.Tests.{ltb-true}
+use lib.ListN.{length, getD}
+use lib.Bits.{bitOr}
+use Rattle.wire.specs.Word.{Bytes, word}
+use Rattle.glance.specs.Look.{size, Right, Rights, Outs, less, Low}
+use Rattle.glance.proofs.Laws.{inside, eight, least, low-left, low-right, low-each, of-low, of-index, none, join, more, four, three-cover, cover, low-four, outs-none, outs-more}
+use borrow.Author.Needs.{needs}
+use Rattle.glance.proofs.place.Statement.{statement}
+use Rattle.glance.proofs.place.Tie as tie
+
+mul-result : tie.Need-mul-result
+mul-result c = let h = rw (c .if1 .taken) at (c .before .pre) in omega arith
+
+add-result : tie.Need-add-result
+add-result c = let h = rw (c .if1 .taken) at (c .before .pre) in omega arith
+
+returns : tie.Need-returns
+returns c = rw (c .if1 .taken)
+
+mul-result-2 : tie.Need-mul-result-2
+mul-result-2 c = let h = rw (c .if1 .left) at (c .before .pre) in omega arith
+
+add-result-2 : tie.Need-add-result-2
+add-result-2 c = let h = rw (c .if1 .left) at (c .before .pre) in omega arith
+
+returns-2 : tie.Need-returns-2
+returns-2 c = rw (c .if1 .left)
+
+pub place-spec : {M : Type 1} → statement M
+place-spec = tie.close (tie.spec mul-result add-result returns mul-result-2 add-result-2 returns-2)
