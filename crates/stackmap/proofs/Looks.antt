@@ -1,136 +1,150 @@
--- What a quick look at a record of version 3 tells.
-use Prim.Native.Nat.{ℕ, zero, suc, _+_, _*_, _-_, _%_, _^_, _≤_, _<_}
-use mathlib.Core.Path.{_≡_, refl, sym, _∙_}
+-- A record that a quick look finds right is valid.
+use Prim.Native.Nat.{ℕ, zero, suc, _+_, _*_, _-_, _^_, _≤_, _<_}
+use mathlib.Core.Path.{_≡_, refl, ap, sym, _∙_}
 use mathlib.Core.Bool.{Bool, true, false}
 use mathlib.Core.List.{List}
 use native.Mathlib.Omega.{arith}
-use borrow.Author.Tests.{le-leb}
-use lib.ListN.{length}
-use lib.Dec.{leb}
-use lib.Bits.{bitOr, bitAnd, or-add-and, and-le-l, and-le-r, or-mod}
-use Rattle.wire.specs.Word.{Bytes, word}
+use borrow.Author.Tests.{lt-ltb, le-leb, eq-eqb, eqb-true}
+use lib.ListN.{length, getD}
+use lib.Dec.{eqb}
+use Rattle.wire.specs.Word.{word}
 use Rattle.wire.proofs.Laws.{word-add}
+use Rattle.glance.specs.Look.{size, Right, Rights, Outs}
 use Rattle.stackmap.specs.declared.Verdict.the-variants.{Valid}
-use Rattle.stackmap.specs.Layout.{liveOutsPadding}
-use Rattle.stackmap.specs.Verdict.{must, chain}
-use Rattle.stackmap.specs.Section.{numLocations, recordLength}
-use Rattle.stackmap.specs.Record.{zeros, locationCheck, locations, liveOuts, recordInside, recordBytes, recordCheck}
-use Rattle.stackmap.specs.Walk.{Four, Low}
+use Rattle.stackmap.specs.Layout.{locationSize, locationsPadding}
+use Rattle.stackmap.specs.Verdict.{must, chain, pick}
+use Rattle.stackmap.specs.Section.{numLocations, locationsEnd, recordLength}
+use Rattle.stackmap.specs.Record.{zeros, locationZeros, poolCheck, locationCheck, locations, liveOuts, recordInside, recordBytes, recordCheck}
+use Rattle.stackmap.specs.Quick.{Ending}
 use Rattle.stackmap.proofs.Items.{zeros-back}
-use Rattle.stackmap.proofs.Steps.{locations-step}
-use Rattle.stackmap.proofs.Quick.{plain-new}
 
--- where the bits of two numbers together are low, each number is
-or-left : (x y : ℕ) → x ≤ bitOr x y
-or-left x y = let a = or-add-and x y in let b = and-le-r x y in omega arith
+-- the size of a location, as the quick look names it
+pub same-size : (old : Bool) → size old ≡ locationSize old
+same-size true = refl
+same-size false = refl
 
-or-right : (x y : ℕ) → y ≤ bitOr x y
-or-right x y = let a = or-add-and x y in let b = and-le-l x y in omega arith
+one-byte : (s : List ℕ) (at : ℕ) → word 1 s at ≡ getD s at 0
+unfolding word
+one-byte s at = omega arith
 
-pub low-left : (x y : ℕ) → Low (bitOr x y) → Low x
-low-left x y h =
-    let e = or-mod x y 16 in
-    let f = or-left (x % 2 ^ 16) (y % 2 ^ 16) in
-    let g = or-left x y in
-    let i = h .high in
-    let j = h .low in
-    record { high = omega arith; low = omega arith }
+two-bytes : (s : List ℕ) (at : ℕ) → word 2 s at ≡ getD s at 0 + 256 * getD s (at + 1) 0
+unfolding word
+two-bytes s at = omega arith
 
-pub low-right : (x y : ℕ) → Low (bitOr x y) → Low y
-low-right x y h =
-    let e = or-mod x y 16 in
-    let f = or-right (x % 2 ^ 16) (y % 2 ^ 16) in
-    let g = or-right x y in
-    let i = h .high in
-    let j = h .low in
-    record { high = omega arith; low = omega arith }
+-- Locations, where an index below `limit` is right.
 
--- eight bytes of which one less is low
-pub low-plain : (s : List ℕ) (c at v : ℕ) → Bytes s → (v + 1) % 2 ^ 64 ≡ word 8 s at → Low v → locationCheck false s c at ≡ Valid (at + 12)
-low-plain s c at v b e h =
-    let i = h .high in
-    let j = h .low in
-    let w : word 8 s at ≡ v + 1 = omega arith in
-    let m : word 8 s at % 2 ^ 16 ≡ v % 2 ^ 16 + 1 = omega arith in
-    plain-new s c at b (omega arith) (rw (le-leb 1 (word 8 s at % 2 ^ 16) (omega arith), le-leb (word 8 s at % 2 ^ 16) 4 (omega arith)))
+module _ (c limit : ℕ) (few : limit ≤ c) (small : limit ≤ 2 ^ 31) where
+  pool-right : (kind offset at end : ℕ) → (kind ≡ 5 → offset < limit) → poolCheck kind offset c at end ≡ Valid end
+  unfolding poolCheck must pick
+  pool-right kind offset at end h = go (eqb kind 5) refl
+    where
+      go : (t : Bool) → eqb kind 5 ≡ t → poolCheck kind offset c at end ≡ Valid end
+      go true e = let q = h (eqb-true kind 5 e) in rw (e, lt-ltb offset (2 ^ 31) (omega arith), lt-ltb offset c (omega arith))
+      go false e = rw e
 
--- locations that are right are passed over
-pub none : (s : List ℕ) (c at : ℕ) → locations false 0 s c at ≡ Valid at
-unfolding locations
-none s c at = refl
+  right : (old : Bool) (s : List ℕ) (at : ℕ) → Right old s limit at → locationCheck old s c at ≡ Valid (at + locationSize old)
+  unfolding locationCheck locationZeros must
+  right true s at r =
+      let o = one-byte s at in
+      let l = r .least in
+      let m = r .most in
+      let z : at + 8 - 4 ≡ at + 4 = omega arith in
+      rw (
+        le-leb 1 (getD s at 0) (omega arith),
+        le-leb (getD s at 0) 5 (omega arith),
+        pool-right (getD s at 0) (word 4 s (at + 4)) at (at + 8) (λ q. rw z at (r .pool (omega arith))),
+      )
+  right false s at r =
+      let o = two-bytes s at in
+      let l = r .least in
+      let m = r .most in
+      let w = r .zeros refl in
+      let u = two-bytes s (at + 6) in
+      let p : at + 6 + 1 ≡ at + 7 = omega arith in
+      let z : at + 12 - 4 ≡ at + 8 = omega arith in
+      let z₆ : getD s (at + 6) 0 ≡ 0 = omega arith in
+      let z₇ : getD s (at + 7) 0 ≡ 0 = rw (← p) (omega arith) in
+      rw (
+        le-leb 1 (getD s at 0) (omega arith),
+        le-leb (getD s at 0) 5 (omega arith),
+        eq-eqb (getD s (at + 1) 0) 0 (omega arith),
+        eq-eqb (getD s (at + 6) 0) 0 z₆,
+        eq-eqb (getD s (at + 7) 0) 0 z₇,
+        pool-right (getD s at 0) (word 4 s (at + 8)) at (at + 12) (λ q. rw z at (r .pool (omega arith))),
+      )
 
-pub one-step : (n : ℕ) (s : List ℕ) (c at next : ℕ) → 0 < n → next ≡ at + 12 → locationCheck false s c at ≡ Valid next
-    → locations false n s c at ≡ locations false (n - 1) s c next
-unfolding chain
-one-step n s c at next h e t = locations-step false n s c at h ∙ rw (t, e)
+  -- the first of them, and those after it
+  first : (old : Bool) (n : ℕ) (s : List ℕ) (at : ℕ) → Rights old s limit at (suc n) → Right old s limit at
+  first old n s at r = let e : at + size old * 0 ≡ at = omega arith in rw e at (r .each 0 (omega arith))
 
-module _ (s : List ℕ) (c at : ℕ) (f : Four s c at) where
-  pub four-step : (n : ℕ) → 3 < n → locations false n s c at ≡ locations false (n - 4) s c (at + 48)
-  four-step n h =
-      let z : n - 1 - 1 - 1 - 1 ≡ n - 4 = omega arith in
-      one-step n s c at (at + 12) (omega arith) (omega arith) (f .first)
-      ∙ one-step (n - 1) s c (at + 12) (at + 24) (omega arith) (omega arith) (f .second)
-      ∙ one-step (n - 1 - 1) s c (at + 24) (at + 36) (omega arith) (omega arith) (f .third)
-      ∙ one-step (n - 1 - 1 - 1) s c (at + 36) (at + 48) (omega arith) (omega arith) (f .fourth)
-      ∙ rw z
+  after : (old : Bool) (n : ℕ) (s : List ℕ) (at : ℕ) → Rights old s limit at (suc n) → Rights old s limit (at + size old) n
+  after old n s at r =
+      record {
+        each = λ i h. let e : at + size old * suc i ≡ at + size old + size old * i = omega arith in rw e at (r .each (suc i) (omega arith));
+      }
 
-  last-one : locations false 1 s c (at + 36) ≡ Valid (at + 48)
-  last-one = one-step 1 s c (at + 36) (at + 48) (omega arith) (omega arith) (f .fourth) ∙ none s c (at + 48)
+  pub all-right : (old : Bool) (n : ℕ) (s : List ℕ) (at : ℕ) → Rights old s limit at n → locations old n s c at ≡ Valid (at + locationSize old * n)
+  unfolding locations chain
+  all-right old zero s at r = ap Valid (omega arith)
+  all-right old (suc n) s at r =
+      let e : at + locationSize old + locationSize old * n ≡ at + locationSize old * suc n = omega arith in
+      rw (right old s at (first old n s at r), ← e) (all-right old n s (at + locationSize old) (rw same-size at (after old n s at r)))
 
-  last-two : locations false 2 s c (at + 24) ≡ Valid (at + 48)
-  last-two = one-step 2 s c (at + 24) (at + 36) (omega arith) (omega arith) (f .third) ∙ last-one
+-- Live-outs.
 
-  last-three : locations false 3 s c (at + 12) ≡ Valid (at + 48)
-  last-three = one-step 3 s c (at + 12) (at + 24) (omega arith) (omega arith) (f .second) ∙ last-two
+after-out : (n : ℕ) (s : List ℕ) (at : ℕ) → Outs s at (suc n) → Outs s (at + 4) n
+after-out n s at o =
+    record {
+      each = λ i h. let e : at + 4 * suc i + 2 ≡ at + 4 + 4 * i + 2 = omega arith in rw e at (o .each (suc i) (omega arith));
+    }
 
-  last-four : locations false 4 s c at ≡ Valid (at + 48)
-  last-four = one-step 4 s c at (at + 12) (omega arith) (omega arith) (f .first) ∙ last-three
+outs-right : (n : ℕ) (s : List ℕ) (at : ℕ) → Outs s at n → liveOuts n s at ≡ Valid (at + 4 * n)
+unfolding liveOuts must
+outs-right zero s at o = ap Valid (omega arith)
+outs-right (suc n) s at o =
+    let p : at + 4 * 0 + 2 ≡ at + 2 = omega arith in
+    let z : getD s (at + 2) 0 ≡ 0 = rw p at (o .each 0 (omega arith)) in
+    let e : at + 4 + 4 * n ≡ at + 4 * suc n = omega arith in
+    rw (eq-eqb (getD s (at + 2) 0) 0 z, ← e) (outs-right n s (at + 4) (after-out n s at o))
 
-  -- the last of these four, from p
-  pub last-of-four : (n p : ℕ) → 0 < n → n ≤ 4 → p + 12 * n ≡ at + 48 → locations false n s c p ≡ Valid (at + 48)
-  last-of-four zero p h k e = absurd (omega arith)
-  last-of-four (suc zero) p h k e = let q : p ≡ at + 36 = omega arith in rw q last-one
-  last-of-four (suc (suc zero)) p h k e = let q : p ≡ at + 24 = omega arith in rw q last-two
-  last-of-four (suc (suc (suc zero))) p h k e = let q : p ≡ at + 12 = omega arith in rw q last-three
-  last-of-four (suc (suc (suc (suc zero)))) p h k e = let q : p ≡ at = omega arith in rw q last-four
-  last-of-four (suc (suc (suc (suc (suc n))))) p h k e = absurd (omega arith)
+-- eight zero bytes after the locations: no live-outs
+pub no-outs : (s : List ℕ) (end : ℕ) → end + 8 ≤ length s → word 8 s end ≡ 0 → Ending s end (end + 8)
+no-outs s end h z =
+    let x = word-add 2 6 s end in
+    let y = word-add 2 4 s (end + 2) in
+    let p : end + 2 + 2 ≡ end + 4 = omega arith in
+    let w = rw p at y in
+    let n : word 2 s (end + 2) ≡ 0 = omega arith in
+    let q : end + 4 + 4 * 0 ≡ end + 4 = omega arith in
+    record {
+      zeros = omega arith;
+      outs = rw n (record { each = λ i k. absurd (omega arith) });
+      padding = rw (n, q) (omega arith);
+      ends = rw n (omega arith);
+      inside = h;
+    }
 
--- the padding, and the two bytes after it
-padded : (k : ℕ) (s : List ℕ) (at : ℕ) → k < 2 → word 4 s at ≡ 0 → word 2 s (at + k * 4) ≡ 0 → word (k * 4 + 2) s at ≡ 0
-padded zero s at h a b = let e : at + 0 ≡ at = omega arith in rw e at b
-padded (suc zero) s at h a b = omega (arith, word-add 4 2 s at)
-padded (suc (suc k)) s at h a b = absurd (omega arith)
+-- A whole record.
 
--- a record without live-outs, whose locations are right
-module _ (s : List ℕ) (c a n end : ℕ) (counts : n ≡ word 2 s 14) (ends : end ≡ 16 + 12 * n + n % 2 * 4) (inside : end + 8 ≤ length s) (after : word 8 s end ≡ 0) where
-  outs : (word 2 s end ≡ 0) × (word 2 s (end + 2) ≡ 0) × (word 4 s (end + 4) ≡ 0)
-  outs =
-      let x = word-add 2 6 s end in
-      let y = word-add 2 4 s (end + 2) in
-      let p : end + 2 + 2 ≡ end + 4 = omega arith in
-      let z = rw p at y in
-      (omega arith, omega arith, omega arith)
+padded : (p : ℕ) (s : List ℕ) (at : ℕ) → word p s at ≡ 0 → word 2 s (at + p) ≡ 0 → word (p + 2) s at ≡ 0
+padded p s at h k = word-add p 2 s at ∙ rw (h, k) (omega arith)
 
-  long : recordLength false s ≡ end + 8
+module _ (old : Bool) (s : List ℕ) (c a next : ℕ) (ending : Ending s (locationsEnd old s) next) where
+  long : recordLength old s ≡ next
   unfolding recordLength
-  long = rw (← counts, ← ends, outs .1) (omega arith)
+  long = sym (ending .ends)
 
-  pub whole : word 4 s (16 + 12 * n) ≡ 0 → word 2 s 12 ≡ 0 → a + word 4 s 8 ≤ 2 ^ 64 - 1 → locations false n s c 16 ≡ Valid (16 + 12 * n)
-      → recordCheck false s c a ≡ Valid (end + 8)
-  unfolding recordCheck recordInside recordBytes liveOuts chain must
-  whole pad flags small right =
-      let u : word 2 s (16 + 12 * n + n % 2 * 4) ≡ 0 = rw (← ends) (outs .0) in
-      let none-left : end + 4 + 0 ≡ end + 4 = omega arith in
+  pub whole : word 2 s 12 ≡ 0 → a + word 4 s 8 ≤ 2 ^ 64 - 1 → locations old (numLocations s) s c 16 ≡ Valid (16 + locationSize old * numLocations s)
+      → word (locationsPadding old (numLocations s)) s (16 + locationSize old * numLocations s) ≡ 0 → recordCheck old s c a ≡ Valid next
+  unfolding recordCheck recordInside recordBytes chain must
+  whole flags reach right pad =
       rw (
         long,
-        le-leb _ _ inside,
-        le-leb _ _ small,
+        le-leb _ _ (ending .inside),
+        le-leb _ _ reach,
         zeros-back 2 s 12 flags,
-        ← counts,
         right,
-        zeros-back (n % 2 * 4 + 2) s (16 + 12 * n) (padded (n % 2) s (16 + 12 * n) (omega arith) pad u),
-        ← ends,
-        outs .1,
-        none-left,
-        zeros-back 4 s (end + 4) (outs .2),
+        zeros-back (locationsPadding old (numLocations s) + 2) s (16 + locationSize old * numLocations s) (padded (locationsPadding old (numLocations s)) s _ pad (ending .zeros)),
+        outs-right _ s _ (ending .outs),
+        zeros-back _ s _ (ending .padding),
       )

@@ -1,14 +1,12 @@
--- Where a walk over the records stands among the functions, and what a look at two locations tells.
-use Prim.Native.Nat.{ℕ, _+_, _*_, _-_, _%_, _^_, _≤_, _<_}
+-- Where a walk over the records stands among the functions.
+use Prim.Native.Nat.{ℕ, _+_, _*_, _-_, _≤_, _<_}
 use mathlib.Core.Path.{_≡_}
 use mathlib.Core.Bool.{Bool, true, false}
 use mathlib.Core.List.{List, [], _++_}
 use lib.ListN.{length, drop, replicate}
-use Rattle.stackmap.specs.declared.Verdict.the-variants.{Valid}
-use Rattle.stackmap.specs.Layout.{headerSize, functionSize, locationSize}
+use Rattle.stackmap.specs.Layout.{headerSize, functionSize}
 use Rattle.stackmap.specs.Fields.{many}
 use Rattle.stackmap.specs.Section.{numFunctions, numRecords, isOld, constantsAt, readFunction, readFunctions, readRecord, Owner, nobody, owners, counted, Entry}
-use Rattle.stackmap.specs.Record.{locationCheck}
 
 -- the first byte of function number i
 abbrev pub functionAt : Bool → ℕ → ℕ
@@ -38,23 +36,6 @@ ahead s next left = replicate left (ownerAt s (next - 1)) ++ laterOwners (isOld 
 pub record Turning (s : List ℕ) (next left : ℕ) : Type 0 where
   pub most : isOld s ≡ false → next ≤ numFunctions s
   pub begun : 0 < left → 0 < next
-
--- the two locations from `at` are right
-pub record Two (old : Bool) (s : List ℕ) (constants at : ℕ) : Type 0 where
-  pub first : locationCheck old s constants at ≡ Valid (at + locationSize old)
-  pub second : locationCheck old s constants (at + locationSize old) ≡ Valid (at + locationSize old + locationSize old)
-
--- the four locations of version 3 from `at` are right
-pub record Four (s : List ℕ) (constants at : ℕ) : Type 0 where
-  pub first : locationCheck false s constants at ≡ Valid (at + 12)
-  pub second : locationCheck false s constants (at + 12) ≡ Valid (at + 24)
-  pub third : locationCheck false s constants (at + 24) ≡ Valid (at + 36)
-  pub fourth : locationCheck false s constants (at + 36) ≡ Valid (at + 48)
-
--- of eight bytes the last two are zero, and the first two below 4
-pub record Low (v : ℕ) : Type 0 where
-  pub high : v < 2 ^ 48
-  pub low : v % 2 ^ 16 < 4
 
 -- what the walk over a section relies on: the functions are inside, and their record counts add up
 pub record Walkable (s : List ℕ) : Type 0 where

@@ -3,8 +3,8 @@
 ghost use mathlib.Core.Path.{_≡_};
 ghost use Rattle.stackmap.specs.Check.{sectionCheck};
 
-mod glance;
 pub mod layout;
+mod quick;
 mod record;
 pub mod tables;
 pub mod walk;

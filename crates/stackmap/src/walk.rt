@@ -10,8 +10,8 @@ ghost use Rattle.stackmap.specs.Record.{recordCheck};
 ghost use Rattle.stackmap.specs.Check.{recordsCheck};
 ghost use Rattle.stackmap.specs.Walk.{ahead, ownerAt, Turning, Walkable};
 use crate::Verdict;
-use crate::glance;
 use crate::layout;
+use crate::quick;
 use crate::record;
 use crate::tables;
 
@@ -66,26 +66,7 @@ pub fn record_at(s: &[u8], old: bool, constants: u32, function: usize, at: usize
     ensures { λ r. ⌜ r ≡ shift at (recordCheck (isOld (now (s .entry))) (drop at (now (s .entry))) constants (ownerAt (now (s .entry)) function .function .address)) ⌝ }
 {
     let address = owner_address(s, old, function);
-    if old {
-        return exact_at(s, old, constants, address, at);
-    }
-    let size = glance::record(&s[at..], address);
-    if size > 0 {
-        return Verdict::Valid(at + size);
-    }
-    exact_at(s, old, constants, address, at)
-}
-
-// `record_at` for `all_records` alone: what has one caller is compiled into it, and the place stays in a register.
-fn next_record(s: &[u8], old: bool, constants: u32, function: usize, at: usize) -> Verdict
-    requires { ⌜ (old ≡ isOld (now s)) × (constantsAt (now s) ≤ length (now s)) × (isOld (now s) ≡ false → function < numFunctions (now s)) × (at ≤ length (now s)) ⌝ }
-    ensures { λ r. ⌜ r ≡ shift at (recordCheck (isOld (now (s .entry))) (drop at (now (s .entry))) constants (ownerAt (now (s .entry)) function .function .address)) ⌝ }
-{
-    let address = owner_address(s, old, function);
-    if old {
-        return exact_at(s, old, constants, address, at);
-    }
-    let size = glance::record(&s[at..], address);
+    let size = quick::record(&s[at..], old, constants, address);
     if size > 0 {
         return Verdict::Valid(at + size);
     }
@@ -120,7 +101,7 @@ pub fn all_records(s: &[u8], at: usize) -> Verdict
     while remaining > 0 {
         let t = owner(s, turn);
         let next = t.next;
-        match next_record(s, old, constants, next - 1, p) {
+        match record_at(s, old, constants, next - 1, p) {
             Verdict::Refused(n, q) => return Verdict::Refused(n, q),
             Verdict::Valid(end) => {
                 p = end;

@@ -7,8 +7,8 @@ use lib.ListN.{length}
 use Rattle.stackmap.specs.Record.{zeros}
 use Rattle.stackmap.specs.Verdict.{must}
 use Rattle.stackmap.proofs.Steps.{zeros-step}
-use Rattle.stackmap.proofs.record.each_zero.Statement.{statement}
-use Rattle.stackmap.proofs.record.each_zero.Tie as tie
+use Rattle.stackmap.proofs.record.zero_bytes.Statement.{statement}
+use Rattle.stackmap.proofs.record.zero_bytes.Tie as tie
 
 abbrev Inv-loop : tie.InvT-loop
 Inv-loop s at count p₀ left₀ p left = (p + left ≤ length s) × (zeros count s at ≡ zeros left s p)
@@ -49,8 +49,8 @@ returns-2 c =
     let none : c .before .loop .left ≡ 0 = omega arith in
     rw (c .before .loop .inv .1, none)
 
-pub each-zero-spec : {M : Type 1} → statement M
-each-zero-spec =
+pub zero-bytes-spec : {M : Type 1} → statement M
+zero-bytes-spec =
     tie.close
     (tie.spec
     Inv-loop

@@ -1,9 +1,7 @@
 -- A quick look, and where it says nothing the exact check.
-use Prim.Native.Nat.{_-_}
 use mathlib.Core.Path.{_≡_}
-use mathlib.Core.Bool.{false}
 use native.Mathlib.Omega.{arith}
-use lib.ListN.{length, drop, length-drop}
+use lib.ListN.{drop, length-drop}
 use Rattle.stackmap.specs.declared.Verdict.the-variants.{Valid}
 use Rattle.stackmap.specs.Verdict.{shift}
 use Rattle.stackmap.specs.Record.{recordCheck}
@@ -14,12 +12,6 @@ use Rattle.stackmap.proofs.walk.record_at.Tie as tie
 
 owner-address-requires : tie.Need-owner-address-requires
 owner-address-requires c κs = (c .before .pre .0, c .before .pre .1, c .before .pre .2)
-
-exact-at-requires : tie.Need-exact-at-requires
-exact-at-requires c κs = search needs
-
-returns : tie.Need-returns
-returns c = rw (← c .before .before .owner-address .ensures, ← c .before .before .before .before .pre .0) (c .exact-at .ensures)
 
 sub-record : tie.Need-sub-record
 sub-record c = search needs
@@ -35,25 +27,26 @@ record-requires c κs = let h = c .record-arg .given in search needs
 
 -- what the look says of the list from `at` on
 answer :
-    (c : tie.Then2) →
-    recordCheck false (drop (c .before .before .before .before .before .before .args .at) (c .before .before .before .before .before .before .args .s .now)) (c .before .before .before .before .before .before .args .constants) (c .before .before .before .before .owner-address .result)
+    (c : tie.Then1) →
+    recordCheck (c .before .before .before .before .before .args .old) (drop (c .before .before .before .before .before .args .at) (c .before .before .before .before .before .args .s .now)) (c .before .before .before .before .before .args .constants) (c .before .before .before .owner-address .result)
     ≡ Valid (c .before .«record» .result)
-answer c = rw part-from at (c .before .«record» .ensures (c .if2 .taken) (c .before .before .before .before .before .before .args .constants))
+answer c = rw part-from at (c .before .«record» .ensures (c .if1 .taken))
 
 add-t13 : tie.Need-add-t13
 add-t13 c =
-    let w = (rw (answer c, length-drop) at (record-within false (drop (c .before .before .before .before .before .before .args .at) (c .before .before .before .before .before .before .args .s .now)) (c .before .before .before .before .before .before .args .constants) (c .before .before .before .before .owner-address .result))) .most in
+    let a = c .before .before .before .before .before .args in
+    let w = (rw (answer c, length-drop) at (record-within (a .old) (drop (a .at) (a .s .now)) (a .constants) (c .before .before .before .owner-address .result))) .most in
     omega arith
 
-returns-2 : tie.Need-returns-2
+returns : tie.Need-returns
 unfolding shift
-returns-2 c = rw (← c .before .before .before .before .owner-address .ensures, ← c .before .before .before .before .before .before .pre .0, c .before .before .before .if1 .left, answer c)
+returns c = rw (← c .before .before .before .owner-address .ensures, ← c .before .before .before .before .before .pre .0, answer c)
 
-exact-at-requires-2 : tie.Need-exact-at-requires-2
-exact-at-requires-2 c κs = search needs
+exact-at-requires : tie.Need-exact-at-requires
+exact-at-requires c κs = search needs
 
-returns-3 : tie.Need-returns-3
-returns-3 c = rw (← c .before .before .before .before .before .owner-address .ensures, ← c .before .before .before .before .before .before .before .pre .0) (c .exact-at2 .ensures)
+returns-2 : tie.Need-returns-2
+returns-2 c = rw (← c .before .before .before .before .owner-address .ensures, ← c .before .before .before .before .before .before .pre .0) (c .exact-at .ensures)
 
 pub record-at-spec : {M : Type 1} → statement M
-record-at-spec = tie.close (tie.spec owner-address-requires exact-at-requires returns sub-record part-record-start part-record-end record-requires add-t13 returns-2 exact-at-requires-2 returns-3)
+record-at-spec = tie.close (tie.spec owner-address-requires sub-record part-record-start part-record-end record-requires add-t13 returns exact-at-requires returns-2)
