@@ -1,13 +1,9 @@
-use Prim.Native.Nat.{ℕ, _+_, _*_, _-_, _/_, _%_, _^_, _≤_, _<_}
-use mathlib.Core.Path.{_≡_, refl, sym}
-use mathlib.Core.Bool.{Bool, true, false, true≢false}
+use Prim.Native.Nat.{_-_, _≤_}
+use mathlib.Core.Path.{sym}
+use mathlib.Core.Bool.{false, true≢false}
 use native.Mathlib.Omega.{arith}
-use borrow.Author.Tests.{ltb-true}
-use lib.ListN.{length, getD}
-use lib.Bits.{bitOr}
-use Rattle.wire.specs.Word.{Bytes, word}
-use Rattle.glance.specs.Look.{size, Right, Rights, Outs, less, Low}
-use Rattle.glance.proofs.Laws.{inside, eight, least, low-left, low-right, low-each, of-low, of-index, none, join, more, four, three-cover, cover, low-four, outs-none, outs-more}
+use Rattle.glance.specs.Look.{Rights}
+use Rattle.glance.proofs.Laws.{inside, eight, none, join}
 use borrow.Author.Needs.{needs}
 use Rattle.glance.proofs.any.Statement.{statement}
 use Rattle.glance.proofs.any.Tie as tie
@@ -25,10 +21,18 @@ sub-loop : tie.Need-sub-loop Inv-loop μ-loop
 sub-loop c = search needs
 
 place-requires : tie.Need-place-requires Inv-loop μ-loop
-place-requires c κs = let p = c .before .before .before .pre in let h = eight (c .before .before .before .args .old) (c .before .before .before .args .at) (c .before .loop .done) (c .before .before .before .args .count) _ (omega arith) p in search needs
+place-requires c κs =
+    let a = c .before .before .before .args in
+    let p = c .before .before .before .pre in
+    let h = eight (a .old) (a .at) (c .before .loop .done) (a .count) _ (omega arith) p in
+    search needs
 
 any-four-requires : tie.Need-any-four-requires Inv-loop μ-loop
-any-four-requires c κs = let p = c .before .before .before .before .pre in let h = inside (c .before .before .before .before .args .old) (c .before .before .before .before .args .at) (c .before .before .loop .done) 4 (c .before .before .before .before .args .count) _ (omega arith) p in omega (arith, c .place .ensures)
+any-four-requires c κs =
+    let a = c .before .before .before .before .args in
+    let p = c .before .before .before .before .pre in
+    let h = inside (a .old) (a .at) (c .before .before .loop .done) 4 (a .count) _ (omega arith) p in
+    omega (arith, c .place .ensures)
 
 add-done : tie.Need-add-done Inv-loop μ-loop
 add-done c = search needs

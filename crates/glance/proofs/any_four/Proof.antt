@@ -1,13 +1,5 @@
-use Prim.Native.Nat.{ℕ, _+_, _*_, _-_, _/_, _%_, _^_, _≤_, _<_}
-use mathlib.Core.Path.{_≡_, refl, sym}
-use mathlib.Core.Bool.{Bool, true, false, true≢false}
-use native.Mathlib.Omega.{arith}
-use borrow.Author.Tests.{ltb-true}
-use lib.ListN.{length, getD}
-use lib.Bits.{bitOr}
-use Rattle.wire.specs.Word.{Bytes, word}
-use Rattle.glance.specs.Look.{size, Right, Rights, Outs, less, Low}
-use Rattle.glance.proofs.Laws.{inside, eight, least, low-left, low-right, low-each, of-low, of-index, none, join, more, four, three-cover, cover, low-four, outs-none, outs-more}
+use Rattle.wire.specs.Word.{Bytes}
+use Rattle.glance.proofs.Laws.{low-each, four, low-four}
 use borrow.Author.Needs.{needs}
 use Rattle.glance.proofs.any_four.Statement.{statement}
 use Rattle.glance.proofs.any_four.Tie as tie
@@ -53,8 +45,11 @@ returns-2 : tie.Need-returns-2
 returns-2 c =
     λ h.
     let a = c .before .before .before .before .before .before .before .before .before .before .before .before .args in
-    let l = low-each (a .old) (c .before .before .before .before .before .before .before .adjusted .result) (c .before .before .before .before .before .adjusted2 .result) (c .before .before .before .adjusted3 .result) (c .before .adjusted4 .result) (c .low2 .ensures h) in
-    four (a .old) (a .s .now) (a .limit) (a .at) (c .before .before .before .before .before .before .before .adjusted .ensures (l .0)) (rw (c .before .before .before .before .before .before .place .ensures) at (c .before .before .before .before .before .adjusted2 .ensures (l .1)))
+    let l =
+    low-each (a .old) (c .before .before .before .before .before .before .before .adjusted .result) (c .before .before .before .before .before .adjusted2 .result)
+    (c .before .before .before .adjusted3 .result) (c .before .adjusted4 .result) (c .low2 .ensures h) in
+    four (a .old) (a .s .now) (a .limit) (a .at) (c .before .before .before .before .before .before .before .adjusted .ensures (l .0))
+    (rw (c .before .before .before .before .before .before .place .ensures) at (c .before .before .before .before .before .adjusted2 .ensures (l .1)))
     (rw (c .before .before .before .before .place2 .ensures) at (c .before .before .before .adjusted3 .ensures (l .2))) (rw (c .before .before .place3 .ensures) at (c .before .adjusted4 .ensures (l .3)))
 
 pub any-four-spec : {M : Type 1} → statement M

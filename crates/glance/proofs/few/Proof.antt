@@ -1,13 +1,9 @@
-use Prim.Native.Nat.{ℕ, _+_, _*_, _-_, _/_, _%_, _^_, _≤_, _<_}
-use mathlib.Core.Path.{_≡_, refl, sym}
-use mathlib.Core.Bool.{Bool, true, false, true≢false}
+use Prim.Native.Nat.{_+_, _*_, _-_, _/_}
 use native.Mathlib.Omega.{arith}
-use borrow.Author.Tests.{ltb-true}
-use lib.ListN.{length, getD}
 use lib.Bits.{bitOr}
-use Rattle.wire.specs.Word.{Bytes, word}
-use Rattle.glance.specs.Look.{size, Right, Rights, Outs, less, Low}
-use Rattle.glance.proofs.Laws.{inside, eight, least, low-left, low-right, low-each, of-low, of-index, none, join, more, four, three-cover, cover, low-four, outs-none, outs-more}
+use Rattle.wire.specs.Word.{Bytes}
+use Rattle.glance.specs.Look.{size}
+use Rattle.glance.proofs.Laws.{eight, low-left, low-right, of-low, three-cover}
 use borrow.Author.Needs.{needs}
 use Rattle.glance.proofs.few.Statement.{statement}
 use Rattle.glance.proofs.few.Tie as tie
@@ -16,19 +12,35 @@ word-less-requires : tie.Need-word-less-requires
 word-less-requires c κs = let p = c .before .pre in let h = eight (c .before .args .old) (c .before .args .at) 0 (c .before .args .count) _ (omega arith) (p .0) in omega arith
 
 place-requires : tie.Need-place-requires
-place-requires c κs = let p = c .before .before .pre in let h = eight (c .before .before .args .old) (c .before .before .args .at) (c .before .before .args .count / 2) (c .before .before .args .count) _ (omega arith) (p .0) in search needs
+place-requires c κs =
+    let a = c .before .before .args in
+    let p = c .before .before .pre in
+    let h = eight (a .old) (a .at) (a .count / 2) (a .count) _ (omega arith) (p .0) in
+    search needs
 
 word-less-requires-2 : tie.Need-word-less-requires-2
-word-less-requires-2 c κs = let p = c .before .before .before .pre in let h = eight (c .before .before .before .args .old) (c .before .before .before .args .at) (c .before .before .before .args .count / 2) (c .before .before .before .args .count) _ (omega arith) (p .0) in omega (arith, c .place .ensures)
+word-less-requires-2 c κs =
+    let a = c .before .before .before .args in
+    let p = c .before .before .before .pre in
+    let h = eight (a .old) (a .at) (a .count / 2) (a .count) _ (omega arith) (p .0) in
+    omega (arith, c .place .ensures)
 
 sub-place : tie.Need-sub-place
 sub-place c = search needs
 
 place-requires-2 : tie.Need-place-requires-2
-place-requires-2 c κs = let p = c .before .before .before .before .pre in let h = eight (c .before .before .before .before .args .old) (c .before .before .before .before .args .at) (c .before .before .before .before .args .count - 1) (c .before .before .before .before .args .count) _ (omega arith) (p .0) in search needs
+place-requires-2 c κs =
+    let a = c .before .before .before .before .args in
+    let p = c .before .before .before .before .pre in
+    let h = eight (a .old) (a .at) (a .count - 1) (a .count) _ (omega arith) (p .0) in
+    search needs
 
 word-less-requires-3 : tie.Need-word-less-requires-3
-word-less-requires-3 c κs = let p = c .before .before .before .before .before .pre in let h = eight (c .before .before .before .before .before .args .old) (c .before .before .before .before .before .args .at) (c .before .before .before .before .before .args .count - 1) (c .before .before .before .before .before .args .count) _ (omega arith) (p .0) in omega (arith, c .place2 .ensures)
+word-less-requires-3 c κs =
+    let a = c .before .before .before .before .before .args in
+    let p = c .before .before .before .before .before .pre in
+    let h = eight (a .old) (a .at) (a .count - 1) (a .count) _ (omega arith) (p .0) in
+    omega (arith, c .place2 .ensures)
 
 low-requires : tie.Need-low-requires
 low-requires c κs = search needs

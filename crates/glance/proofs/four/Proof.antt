@@ -1,13 +1,5 @@
-use Prim.Native.Nat.{ℕ, _+_, _*_, _-_, _/_, _%_, _^_, _≤_, _<_}
-use mathlib.Core.Path.{_≡_, refl, sym}
-use mathlib.Core.Bool.{Bool, true, false, true≢false}
 use native.Mathlib.Omega.{arith}
-use borrow.Author.Tests.{ltb-true}
-use lib.ListN.{length, getD}
-use lib.Bits.{bitOr}
-use Rattle.wire.specs.Word.{Bytes, word}
-use Rattle.glance.specs.Look.{size, Right, Rights, Outs, less, Low}
-use Rattle.glance.proofs.Laws.{inside, eight, least, low-left, low-right, low-each, of-low, of-index, none, join, more, four, three-cover, cover, low-four, outs-none, outs-more}
+use Rattle.glance.proofs.Laws.{eight}
 use borrow.Author.Needs.{needs}
 use Rattle.glance.proofs.four.Statement.{statement}
 use Rattle.glance.proofs.four.Tie as tie
@@ -19,22 +11,40 @@ place-requires : tie.Need-place-requires
 place-requires c κs = search needs
 
 word-less-requires-2 : tie.Need-word-less-requires-2
-word-less-requires-2 c κs = let h = eight (c .before .before .before .args .old) (c .before .before .before .args .at) 1 4 _ (omega arith) (c .before .before .before .pre) in omega (arith, c .place .ensures)
+word-less-requires-2 c κs =
+    let a = c .before .before .before .args in
+    let h = eight (a .old) (a .at) 1 4 _ (omega arith) (c .before .before .before .pre) in
+    omega (arith, c .place .ensures)
 
 place-requires-2 : tie.Need-place-requires-2
 place-requires-2 c κs = search needs
 
 word-less-requires-3 : tie.Need-word-less-requires-3
-word-less-requires-3 c κs = let h = eight (c .before .before .before .before .before .args .old) (c .before .before .before .before .before .args .at) 2 4 _ (omega arith) (c .before .before .before .before .before .pre) in omega (arith, c .place2 .ensures)
+word-less-requires-3 c κs =
+    let a = c .before .before .before .before .before .args in
+    let h = eight (a .old) (a .at) 2 4 _ (omega arith) (c .before .before .before .before .before .pre) in
+    omega (arith, c .place2 .ensures)
 
 place-requires-3 : tie.Need-place-requires-3
 place-requires-3 c κs = search needs
 
 word-less-requires-4 : tie.Need-word-less-requires-4
-word-less-requires-4 c κs = let h = eight (c .before .before .before .before .before .before .before .args .old) (c .before .before .before .before .before .before .before .args .at) 3 4 _ (omega arith) (c .before .before .before .before .before .before .before .pre) in omega (arith, c .place3 .ensures)
+word-less-requires-4 c κs =
+    let a = c .before .before .before .before .before .before .before .args in
+    let h = eight (a .old) (a .at) 3 4 _ (omega arith) (c .before .before .before .before .before .before .before .pre) in
+    omega (arith, c .place3 .ensures)
 
 returns : tie.Need-returns
-returns c = rw (c .before .before .before .before .before .before .word-less .ensures, c .before .before .before .before .word-less2 .ensures, c .before .before .word-less3 .ensures, c .word-less4 .ensures, c .before .before .before .before .before .place .ensures, c .before .before .before .place2 .ensures, c .before .place3 .ensures)
+returns c =
+    rw (
+      c .before .before .before .before .before .before .word-less .ensures,
+      c .before .before .before .before .word-less2 .ensures,
+      c .before .before .word-less3 .ensures,
+      c .word-less4 .ensures,
+      c .before .before .before .before .before .place .ensures,
+      c .before .before .before .place2 .ensures,
+      c .before .place3 .ensures,
+    )
 
 pub four-spec : {M : Type 1} → statement M
 four-spec =

@@ -1,13 +1,10 @@
-use Prim.Native.Nat.{ℕ, _+_, _*_, _-_, _/_, _%_, _^_, _≤_, _<_}
-use mathlib.Core.Path.{_≡_, refl, sym}
-use mathlib.Core.Bool.{Bool, true, false, true≢false}
+use Prim.Native.Nat.{_+_, _*_, _-_, _≤_}
+use mathlib.Core.Path.{_≡_, sym}
+use mathlib.Core.Bool.{false, true≢false}
 use native.Mathlib.Omega.{arith}
-use borrow.Author.Tests.{ltb-true}
-use lib.ListN.{length, getD}
-use lib.Bits.{bitOr}
-use Rattle.wire.specs.Word.{Bytes, word}
-use Rattle.glance.specs.Look.{size, Right, Rights, Outs, less, Low}
-use Rattle.glance.proofs.Laws.{inside, eight, least, low-left, low-right, low-each, of-low, of-index, none, join, more, four, three-cover, cover, low-four, outs-none, outs-more}
+use lib.ListN.{getD}
+use Rattle.glance.specs.Look.{Outs}
+use Rattle.glance.proofs.Laws.{outs-none, outs-more}
 use borrow.Author.Needs.{needs}
 use Rattle.glance.proofs.live_outs.Statement.{statement}
 use Rattle.glance.proofs.live_outs.Tie as tie

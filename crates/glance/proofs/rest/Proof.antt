@@ -1,13 +1,9 @@
-use Prim.Native.Nat.{ℕ, _+_, _*_, _-_, _/_, _%_, _^_, _≤_, _<_}
-use mathlib.Core.Path.{_≡_, refl, sym}
-use mathlib.Core.Bool.{Bool, true, false, true≢false}
+use Prim.Native.Nat.{_-_, _≤_}
+use mathlib.Core.Path.{_≡_, sym}
+use mathlib.Core.Bool.{false, true≢false}
 use native.Mathlib.Omega.{arith}
-use borrow.Author.Tests.{ltb-true}
-use lib.ListN.{length, getD}
-use lib.Bits.{bitOr}
-use Rattle.wire.specs.Word.{Bytes, word}
-use Rattle.glance.specs.Look.{size, Right, Rights, Outs, less, Low}
-use Rattle.glance.proofs.Laws.{inside, eight, least, low-left, low-right, low-each, of-low, of-index, none, join, more, four, three-cover, cover, low-four, outs-none, outs-more}
+use Rattle.glance.specs.Look.{Rights}
+use Rattle.glance.proofs.Laws.{inside, eight, more}
 use borrow.Author.Needs.{needs}
 use Rattle.glance.proofs.rest.Statement.{statement}
 use Rattle.glance.proofs.rest.Tie as tie
@@ -22,10 +18,18 @@ loop-holds : tie.Need-loop-holds Inv-loop μ-loop
 loop-holds c = (c .before .pre .1, λ x. x)
 
 place-requires : tie.Need-place-requires Inv-loop μ-loop
-place-requires c κs = let p = c .before .before .before .pre in let h = eight (c .before .before .before .args .old) (c .before .before .before .args .at) (c .before .loop .done) (c .before .before .before .args .count) _ (omega arith) (p .0) in search needs
+place-requires c κs =
+    let a = c .before .before .before .args in
+    let p = c .before .before .before .pre in
+    let h = eight (a .old) (a .at) (c .before .loop .done) (a .count) _ (omega arith) (p .0) in
+    search needs
 
 adjusted-requires : tie.Need-adjusted-requires Inv-loop μ-loop
-adjusted-requires c κs = let p = c .before .before .before .before .pre in let h = inside (c .before .before .before .before .args .old) (c .before .before .before .before .args .at) (c .before .before .loop .done) 1 (c .before .before .before .before .args .count) _ (omega arith) (p .0) in omega (arith, c .place .ensures)
+adjusted-requires c κs =
+    let a = c .before .before .before .before .args in
+    let p = c .before .before .before .before .pre in
+    let h = inside (a .old) (a .at) (c .before .before .loop .done) 1 (a .count) _ (omega arith) (p .0) in
+    omega (arith, c .place .ensures)
 
 low-requires : tie.Need-low-requires Inv-loop μ-loop
 low-requires c κs = search needs

@@ -1,7 +1,4 @@
-use Prim.Native.Nat.{ℕ, _+_}
-use mathlib.Core.Path.{_≡_}
 use native.Mathlib.Omega.{arith}
-use Rattle.wire.specs.Word.{word}
 use Rattle.stackmap.proofs.Looks.{no-outs}
 use borrow.Author.Needs.{needs}
 use Rattle.stackmap.proofs.quick.after_live_outs.Statement.{statement}

@@ -1,7 +1,4 @@
-use Prim.Native.Nat.{ℕ, _+_, _*_, _^_, _≤_}
-use mathlib.Core.Path.{_≡_}
 use native.Mathlib.Omega.{arith}
-use Rattle.wire.specs.Word.{word}
 use Rattle.stackmap.specs.Section.{numLocations}
 use Rattle.stackmap.proofs.Steps.{times-most}
 use Rattle.stackmap.proofs.Looks.{same-size, all-right, whole}

@@ -28,7 +28,8 @@ record-requires c κs = let h = c .record-arg .given in search needs
 -- what the look says of the list from `at` on
 answer :
     (c : tie.Then1) →
-    recordCheck (c .before .before .before .before .before .args .old) (drop (c .before .before .before .before .before .args .at) (c .before .before .before .before .before .args .s .now)) (c .before .before .before .before .before .args .constants) (c .before .before .before .owner-address .result)
+    recordCheck (c .before .before .before .before .before .args .old) (drop (c .before .before .before .before .before .args .at) (c .before .before .before .before .before .args .s .now))
+    (c .before .before .before .before .before .args .constants) (c .before .before .before .owner-address .result)
     ≡ Valid (c .before .«record» .result)
 answer c = rw part-from at (c .before .«record» .ensures (c .if1 .taken))
 
