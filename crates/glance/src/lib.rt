@@ -5,7 +5,7 @@
 // bit by bit are low only if each of them is, so that one test answers for all. It serves the crate above and is no entry point: each
 // function requires that its bytes are inside.
 ghost use mathlib.Core.Path.{_≡_};
-ghost use mathlib.Core.Bool.{true};
+ghost use mathlib.Core.Bool.{true, false};
 ghost use Prim.Native.Nat.{ℕ, _+_, _*_, _-_, _^_, _≤_, _<_};
 ghost use lib.ListN.{length};
 ghost use Rattle.wire.specs.Word.{word};
@@ -44,15 +44,15 @@ fn low(old: bool, v: u64) -> bool
     false
 }
 
-// One to three locations: the first, the middle and the last, which may be the same.
-fn few(s: &[u8], old: bool, at: usize, count: usize) -> bool
-    requires { ⌜ (at + look.size old * count ≤ length (now s)) × (0 < count) × (count < 4) ⌝ }
-    ensures { λ r. ⌜ (r ≡ true → (limit : ℕ) → Rights old (now (s .entry)) limit at count) ⌝ }
+// One to three locations of version 3: the first, the middle and the last, which may be the same.
+fn few(s: &[u8], at: usize, count: usize) -> bool
+    requires { ⌜ (at + look.size false * count ≤ length (now s)) × (0 < count) × (count < 4) ⌝ }
+    ensures { λ r. ⌜ (r ≡ true → (limit : ℕ) → Rights false (now (s .entry)) limit at count) ⌝ }
 {
     let a = word_less(s, at);
-    let b = word_less(s, place(old, at, count / 2));
-    let c = word_less(s, place(old, at, count - 1));
-    low(old, a | b | c)
+    let b = word_less(s, place(false, at, count / 2));
+    let c = word_less(s, place(false, at, count - 1));
+    low(false, a | b | c)
 }
 
 // The words of the four locations from `at`, each less one, together.
@@ -77,18 +77,19 @@ fn minus(a: usize, b: usize) -> usize
     a - b
 }
 
-// Four to sixteen locations: the first four, four after these, four before the last four, and the last four, which may overlap.
-fn sixteen(s: &[u8], old: bool, at: usize, count: usize) -> bool
-    requires { ⌜ (at + look.size old * count ≤ length (now s)) × (4 ≤ count) × (count ≤ 16) ⌝ }
-    ensures { λ r. ⌜ (r ≡ true → (limit : ℕ) → Rights old (now (s .entry)) limit at count) ⌝ }
+// Four to sixteen locations of version 3: the first four, four after these, four before the last four, and the last four, which may
+// overlap.
+fn sixteen(s: &[u8], at: usize, count: usize) -> bool
+    requires { ⌜ (at + look.size false * count ≤ length (now s)) × (4 ≤ count) × (count ≤ 16) ⌝ }
+    ensures { λ r. ⌜ (r ≡ true → (limit : ℕ) → Rights false (now (s .entry)) limit at count) ⌝ }
 {
     let second = 4 - minus(8, count);
     let third = minus(count, 8);
-    let w = four(s, old, at);
-    let x = four(s, old, place(old, at, second));
-    let y = four(s, old, place(old, at, third));
-    let z = four(s, old, place(old, at, count - 4));
-    low(old, w | x | (y | z))
+    let w = four(s, false, at);
+    let x = four(s, false, place(false, at, second));
+    let y = four(s, false, place(false, at, third));
+    let z = four(s, false, place(false, at, count - 4));
+    low(false, w | x | (y | z))
 }
 
 // The eight bytes of a location, less one, and less one more if it is a ConstIndex whose index is below `limit`.
@@ -106,7 +107,19 @@ fn adjusted(s: &[u8], old: bool, at: usize, limit: u32) -> u64
     v
 }
 
-// The four locations from `at`, of any kind.
+// The words of the four locations from `at`, of any kind, together.
+fn four_of_any(s: &[u8], old: bool, at: usize, limit: u32) -> u64
+    requires { ⌜ at + look.size old * 4 ≤ length (now s) ⌝ }
+    ensures { λ r. ⌜ (Low old r → Rights old (now (s .entry)) limit at 4) ⌝ }
+{
+    let a = adjusted(s, old, at, limit);
+    let b = adjusted(s, old, place(old, at, 1), limit);
+    let c = adjusted(s, old, place(old, at, 2), limit);
+    let d = adjusted(s, old, place(old, at, 3), limit);
+    a | b | (c | d)
+}
+
+// The four locations from `at`, of any kind; those of kinds 1 to 4 by one read each.
 fn any_four(s: &[u8], old: bool, at: usize, limit: u32) -> bool
     requires { ⌜ at + look.size old * 4 ≤ length (now s) ⌝ }
     ensures { λ r. ⌜ (r ≡ true → Rights old (now (s .entry)) limit at 4) ⌝ }
@@ -114,11 +127,21 @@ fn any_four(s: &[u8], old: bool, at: usize, limit: u32) -> bool
     if low(old, four(s, old, at)) {
         return true;
     }
-    let a = adjusted(s, old, at, limit);
-    let b = adjusted(s, old, place(old, at, 1), limit);
-    let c = adjusted(s, old, place(old, at, 2), limit);
-    let d = adjusted(s, old, place(old, at, 3), limit);
-    low(old, a | b | (c | d))
+    low(old, four_of_any(s, old, at, limit))
+}
+
+// Four to sixteen locations of version 3, of any kind, as `sixteen` looks at them.
+fn any_sixteen(s: &[u8], at: usize, count: usize, limit: u32) -> bool
+    requires { ⌜ (at + look.size false * count ≤ length (now s)) × (4 ≤ count) × (count ≤ 16) ⌝ }
+    ensures { λ r. ⌜ (r ≡ true → Rights false (now (s .entry)) limit at count) ⌝ }
+{
+    let next = 4 - minus(8, count);
+    let back = minus(count, 8);
+    let p = four_of_any(s, false, at, limit);
+    let q = four_of_any(s, false, place(false, at, next), limit);
+    let r = four_of_any(s, false, place(false, at, back), limit);
+    let t = four_of_any(s, false, place(false, at, count - 4), limit);
+    low(false, p | q | (r | t))
 }
 
 // Locations of any kind from number `begun` on, one by one.
@@ -137,8 +160,8 @@ fn rest(s: &[u8], old: bool, at: usize, count: usize, limit: u32, begun: usize) 
     true
 }
 
-// Locations of any kind, four at a time and the rest one by one.
-fn any(s: &[u8], old: bool, at: usize, count: usize, limit: u32) -> bool
+// Whether the `count` locations from `at` are right: four at a time, by one test or two, and the rest one by one.
+pub fn by_fours(s: &[u8], old: bool, at: usize, count: usize, limit: u32) -> bool
     requires { ⌜ at + look.size old * count ≤ length (now s) ⌝ }
     ensures { λ r. ⌜ (r ≡ true → Rights old (now (s .entry)) limit at count) ⌝ }
 {
@@ -153,26 +176,27 @@ fn any(s: &[u8], old: bool, at: usize, count: usize, limit: u32) -> bool
     rest(s, old, at, count, limit, done)
 }
 
-// Whether the `count` locations from `at` are right: by one test up to sixteen, and else four at a time.
-pub fn locations(s: &[u8], old: bool, at: usize, count: usize, limit: u32) -> bool
-    requires { ⌜ at + look.size old * count ≤ length (now s) ⌝ }
-    ensures { λ r. ⌜ (r ≡ true → Rights old (now (s .entry)) limit at count) ⌝ }
+// Whether the `count` locations of version 3 from `at` are right: up to sixteen by one test, or two where one is a ConstIndex.
+pub fn locations(s: &[u8], at: usize, count: usize, limit: u32) -> bool
+    requires { ⌜ at + look.size false * count ≤ length (now s) ⌝ }
+    ensures { λ r. ⌜ (r ≡ true → Rights false (now (s .entry)) limit at count) ⌝ }
 {
     if count == 0 {
         return true;
     }
     if count < 4 {
-        if few(s, old, at, count) {
+        if few(s, at, count) {
             return true;
         }
-        return any(s, old, at, count, limit);
+        return by_fours(s, false, at, count, limit);
     }
     if count <= 16 {
-        if sixteen(s, old, at, count) {
+        if sixteen(s, at, count) {
             return true;
         }
+        return any_sixteen(s, at, count, limit);
     }
-    any(s, old, at, count, limit)
+    by_fours(s, false, at, count, limit)
 }
 
 // Whether the `count` live-outs from `at` have their zero byte.

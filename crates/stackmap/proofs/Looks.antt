@@ -1,6 +1,6 @@
 -- A record that a quick look finds right is valid.
 use Prim.Native.Nat.{ℕ, zero, suc, _+_, _*_, _-_, _^_, _≤_, _<_}
-use mathlib.Core.Path.{_≡_, refl, ap, sym, _∙_}
+use mathlib.Core.Path.{_≡_, refl, ap, sym, _∙_, subst}
 use mathlib.Core.Bool.{Bool, true, false}
 use mathlib.Core.List.{List}
 use native.Mathlib.Omega.{arith}
@@ -123,6 +123,15 @@ no-outs s end h z =
       ends = rw n (omega arith);
       inside = h;
     }
+
+-- Version 1 has no padding after its locations.
+
+pub no-padding : (s : List ℕ) (at : ℕ) → word 0 s at ≡ 0
+unfolding word
+no-padding s at = refl
+
+pub bare : (s : List ℕ) (next : ℕ) → Ending s (16 + 8 * numLocations s) next → Ending s (locationsEnd true s) next
+bare s next r = let e : 16 + 8 * numLocations s ≡ 16 + 8 * numLocations s + 0 = omega arith in subst (λ (x : ℕ). Ending s x next) e r
 
 -- A whole record.
 

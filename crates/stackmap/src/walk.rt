@@ -73,6 +73,20 @@ pub fn record_at(s: &[u8], old: bool, constants: u32, function: usize, at: usize
     exact_at(s, old, constants, address, at)
 }
 
+// The same for `all_records` alone. What calls `quick::record` twice keeps it a function of its own, whose arguments and answer are in
+// registers, and what is around it is compiled into each walk.
+fn next_record(s: &[u8], old: bool, constants: u32, function: usize, at: usize) -> Verdict
+    requires { ⌜ (old ≡ isOld (now s)) × (constantsAt (now s) ≤ length (now s)) × (isOld (now s) ≡ false → function < numFunctions (now s)) × (at ≤ length (now s)) ⌝ }
+    ensures { λ r. ⌜ r ≡ shift at (recordCheck (isOld (now (s .entry))) (drop at (now (s .entry))) constants (ownerAt (now (s .entry)) function .function .address)) ⌝ }
+{
+    let address = owner_address(s, old, function);
+    let size = quick::record(&s[at..], old, constants, address);
+    if size > 0 {
+        return Verdict::Valid(at + size);
+    }
+    exact_at(s, old, constants, address, at)
+}
+
 // The turn before the first record: the first function is next, or all records are nobody's.
 pub fn start(s: &[u8], old: bool) -> Turn
     requires { ⌜ (old ≡ isOld (now s)) × Walkable (now s) ⌝ }
@@ -101,7 +115,7 @@ pub fn all_records(s: &[u8], at: usize) -> Verdict
     while remaining > 0 {
         let t = owner(s, turn);
         let next = t.next;
-        match record_at(s, old, constants, next - 1, p) {
+        match next_record(s, old, constants, next - 1, p) {
             Verdict::Refused(n, q) => return Verdict::Refused(n, q),
             Verdict::Valid(end) => {
                 p = end;

@@ -5,8 +5,8 @@ use native.Mathlib.Omega.{arith}
 use Rattle.glance.specs.Look.{Rights}
 use Rattle.glance.proofs.Laws.{inside, eight, none, join}
 use borrow.Author.Needs.{needs}
-use Rattle.glance.proofs.any.Statement.{statement}
-use Rattle.glance.proofs.any.Tie as tie
+use Rattle.glance.proofs.by_fours.Statement.{statement}
+use Rattle.glance.proofs.by_fours.Tie as tie
 
 abbrev Inv-loop : tie.InvT-loop
 Inv-loop s old at count limit done₀ done = (done ≤ count) × Rights old s limit at done
@@ -55,8 +55,8 @@ rest-requires c κs = (c .before .before .before .pre, c .before .loop .inv .0)
 returns-2 : tie.Need-returns-2 Inv-loop μ-loop
 returns-2 c = λ h. c .rest .ensures h (c .before .before .loop .inv .1)
 
-pub any-spec : {M : Type 1} → statement M
-any-spec =
+pub by-fours-spec : {M : Type 1} → statement M
+by-fours-spec =
     tie.close
     (tie.spec
     Inv-loop
