@@ -79,8 +79,8 @@ itemsClear s =
     && clear s belowNone (liveOutsAt s + liveOutReservedAt) liveOutSize (numLiveOuts s)
 
 -- 40: none of them is set
-unfoldable pub reservedZero : List ℕ → Bool
-reservedZero s = headerClear s && framesClear s && registersClear s && recordsClear s && itemsClear s
+unfoldable pub reservedClear : List ℕ → Bool
+reservedClear s = headerClear s && framesClear s && registersClear s && recordsClear s && itemsClear s
 
 -- the number of the refusal, or 0
 unfoldable pub flatCheck : List ℕ → ℕ
@@ -88,7 +88,7 @@ flatCheck s =
     need (lengthRight s) 36
     (need (versionRight s) 37
     (need (offsetsRight s) 38
-    (need (rangesRight s) 39 (need (reservedZero s) 40 0))))
+    (need (rangesRight s) 39 (need (reservedClear s) 40 0))))
 
 abbrev pub Accepted : List ℕ → Type 0
 Accepted s = flatCheck s ≡ 0

@@ -26,7 +26,7 @@ pub fn check(s: &[u8]) -> u8
     if !ranges::ranges_right(s) {
         return 39;
     }
-    if !reserved::reserved_zero(s) {
+    if !reserved::reserved_clear(s) {
         return 40;
     }
     0

@@ -25,24 +25,24 @@ fn frames_inside(s: &[u8], frames: usize, n: usize, records: usize) -> bool
     true
 }
 
-fn record_inside(s: &[u8], at: usize, locations: usize, live_outs: usize) -> bool
+fn record_inside(s: &[u8], at: usize, locations: usize, outs: usize) -> bool
     requires { ⌜ at + recordSize ≤ length (now s) ⌝ }
-    ensures { λ r. ⌜ r ≡ recordInside (now (s .entry)) locations live_outs at ⌝ }
+    ensures { λ r. ⌜ r ≡ recordInside (now (s .entry)) locations outs at ⌝ }
 {
     if offsets::range_end(s, at + layout::LOCATION_INDEX_AT, at + layout::LOCATION_COUNT_AT) > locations {
         return false;
     }
-    offsets::range_end(s, at + layout::LIVE_OUT_INDEX_AT, at + layout::LIVE_OUT_COUNT_AT) <= live_outs
+    offsets::range_end(s, at + layout::LIVE_OUT_INDEX_AT, at + layout::LIVE_OUT_COUNT_AT) <= outs
 }
 
 // Whether the ranges of n records end within the locations and live-outs.
-fn records_inside(s: &[u8], records: usize, n: usize, locations: usize, live_outs: usize) -> bool
+fn records_inside(s: &[u8], records: usize, n: usize, locations: usize, outs: usize) -> bool
     requires { ⌜ records + recordSize * n ≤ length (now s) ⌝ }
-    ensures { λ r. ⌜ r ≡ along (recordInside (now (s .entry)) locations live_outs) records recordSize n ⌝ }
+    ensures { λ r. ⌜ r ≡ along (recordInside (now (s .entry)) locations outs) records recordSize n ⌝ }
 {
     let mut i: usize = 0;
     while i < n {
-        if !record_inside(s, records + layout::RECORD_SIZE * i, locations, live_outs) {
+        if !record_inside(s, records + layout::RECORD_SIZE * i, locations, outs) {
             return false;
         }
         i += 1;

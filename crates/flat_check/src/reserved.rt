@@ -5,7 +5,7 @@ ghost use Prim.Native.Nat.{_+_, _*_, _≤_, _<_};
 ghost use lib.ListN.{length};
 ghost use Rattle.flat.specs.Layout.{sectionLeast};
 ghost use Rattle.flat.specs.Places.{offsetsRight};
-ghost use Rattle.flat_check.specs.Check.{clear, reservedZero};
+ghost use Rattle.flat_check.specs.Check.{clear, headerClear, framesClear, registersClear, recordsClear, itemsClear, reservedClear};
 use flat::layout;
 use flat::offsets;
 
@@ -31,39 +31,76 @@ fn both(a: bool, b: bool) -> bool
     if a { b } else { false }
 }
 
-pub fn reserved_zero(s: &[u8]) -> bool
-    requires { ⌜ (sectionLeast ≤ length (now s)) × (offsetsRight (now s) ≡ true) ⌝ }
-    ensures { λ r. ⌜ r ≡ reservedZero (now (s .entry)) ⌝ }
+fn header_clear(s: &[u8]) -> bool
+    requires { ⌜ sectionLeast ≤ length (now s) ⌝ }
+    ensures { λ r. ⌜ r ≡ headerClear (now (s .entry)) ⌝ }
 {
-    let frames = offsets::offset(s, layout::FRAMES_OFFSET_AT);
-    let registers = offsets::offset(s, layout::REGISTERS_OFFSET_AT);
-    let records = offsets::offset(s, layout::RECORDS_OFFSET_AT);
-    let locations = offsets::offset(s, layout::LOCATIONS_OFFSET_AT);
-    let live_outs = offsets::offset(s, layout::LIVE_OUTS_OFFSET_AT);
-    let num_frames = offsets::num_frames(s);
-    let num_registers = offsets::num_registers(s);
-    let num_records = offsets::num_records(s);
-    let registers_end = registers + layout::REGISTER_SIZE * num_registers;
-    let records_end = records + layout::RECORD_SIZE * num_records;
-    let header = both(
+    both(
         each_below(s, layout::BELOW_NONE, layout::HEADER_RESERVED_AT, 1, layout::HEADER_RESERVED_SIZE),
         each_below(s, layout::BELOW_NONE, layout::HEADER_SIZE, 1, layout::HEADER_PADDING),
-    );
-    let all_frames = both(
-        each_below(s, layout::BELOW_FOUR, frames + layout::FRAME_FLAGS_AT, layout::FRAME_SIZE, num_frames),
-        each_below(s, layout::BELOW_NONE, frames + layout::FRAME_FLAGS_HIGH_AT, layout::FRAME_SIZE, num_frames),
-    );
-    let all_registers = both(
-        each_below(s, layout::BELOW_ONE, registers + layout::REGISTER_FLAGS_AT, layout::REGISTER_SIZE, num_registers),
-        each_below(s, layout::BELOW_NONE, registers_end, 1, records - registers_end),
-    );
-    let all_records = both(
-        each_below(s, layout::BELOW_ONE, records + layout::RECORD_FLAGS_AT, layout::RECORD_SIZE, num_records),
-        each_below(s, layout::BELOW_NONE, records_end, 1, locations - records_end),
-    );
-    let all_items = both(
-        each_below(s, layout::BELOW_NONE, locations + layout::LOCATION_RESERVED_AT, layout::LOCATION_SIZE, offsets::num_locations(s)),
-        each_below(s, layout::BELOW_NONE, live_outs + layout::LIVE_OUT_RESERVED_AT, layout::LIVE_OUT_SIZE, offsets::num_live_outs(s)),
-    );
-    both(header, both(all_frames, both(all_registers, both(all_records, all_items))))
+    )
+}
+
+fn frames_clear(s: &[u8]) -> bool
+    requires { ⌜ (sectionLeast ≤ length (now s)) × (offsetsRight (now s) ≡ true) ⌝ }
+    ensures { λ r. ⌜ r ≡ framesClear (now (s .entry)) ⌝ }
+{
+    let at = offsets::offset(s, layout::FRAMES_OFFSET_AT);
+    let n = offsets::num_frames(s);
+    both(
+        each_below(s, layout::BELOW_FOUR, at + layout::FRAME_FLAGS_AT, layout::FRAME_SIZE, n),
+        each_below(s, layout::BELOW_NONE, at + layout::FRAME_FLAGS_HIGH_AT, layout::FRAME_SIZE, n),
+    )
+}
+
+// The frame registers, and the padding after them.
+fn registers_clear(s: &[u8]) -> bool
+    requires { ⌜ (sectionLeast ≤ length (now s)) × (offsetsRight (now s) ≡ true) ⌝ }
+    ensures { λ r. ⌜ r ≡ registersClear (now (s .entry)) ⌝ }
+{
+    let at = offsets::offset(s, layout::REGISTERS_OFFSET_AT);
+    let n = offsets::num_registers(s);
+    let next = offsets::offset(s, layout::RECORDS_OFFSET_AT);
+    let end = at + layout::REGISTER_SIZE * n;
+    both(
+        each_below(s, layout::BELOW_ONE, at + layout::REGISTER_FLAGS_AT, layout::REGISTER_SIZE, n),
+        each_below(s, layout::BELOW_NONE, end, 1, next - end),
+    )
+}
+
+// The records, and the padding after them.
+fn records_clear(s: &[u8]) -> bool
+    requires { ⌜ (sectionLeast ≤ length (now s)) × (offsetsRight (now s) ≡ true) ⌝ }
+    ensures { λ r. ⌜ r ≡ recordsClear (now (s .entry)) ⌝ }
+{
+    let at = offsets::offset(s, layout::RECORDS_OFFSET_AT);
+    let n = offsets::num_records(s);
+    let next = offsets::offset(s, layout::LOCATIONS_OFFSET_AT);
+    let end = at + layout::RECORD_SIZE * n;
+    both(
+        each_below(s, layout::BELOW_ONE, at + layout::RECORD_FLAGS_AT, layout::RECORD_SIZE, n),
+        each_below(s, layout::BELOW_NONE, end, 1, next - end),
+    )
+}
+
+// The locations and the live-outs.
+fn items_clear(s: &[u8]) -> bool
+    requires { ⌜ (sectionLeast ≤ length (now s)) × (offsetsRight (now s) ≡ true) ⌝ }
+    ensures { λ r. ⌜ r ≡ itemsClear (now (s .entry)) ⌝ }
+{
+    let at = offsets::offset(s, layout::LOCATIONS_OFFSET_AT);
+    let next = offsets::offset(s, layout::LIVE_OUTS_OFFSET_AT);
+    let n = offsets::num_locations(s);
+    let m = offsets::num_live_outs(s);
+    both(
+        each_below(s, layout::BELOW_NONE, at + layout::LOCATION_RESERVED_AT, layout::LOCATION_SIZE, n),
+        each_below(s, layout::BELOW_NONE, next + layout::LIVE_OUT_RESERVED_AT, layout::LIVE_OUT_SIZE, m),
+    )
+}
+
+pub fn reserved_clear(s: &[u8]) -> bool
+    requires { ⌜ (sectionLeast ≤ length (now s)) × (offsetsRight (now s) ≡ true) ⌝ }
+    ensures { λ r. ⌜ r ≡ reservedClear (now (s .entry)) ⌝ }
+{
+    both(both(both(both(header_clear(s), frames_clear(s)), registers_clear(s)), records_clear(s)), items_clear(s))
 }
