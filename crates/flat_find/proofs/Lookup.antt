@@ -7,8 +7,11 @@ use native.Mathlib.Omega.{arith}
 use native.Mathlib.Numerals.{add-one}
 use borrow.Author.Tests.{eq-eqb, ne-eqb}
 use lib.Dec.{eqb}
+use lib.ListN.{length}
 use Rattle.wire.specs.Word.{word}
 use Rattle.flat.specs.Places.{framesAt, recordsAt, numFrames}
+use Rattle.flat_check.proofs.Chain.{Told}
+use Rattle.flat_check.proofs.Accept.{told-arranged, frame-range}
 use Rattle.flat_find.specs.declared.Found.{Found}
 use Rattle.flat_find.specs.Find.{Match, addressOf, inFrame, recordIndex, recordCount, inFrames, matches, notFound, firstOf}
 
@@ -20,8 +23,19 @@ unfolding inFrame
 none-past s a i h k zero = refl
 none-past s a i h k (suc n) = rw (ne-eqb (addressOf s i k) a (λ e. omega arith)) (none-past s a i h (suc k) n)
 
-pub past : (s : List ℕ) (a i k n : ℕ) (r : Found) → a < word 8 s (framesAt s + 28 * i) → r ≡ notFound 41 → r ≡ firstOf (inFrame s a i k n)
-past s a i k n r h e = e ∙ rw (none-past s a i h k n)
+pub past : (s : List ℕ) (a i k n : ℕ) (r : Found) (frames f : ℕ) → frames ≡ framesAt s → f ≡ word 8 s (frames + 28 * i) → a < f → r ≡ notFound 41
+    → r ≡ firstOf (inFrame s a i k n)
+past s a i k n r frames f e g h m =
+    let v : f ≡ word 8 s (framesAt s + 28 * i) = rw e at g in
+    m ∙ rw (none-past s a i (omega arith) k n)
+
+-- the code subtracts where the definition adds
+pub sum-is : (s : List ℕ) (a i j frames records f o : ℕ) → frames ≡ framesAt s → records ≡ recordsAt s → f ≡ word 8 s (frames + 28 * i)
+    → o ≡ word 4 s (records + 22 * j + 8) → f ≤ a → (o ≡ a - f → addressOf s i j ≡ a) × (addressOf s i j ≡ a → o ≡ a - f)
+sum-is s a i j frames records f o d e g h l =
+    let v : f ≡ word 8 s (framesAt s + 28 * i) = rw d at g in
+    let w : o ≡ word 4 s (recordsAt s + 22 * j + 8) = rw e at h in
+    ((λ x. omega arith), (λ x. omega arith))
 
 -- what is left of n records from k on gives what all of them give
 pub record Looking (s : List ℕ) (a i k n j : ℕ) : Type 0 where
@@ -80,11 +94,28 @@ module _ (s : List ℕ) (a i : ℕ) (t : Going s a i) (l : i < numFrames s) wher
   step = t .same ∙ rw (ahead, add-one)
 
   pub go-on : (r : Found) → r ≡ firstOf (inFrame s a i (recordIndex s i) (recordCount s i)) → (r .number ≡ 0 → ⊥) → Going s a (i + 1)
-  go-on r e h = record { most = omega arith; same = step ∙ first-miss _ _ (rw e at h) }
+  go-on r e h = record { most = omega arith; same = step ∙ first-miss (inFrame s a i (recordIndex s i) (recordCount s i)) (inFrames s a (i + 1) (numFrames s - (i + 1))) (rw e at h) }
 
   pub go-hit : (r : Found) → r ≡ firstOf (inFrame s a i (recordIndex s i) (recordCount s i)) → r .number ≡ 0 → r ≡ firstOf (matches s a)
-  go-hit r e h = e ∙ sym (step ∙ first-hit _ _ (rw e at h))
+  go-hit r e h =
+      e ∙ sym (step ∙ first-hit (inFrame s a i (recordIndex s i) (recordCount s i)) (inFrames s a (i + 1) (numFrames s - (i + 1))) (rw e at h))
 
 pub go-end : (s : List ℕ) (a i : ℕ) (r : Found) → Going s a i → numFrames s ≤ i → r ≡ notFound 41 → r ≡ firstOf (matches s a)
 unfolding inFrames
 go-end s a i r t l e = let z : numFrames s - i ≡ 0 = omega arith in e ∙ sym (t .same ∙ rw z)
+
+-- the range that the code reads is the frame's, and inside
+module _ (s : List ℕ) (i frames k n : ℕ) (d : frames ≡ framesAt s) (e : k ≡ word 2 s (frames + 28 * i + 26)) (f : n ≡ word 2 s (frames + 28 * i + 24)) where
+  pub range-fits : Told s → i < numFrames s → (framesAt s + 28 * i + 28 ≤ length s) × (recordsAt s + 22 * (k + n) ≤ length s)
+  range-fits t l =
+      let v : k ≡ word 2 s (framesAt s + 28 * i + 26) = rw d at e in
+      let w : n ≡ word 2 s (framesAt s + 28 * i + 24) = rw d at f in
+      let r = frame-range s t i l in
+      let a = told-arranged s t in
+      (omega arith, omega arith)
+
+  pub hit-is : (a : ℕ) (r : Found) → r ≡ firstOf (inFrame s a i k n) → r ≡ firstOf (inFrame s a i (recordIndex s i) (recordCount s i))
+  hit-is a r h =
+      let v : k ≡ recordIndex s i = rw d at e in
+      let w : n ≡ recordCount s i = rw d at f in
+      rw (v, w) at h

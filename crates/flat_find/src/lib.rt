@@ -25,7 +25,7 @@ fn not_found(number: u8) -> Found
 
 // The first of n records from k on that has the address in the frame i.
 fn in_frame(s: &[u8], address: u64, i: usize, k: usize, n: usize) -> Found
-    requires { ⌜ (sectionLeast ≤ length (now s)) × (framesAt (now s) + frameSize * i + frameSize ≤ length (now s)) × (recordsAt (now s) + recordSize * (k + n) ≤ length (now s)) × (k + n ≤ 131070) ⌝ }
+    requires { ⌜ (sectionLeast ≤ length (now s)) × (framesAt (now s) + frameSize * i + frameSize ≤ length (now s)) × (recordsAt (now s) + recordSize * (k + n) ≤ length (now s)) ⌝ }
     ensures { λ r. ⌜ r ≡ firstOf (inFrame (now (s .entry)) address i k n) ⌝ }
 {
     let frames = offsets::offset(s, layout::FRAMES_OFFSET_AT);
