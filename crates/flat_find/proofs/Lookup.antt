@@ -69,11 +69,11 @@ look-end s a i k n j r t l e = let z : k + n - j ≡ 0 = omega arith in e ∙ sy
 
 -- From frame to frame.
 
-first-hit : (xs ys : List Match) → firstOf xs .number ≡ 0 → firstOf (xs ++ ys) ≡ firstOf xs
+pub first-hit : (xs ys : List Match) → firstOf xs .number ≡ 0 → firstOf (xs ++ ys) ≡ firstOf xs
 first-hit [] ys h = absurd (omega arith)
 first-hit (x ∷ xs) ys h = refl
 
-first-miss : (xs ys : List Match) → (firstOf xs .number ≡ 0 → ⊥) → firstOf (xs ++ ys) ≡ firstOf ys
+pub first-miss : (xs ys : List Match) → (firstOf xs .number ≡ 0 → ⊥) → firstOf (xs ++ ys) ≡ firstOf ys
 first-miss [] ys h = refl
 first-miss (x ∷ xs) ys h = absurd (h refl)
 
