@@ -31,35 +31,55 @@ pub fn num_constants(s: &[u8]) -> usize
     requires { ⌜ sectionLeast ≤ length (now s) ⌝ }
     ensures { λ r. ⌜ r ≡ numConstants (now (s .entry)) ⌝ }
 {
-    count(offset(s, layout::CONSTANTS_OFFSET_AT), offset(s, layout::FRAMES_OFFSET_AT), layout::CONSTANT_SIZE)
+    count(
+        offset(s, layout::CONSTANTS_OFFSET_AT),
+        offset(s, layout::FRAMES_OFFSET_AT),
+        layout::CONSTANT_SIZE,
+    )
 }
 
 pub fn num_frames(s: &[u8]) -> usize
     requires { ⌜ sectionLeast ≤ length (now s) ⌝ }
     ensures { λ r. ⌜ r ≡ numFrames (now (s .entry)) ⌝ }
 {
-    count(offset(s, layout::FRAMES_OFFSET_AT), offset(s, layout::REGISTERS_OFFSET_AT), layout::FRAME_SIZE)
+    count(
+        offset(s, layout::FRAMES_OFFSET_AT),
+        offset(s, layout::REGISTERS_OFFSET_AT),
+        layout::FRAME_SIZE,
+    )
 }
 
 pub fn num_records(s: &[u8]) -> usize
     requires { ⌜ sectionLeast ≤ length (now s) ⌝ }
     ensures { λ r. ⌜ r ≡ numRecords (now (s .entry)) ⌝ }
 {
-    count(offset(s, layout::RECORDS_OFFSET_AT), offset(s, layout::LOCATIONS_OFFSET_AT), layout::RECORD_SIZE)
+    count(
+        offset(s, layout::RECORDS_OFFSET_AT),
+        offset(s, layout::LOCATIONS_OFFSET_AT),
+        layout::RECORD_SIZE,
+    )
 }
 
 pub fn num_locations(s: &[u8]) -> usize
     requires { ⌜ sectionLeast ≤ length (now s) ⌝ }
     ensures { λ r. ⌜ r ≡ numLocations (now (s .entry)) ⌝ }
 {
-    count(offset(s, layout::LOCATIONS_OFFSET_AT), offset(s, layout::LIVE_OUTS_OFFSET_AT), layout::LOCATION_SIZE)
+    count(
+        offset(s, layout::LOCATIONS_OFFSET_AT),
+        offset(s, layout::LIVE_OUTS_OFFSET_AT),
+        layout::LOCATION_SIZE,
+    )
 }
 
 pub fn num_live_outs(s: &[u8]) -> usize
     requires { ⌜ sectionLeast ≤ length (now s) ⌝ }
     ensures { λ r. ⌜ r ≡ numLiveOuts (now (s .entry)) ⌝ }
 {
-    count(offset(s, layout::LIVE_OUTS_OFFSET_AT), s.len(), layout::LIVE_OUT_SIZE)
+    count(
+        offset(s, layout::LIVE_OUTS_OFFSET_AT),
+        s.len(),
+        layout::LIVE_OUT_SIZE,
+    )
 }
 
 // An index plus a count, each at its place.
@@ -85,7 +105,11 @@ fn registers_used(s: &[u8], frames: usize, n: usize) -> usize
     let mut i: usize = 0;
     while i < n {
         let at = frames + layout::FRAME_SIZE * i;
-        let end = range_end(s, at + layout::REGISTER_INDEX_AT, at + layout::REGISTER_COUNT_AT);
+        let end = range_end(
+            s,
+            at + layout::REGISTER_INDEX_AT,
+            at + layout::REGISTER_COUNT_AT,
+        );
         most = larger(most, end);
         i += 1;
     }
@@ -125,19 +149,54 @@ pub fn offsets_right(s: &[u8]) -> bool
     if constants != after(layout::HEADER_SIZE, 1, 0, layout::CONSTANT_ALIGN) {
         return false;
     }
-    if frames != after(constants, layout::CONSTANT_SIZE, num_constants(s), layout::FRAME_ALIGN) {
+    if frames
+        != after(
+            constants,
+            layout::CONSTANT_SIZE,
+            num_constants(s),
+            layout::FRAME_ALIGN,
+        )
+    {
         return false;
     }
-    if registers != after(frames, layout::FRAME_SIZE, num_frames(s), layout::REGISTER_ALIGN) {
+    if registers
+        != after(
+            frames,
+            layout::FRAME_SIZE,
+            num_frames(s),
+            layout::REGISTER_ALIGN,
+        )
+    {
         return false;
     }
-    if records != after(registers, layout::REGISTER_SIZE, num_registers(s), layout::RECORD_ALIGN) {
+    if records
+        != after(
+            registers,
+            layout::REGISTER_SIZE,
+            num_registers(s),
+            layout::RECORD_ALIGN,
+        )
+    {
         return false;
     }
-    if locations != after(records, layout::RECORD_SIZE, num_records(s), layout::LOCATION_ALIGN) {
+    if locations
+        != after(
+            records,
+            layout::RECORD_SIZE,
+            num_records(s),
+            layout::LOCATION_ALIGN,
+        )
+    {
         return false;
     }
-    if live_outs != after(locations, layout::LOCATION_SIZE, num_locations(s), layout::LIVE_OUT_ALIGN) {
+    if live_outs
+        != after(
+            locations,
+            layout::LOCATION_SIZE,
+            num_locations(s),
+            layout::LIVE_OUT_ALIGN,
+        )
+    {
         return false;
     }
     s.len() == after(live_outs, layout::LIVE_OUT_SIZE, num_live_outs(s), 1)

@@ -17,7 +17,13 @@ fn frames_inside(s: &[u8], frames: usize, n: usize, records: usize) -> bool
     let mut i: usize = 0;
     while i < n {
         let at = frames + layout::FRAME_SIZE * i;
-        if offsets::range_end(s, at + layout::RECORD_INDEX_AT, at + layout::RECORD_COUNT_AT) > records {
+        if offsets::range_end(
+            s,
+            at + layout::RECORD_INDEX_AT,
+            at + layout::RECORD_COUNT_AT,
+        )
+            > records
+        {
             return false;
         }
         i += 1;
@@ -29,10 +35,21 @@ fn record_inside(s: &[u8], at: usize, locations: usize, outs: usize) -> bool
     requires { ⌜ at + recordSize ≤ length (now s) ⌝ }
     ensures { λ r. ⌜ r ≡ recordInside (now (s .entry)) locations outs at ⌝ }
 {
-    if offsets::range_end(s, at + layout::LOCATION_INDEX_AT, at + layout::LOCATION_COUNT_AT) > locations {
+    if offsets::range_end(
+        s,
+        at + layout::LOCATION_INDEX_AT,
+        at + layout::LOCATION_COUNT_AT,
+    )
+        > locations
+    {
         return false;
     }
-    offsets::range_end(s, at + layout::LIVE_OUT_INDEX_AT, at + layout::LIVE_OUT_COUNT_AT) <= outs
+    offsets::range_end(
+        s,
+        at + layout::LIVE_OUT_INDEX_AT,
+        at + layout::LIVE_OUT_COUNT_AT,
+    )
+        <= outs
 }
 
 // Whether the ranges of n records end within the locations and live-outs.
@@ -60,5 +77,11 @@ pub fn ranges_right(s: &[u8]) -> bool
     if !frames_inside(s, frames, offsets::num_frames(s), n) {
         return false;
     }
-    records_inside(s, records, n, offsets::num_locations(s), offsets::num_live_outs(s))
+    records_inside(
+        s,
+        records,
+        n,
+        offsets::num_locations(s),
+        offsets::num_live_outs(s),
+    )
 }

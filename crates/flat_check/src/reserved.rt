@@ -36,8 +36,20 @@ fn header_clear(s: &[u8]) -> bool
     ensures { λ r. ⌜ r ≡ headerClear (now (s .entry)) ⌝ }
 {
     both(
-        each_below(s, layout::BELOW_NONE, layout::HEADER_RESERVED_AT, 1, layout::HEADER_RESERVED_SIZE),
-        each_below(s, layout::BELOW_NONE, layout::HEADER_SIZE, 1, layout::HEADER_PADDING),
+        each_below(
+            s,
+            layout::BELOW_NONE,
+            layout::HEADER_RESERVED_AT,
+            1,
+            layout::HEADER_RESERVED_SIZE,
+        ),
+        each_below(
+            s,
+            layout::BELOW_NONE,
+            layout::HEADER_SIZE,
+            1,
+            layout::HEADER_PADDING,
+        ),
     )
 }
 
@@ -48,8 +60,20 @@ fn frames_clear(s: &[u8]) -> bool
     let at = offsets::offset(s, layout::FRAMES_OFFSET_AT);
     let n = offsets::num_frames(s);
     both(
-        each_below(s, layout::BELOW_FOUR, at + layout::FRAME_FLAGS_AT, layout::FRAME_SIZE, n),
-        each_below(s, layout::BELOW_NONE, at + layout::FRAME_FLAGS_HIGH_AT, layout::FRAME_SIZE, n),
+        each_below(
+            s,
+            layout::BELOW_FOUR,
+            at + layout::FRAME_FLAGS_AT,
+            layout::FRAME_SIZE,
+            n,
+        ),
+        each_below(
+            s,
+            layout::BELOW_NONE,
+            at + layout::FRAME_FLAGS_HIGH_AT,
+            layout::FRAME_SIZE,
+            n,
+        ),
     )
 }
 
@@ -63,7 +87,13 @@ fn registers_clear(s: &[u8]) -> bool
     let next = offsets::offset(s, layout::RECORDS_OFFSET_AT);
     let end = at + layout::REGISTER_SIZE * n;
     both(
-        each_below(s, layout::BELOW_ONE, at + layout::REGISTER_FLAGS_AT, layout::REGISTER_SIZE, n),
+        each_below(
+            s,
+            layout::BELOW_ONE,
+            at + layout::REGISTER_FLAGS_AT,
+            layout::REGISTER_SIZE,
+            n,
+        ),
         each_below(s, layout::BELOW_NONE, end, 1, next - end),
     )
 }
@@ -78,7 +108,13 @@ fn records_clear(s: &[u8]) -> bool
     let next = offsets::offset(s, layout::LOCATIONS_OFFSET_AT);
     let end = at + layout::RECORD_SIZE * n;
     both(
-        each_below(s, layout::BELOW_ONE, at + layout::RECORD_FLAGS_AT, layout::RECORD_SIZE, n),
+        each_below(
+            s,
+            layout::BELOW_ONE,
+            at + layout::RECORD_FLAGS_AT,
+            layout::RECORD_SIZE,
+            n,
+        ),
         each_below(s, layout::BELOW_NONE, end, 1, next - end),
     )
 }
@@ -93,8 +129,20 @@ fn items_clear(s: &[u8]) -> bool
     let n = offsets::num_locations(s);
     let m = offsets::num_live_outs(s);
     both(
-        each_below(s, layout::BELOW_NONE, at + layout::LOCATION_RESERVED_AT, layout::LOCATION_SIZE, n),
-        each_below(s, layout::BELOW_NONE, next + layout::LIVE_OUT_RESERVED_AT, layout::LIVE_OUT_SIZE, m),
+        each_below(
+            s,
+            layout::BELOW_NONE,
+            at + layout::LOCATION_RESERVED_AT,
+            layout::LOCATION_SIZE,
+            n,
+        ),
+        each_below(
+            s,
+            layout::BELOW_NONE,
+            next + layout::LIVE_OUT_RESERVED_AT,
+            layout::LIVE_OUT_SIZE,
+            m,
+        ),
     )
 }
 
@@ -102,5 +150,11 @@ pub fn reserved_clear(s: &[u8]) -> bool
     requires { ⌜ (sectionLeast ≤ length (now s)) × (offsetsRight (now s) ≡ true) ⌝ }
     ensures { λ r. ⌜ r ≡ reservedClear (now (s .entry)) ⌝ }
 {
-    both(both(both(both(header_clear(s), frames_clear(s)), registers_clear(s)), records_clear(s)), items_clear(s))
+    both(
+        both(
+            both(both(header_clear(s), frames_clear(s)), registers_clear(s)),
+            records_clear(s),
+        ),
+        items_clear(s),
+    )
 }

@@ -130,7 +130,7 @@ module _ (s : List ℕ) (w : Bytes s) where
       let z : at + size * 0 ≡ at = omega arith in
       let f = rw z at (h 0 (omega arith)) in
       let rest : all show (many read size n s (at + size)) ++ drop stop s ≡ drop (at + size) s =
-          all-front read show size n (at + size) stop (omega arith) l (λ i m. let p : at + size * suc i ≡ at + size + size * i = omega arith in rw p at (h (suc i) (omega arith))) in
+      all-front read show size n (at + size) stop (omega arith) l (λ i m. let p : at + size * suc i ≡ at + size + size * i = omega arith in rw p at (h (suc i) (omega arith))) in
       rw (append-assoc, rest) (f (omega arith))
 
 pub length-many : {A : Type 0} (read : List ℕ → ℕ → A) (size n : ℕ) (s : List ℕ) (at : ℕ) → length (many read size n s at) ≡ n

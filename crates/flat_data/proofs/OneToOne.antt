@@ -80,7 +80,8 @@ module _ (s : List ℕ) (w : Bytes s) (t : Told s) where
 
   live-outs-part : all liveOutBytes (many readLiveOut 4 (numLiveOuts s) s (liveOutsAt s)) ≡ drop (liveOutsAt s) s
   live-outs-part =
-      let h = all-front s w readLiveOut liveOutBytes 4 (numLiveOuts s) (liveOutsAt s) (length s) (arr .end) (omega arith) (λ i l m. live-out-front s w _ (let p : liveOutsAt s + 2 + 4 * i ≡ liveOutsAt s + 4 * i + 2 = omega arith in rw p at (reserved s w (liveOutsAt s + 2) 4 (numLiveOuts s) (cleared .live-outs) i l)) m) in
+      let h = all-front s w readLiveOut liveOutBytes 4 (numLiveOuts s) (liveOutsAt s) (length s) (arr .end) (omega arith) (λ i l m. live-out-front s w _
+      (let p : liveOutsAt s + 2 + 4 * i ≡ liveOutsAt s + 4 * i + 2 = omega arith in rw p at (reserved s w (liveOutsAt s + 2) 4 (numLiveOuts s) (cleared .live-outs) i l)) m) in
       rw (drop-length s, append-nil) at h
 
   locations-part : all locationBytes (many readLocation 8 (numLocations s) s (locationsAt s)) ++ drop (liveOutsAt s) s ≡ drop (locationsAt s) s

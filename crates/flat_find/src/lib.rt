@@ -20,7 +20,12 @@ pub struct Found {
 fn not_found(number: u8) -> Found
     ensures { λ r. ⌜ r ≡ notFound number ⌝ }
 {
-    Found { number: number, place: 0, frame: 0, index: 0 }
+    Found {
+        number: number,
+        place: 0,
+        frame: 0,
+        index: 0,
+    }
 }
 
 // The first of n records from k on that has the address in the frame i.
@@ -38,9 +43,17 @@ fn in_frame(s: &[u8], address: u64, i: usize, k: usize, n: usize) -> Found
     let end = k + n;
     let mut j = k;
     while j < end {
-        let offset = wire::u32_at(s, records + layout::RECORD_SIZE * j + layout::INSTRUCTION_OFFSET_AT) as u64;
+        let offset = wire::u32_at(
+            s,
+            records + layout::RECORD_SIZE * j + layout::INSTRUCTION_OFFSET_AT,
+        ) as u64;
         if offset == rest {
-            return Found { number: 0, place: 0, frame: i, index: j };
+            return Found {
+                number: 0,
+                place: 0,
+                frame: i,
+                index: j,
+            };
         }
         j += 1;
     }

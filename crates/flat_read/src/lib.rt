@@ -17,7 +17,11 @@ pub struct ConstantAnswer {
 fn no_constant(number: u8) -> ConstantAnswer
     ensures { λ r. ⌜ r ≡ noConstant number ⌝ }
 {
-    ConstantAnswer { number: number, place: 0, value: 0 }
+    ConstantAnswer {
+        number: number,
+        place: 0,
+        value: 0,
+    }
 }
 
 // The constant that stands at a place.
@@ -43,7 +47,10 @@ pub fn constant(s: &[u8], k: u64) -> ConstantAnswer
     if k >= offsets::num_constants(s) as u64 {
         return no_constant(11);
     }
-    constant_at(s, layout::SECTION_LEAST + layout::CONSTANT_SIZE * (k as usize))
+    constant_at(
+        s,
+        layout::SECTION_LEAST + layout::CONSTANT_SIZE * (k as usize),
+    )
 }
 
 pub struct FrameAnswer {
@@ -63,7 +70,19 @@ pub struct FrameAnswer {
 fn no_frame(number: u8) -> FrameAnswer
     ensures { λ r. ⌜ r ≡ noFrame number ⌝ }
 {
-    FrameAnswer { number: number, place: 0, address: 0, size: 0, stack: 0, flags: 0, base: 0, registers: 0, registersat: 0, records: 0, recordsat: 0 }
+    FrameAnswer {
+        number: number,
+        place: 0,
+        address: 0,
+        size: 0,
+        stack: 0,
+        flags: 0,
+        base: 0,
+        registers: 0,
+        registersat: 0,
+        records: 0,
+        recordsat: 0,
+    }
 }
 
 // The frame that stands at a place.
@@ -97,7 +116,10 @@ pub fn frame(s: &[u8], k: u64) -> FrameAnswer
     if k >= offsets::num_frames(s) as u64 {
         return no_frame(10);
     }
-    frame_at(s, offsets::offset(s, layout::FRAMES_OFFSET_AT) + layout::FRAME_SIZE * (k as usize))
+    frame_at(
+        s,
+        offsets::offset(s, layout::FRAMES_OFFSET_AT) + layout::FRAME_SIZE * (k as usize),
+    )
 }
 
 pub struct RegisterAnswer {
@@ -112,7 +134,14 @@ pub struct RegisterAnswer {
 fn no_register(number: u8) -> RegisterAnswer
     ensures { λ r. ⌜ r ≡ noRegister number ⌝ }
 {
-    RegisterAnswer { number: number, place: 0, register: 0, offset: 0, size: 0, flags: 0 }
+    RegisterAnswer {
+        number: number,
+        place: 0,
+        register: 0,
+        offset: 0,
+        size: 0,
+        flags: 0,
+    }
 }
 
 // The frame register that stands at a place.
@@ -141,7 +170,10 @@ pub fn register(s: &[u8], k: u64) -> RegisterAnswer
     if k >= offsets::num_registers(s) as u64 {
         return no_register(11);
     }
-    register_at(s, offsets::offset(s, layout::REGISTERS_OFFSET_AT) + layout::REGISTER_SIZE * (k as usize))
+    register_at(
+        s,
+        offsets::offset(s, layout::REGISTERS_OFFSET_AT) + layout::REGISTER_SIZE * (k as usize),
+    )
 }
 
 pub struct RecordAnswer {
@@ -160,7 +192,18 @@ pub struct RecordAnswer {
 fn no_record(number: u8) -> RecordAnswer
     ensures { λ r. ⌜ r ≡ noRecord number ⌝ }
 {
-    RecordAnswer { number: number, place: 0, id: 0, offset: 0, call: 0, flags: 0, locations: 0, locationsat: 0, liveouts: 0, liveoutsat: 0 }
+    RecordAnswer {
+        number: number,
+        place: 0,
+        id: 0,
+        offset: 0,
+        call: 0,
+        flags: 0,
+        locations: 0,
+        locationsat: 0,
+        liveouts: 0,
+        liveoutsat: 0,
+    }
 }
 
 // The record that stands at a place.
@@ -193,7 +236,10 @@ pub fn record(s: &[u8], k: u64) -> RecordAnswer
     if k >= offsets::num_records(s) as u64 {
         return no_record(10);
     }
-    record_at(s, offsets::offset(s, layout::RECORDS_OFFSET_AT) + layout::RECORD_SIZE * (k as usize))
+    record_at(
+        s,
+        offsets::offset(s, layout::RECORDS_OFFSET_AT) + layout::RECORD_SIZE * (k as usize),
+    )
 }
 
 pub struct LocationAnswer {
@@ -207,7 +253,13 @@ pub struct LocationAnswer {
 fn no_location(number: u8) -> LocationAnswer
     ensures { λ r. ⌜ r ≡ noLocation number ⌝ }
 {
-    LocationAnswer { number: number, place: 0, kind: 0, register: 0, offset: 0 }
+    LocationAnswer {
+        number: number,
+        place: 0,
+        kind: 0,
+        register: 0,
+        offset: 0,
+    }
 }
 
 // The location that stands at a place.
@@ -235,7 +287,10 @@ pub fn location(s: &[u8], k: u64) -> LocationAnswer
     if k >= offsets::num_locations(s) as u64 {
         return no_location(11);
     }
-    location_at(s, offsets::offset(s, layout::LOCATIONS_OFFSET_AT) + layout::LOCATION_SIZE * (k as usize))
+    location_at(
+        s,
+        offsets::offset(s, layout::LOCATIONS_OFFSET_AT) + layout::LOCATION_SIZE * (k as usize),
+    )
 }
 
 pub struct LiveOutAnswer {
@@ -248,7 +303,12 @@ pub struct LiveOutAnswer {
 fn no_live_out(number: u8) -> LiveOutAnswer
     ensures { λ r. ⌜ r ≡ noLiveOut number ⌝ }
 {
-    LiveOutAnswer { number: number, place: 0, register: 0, size: 0 }
+    LiveOutAnswer {
+        number: number,
+        place: 0,
+        register: 0,
+        size: 0,
+    }
 }
 
 // The live-out that stands at a place.
@@ -275,5 +335,8 @@ pub fn live_out(s: &[u8], k: u64) -> LiveOutAnswer
     if k >= offsets::num_live_outs(s) as u64 {
         return no_live_out(11);
     }
-    live_out_at(s, offsets::offset(s, layout::LIVE_OUTS_OFFSET_AT) + layout::LIVE_OUT_SIZE * (k as usize))
+    live_out_at(
+        s,
+        offsets::offset(s, layout::LIVE_OUTS_OFFSET_AT) + layout::LIVE_OUT_SIZE * (k as usize),
+    )
 }

@@ -28,16 +28,24 @@ ranges-right-requires : tie.Need-ranges-right-requires
 ranges-right-requires c κs = (omega arith, sym (c .before .offsets-right .ensures) ∙ not-false _ (c .if4 .left))
 
 returns-5 : tie.Need-returns-5
-returns-5 c = wrong-ranges _ (omega arith) (omega arith) (omega arith) (sym (c .before .before .before .offsets-right .ensures) ∙ not-false _ (c .before .before .if4 .left)) (sym (c .before .ranges-right .ensures) ∙ not-true _ (c .if5 .taken))
+returns-5 c =
+    wrong-ranges _ (omega arith) (omega arith) (omega arith) (sym (c .before .before .before .offsets-right .ensures) ∙ not-false _ (c .before .before .if4 .left)) (sym
+    (c .before .ranges-right .ensures) ∙ not-true _ (c .if5 .taken))
 
 reserved-clear-requires : tie.Need-reserved-clear-requires
 reserved-clear-requires c κs = (omega arith, sym (c .before .before .before .offsets-right .ensures) ∙ not-false _ (c .before .before .if4 .left))
 
 returns-6 : tie.Need-returns-6
-returns-6 c = wrong-reserved _ (omega arith) (omega arith) (omega arith) (sym (c .before .before .before .before .before .offsets-right .ensures) ∙ not-false _ (c .before .before .before .before .if4 .left)) (sym (c .before .before .before .ranges-right .ensures) ∙ not-false _ (c .before .before .if5 .left)) (sym (c .before .reserved-clear .ensures) ∙ not-true _ (c .if6 .taken))
+returns-6 c =
+    wrong-reserved _ (omega arith) (omega arith) (omega arith) (sym (c .before .before .before .before .before .offsets-right .ensures) ∙ not-false _
+    (c .before .before .before .before .if4 .left)) (sym (c .before .before .before .ranges-right .ensures) ∙ not-false _ (c .before .before .if5 .left)) (sym
+    (c .before .reserved-clear .ensures) ∙ not-true _ (c .if6 .taken))
 
 returns-7 : tie.Need-returns-7
-returns-7 c = all-right _ (omega arith) (omega arith) (omega arith) (sym (c .before .before .before .before .before .offsets-right .ensures) ∙ not-false _ (c .before .before .before .before .if4 .left)) (sym (c .before .before .before .ranges-right .ensures) ∙ not-false _ (c .before .before .if5 .left)) (sym (c .before .reserved-clear .ensures) ∙ not-false _ (c .if6 .left))
+returns-7 c =
+    all-right _ (omega arith) (omega arith) (omega arith) (sym (c .before .before .before .before .before .offsets-right .ensures) ∙ not-false _
+    (c .before .before .before .before .if4 .left)) (sym (c .before .before .before .ranges-right .ensures) ∙ not-false _ (c .before .before .if5 .left)) (sym
+    (c .before .reserved-clear .ensures) ∙ not-false _ (c .if6 .left))
 
 pub check-spec : {M : Type 1} → statement M
 check-spec =

@@ -54,7 +54,10 @@ cast-offset : tie.Need-cast-offset Inv-loop μ-loop
 cast-offset c = search needs
 
 returns-2 : tie.Need-returns-2 Inv-loop μ-loop
-returns-2 c = look-hit _ _ _ _ _ _ (c .before .before .before .loop .inv) (omega arith) (sum-is _ _ _ _ _ _ _ _ (c .before .before .before .before .before .before .before .offset .ensures .0) (c .before .before .before .before .before .before .offset2 .ensures .0) (c .before .before .before .before .before .u64-at .ensures) (c .before .u32-at .ensures) (c .before .before .before .before .if1 .left) .0 (c .if2 .taken))
+returns-2 c =
+    look-hit _ _ _ _ _ _ (c .before .before .before .loop .inv) (omega arith) (sum-is _ _ _ _ _ _ _ _
+    (c .before .before .before .before .before .before .before .offset .ensures .0) (c .before .before .before .before .before .before .offset2 .ensures .0)
+    (c .before .before .before .before .before .u64-at .ensures) (c .before .u32-at .ensures) (c .before .before .before .before .if1 .left) .0 (c .if2 .taken))
 
 add-j : tie.Need-add-j Inv-loop μ-loop
 add-j c = search needs
@@ -63,7 +66,10 @@ loop-less : tie.Need-loop-less Inv-loop μ-loop
 loop-less c = search needs
 
 loop-again : tie.Need-loop-again Inv-loop μ-loop
-loop-again c = look-on _ _ _ _ _ _ (c .before .before .before .loop .inv) (omega arith) (λ e. c .if2 .left (sum-is _ _ _ _ _ _ _ _ (c .before .before .before .before .before .before .before .offset .ensures .0) (c .before .before .before .before .before .before .offset2 .ensures .0) (c .before .before .before .before .before .u64-at .ensures) (c .before .u32-at .ensures) (c .before .before .before .before .if1 .left) .1 e))
+loop-again c =
+    look-on _ _ _ _ _ _ (c .before .before .before .loop .inv) (omega arith) (λ e. c .if2 .left (sum-is _ _ _ _ _ _ _ _
+    (c .before .before .before .before .before .before .before .offset .ensures .0) (c .before .before .before .before .before .before .offset2 .ensures .0)
+    (c .before .before .before .before .before .u64-at .ensures) (c .before .u32-at .ensures) (c .before .before .before .before .if1 .left) .1 e))
 
 not-found-requires-2 : tie.Need-not-found-requires-2 Inv-loop μ-loop
 not-found-requires-2 c κs = search needs

@@ -23,34 +23,81 @@ loop-holds : tie.Need-loop-holds Inv-loop μ-loop
 loop-holds c = go-start _ _
 
 mul-at : tie.Need-mul-at Inv-loop μ-loop
-mul-at c = let t = accepted-told _ (c .before .before .before .before .before .pre) in let a = told-arranged _ t in omega (arith, c .before .before .num-frames .ensures, c .before .before .before .offset .ensures .0, c .before .before .before .offset .ensures .1)
+mul-at c =
+    let t = accepted-told _ (c .before .before .before .before .before .pre) in let a = told-arranged _ t in omega (
+      arith,
+      c .before .before .num-frames .ensures,
+      c .before .before .before .offset .ensures .0,
+      c .before .before .before .offset .ensures .1,
+    )
 
 add-at : tie.Need-add-at Inv-loop μ-loop
-add-at c = let t = accepted-told _ (c .before .before .before .before .before .pre) in let a = told-arranged _ t in omega (arith, c .before .before .num-frames .ensures, c .before .before .before .offset .ensures .0, c .before .before .before .offset .ensures .1)
+add-at c =
+    let t = accepted-told _ (c .before .before .before .before .before .pre) in let a = told-arranged _ t in omega (
+      arith,
+      c .before .before .num-frames .ensures,
+      c .before .before .before .offset .ensures .0,
+      c .before .before .before .offset .ensures .1,
+    )
 
 add-u16-at : tie.Need-add-u16-at Inv-loop μ-loop
-add-u16-at c = let t = accepted-told _ (c .before .before .before .before .before .pre) in let a = told-arranged _ t in omega (arith, c .before .before .num-frames .ensures, c .before .before .before .offset .ensures .0, c .before .before .before .offset .ensures .1)
+add-u16-at c =
+    let t = accepted-told _ (c .before .before .before .before .before .pre) in let a = told-arranged _ t in omega (
+      arith,
+      c .before .before .num-frames .ensures,
+      c .before .before .before .offset .ensures .0,
+      c .before .before .before .offset .ensures .1,
+    )
 
 u16-at-requires : tie.Need-u16-at-requires Inv-loop μ-loop
-u16-at-requires c κs = let t = accepted-told _ (c .before .before .before .before .before .pre) in let a = told-arranged _ t in omega (arith, c .before .before .num-frames .ensures, c .before .before .before .offset .ensures .0, c .before .before .before .offset .ensures .1)
+u16-at-requires c κs =
+    let t = accepted-told _ (c .before .before .before .before .before .pre) in let a = told-arranged _ t in omega (
+      arith,
+      c .before .before .num-frames .ensures,
+      c .before .before .before .offset .ensures .0,
+      c .before .before .before .offset .ensures .1,
+    )
 
 cast-k : tie.Need-cast-k Inv-loop μ-loop
 cast-k c = search needs
 
 add-u16-at-2 : tie.Need-add-u16-at-2 Inv-loop μ-loop
-add-u16-at-2 c = let t = accepted-told _ (c .before .before .before .before .before .before .pre) in let a = told-arranged _ t in omega (arith, c .before .before .before .num-frames .ensures, c .before .before .before .before .offset .ensures .0, c .before .before .before .before .offset .ensures .1)
+add-u16-at-2 c =
+    let t = accepted-told _ (c .before .before .before .before .before .before .pre) in let a = told-arranged _ t in omega (
+      arith,
+      c .before .before .before .num-frames .ensures,
+      c .before .before .before .before .offset .ensures .0,
+      c .before .before .before .before .offset .ensures .1,
+    )
 
 u16-at-requires-2 : tie.Need-u16-at-requires-2 Inv-loop μ-loop
-u16-at-requires-2 c κs = let t = accepted-told _ (c .before .before .before .before .before .before .pre) in let a = told-arranged _ t in omega (arith, c .before .before .before .num-frames .ensures, c .before .before .before .before .offset .ensures .0, c .before .before .before .before .offset .ensures .1)
+u16-at-requires-2 c κs =
+    let t = accepted-told _ (c .before .before .before .before .before .before .pre) in let a = told-arranged _ t in omega (
+      arith,
+      c .before .before .before .num-frames .ensures,
+      c .before .before .before .before .offset .ensures .0,
+      c .before .before .before .before .offset .ensures .1,
+    )
 
 cast-count : tie.Need-cast-count Inv-loop μ-loop
 cast-count c = search needs
 
 in-frame-requires : tie.Need-in-frame-requires Inv-loop μ-loop
-in-frame-requires c κs = let t = accepted-told _ (c .before .before .before .before .before .before .before .pre) in let f = range-fits _ _ _ _ _ (c .before .before .before .before .before .offset .ensures .0) (c .before .u16-at .ensures) (c .u16-at2 .ensures) t (omega (arith, c .before .before .before .before .num-frames .ensures)) in (t .least, f .0, f .1)
+in-frame-requires c κs =
+    let t = accepted-told _ (c .before .before .before .before .before .before .before .pre) in let f = range-fits _ _ _ _ _
+    (c .before .before .before .before .before .offset .ensures .0) (c .before .u16-at .ensures) (c .u16-at2 .ensures) t (omega (
+      arith,
+      c .before .before .before .before .num-frames .ensures,
+    )) in (t .least, f .0, f .1)
 
 returns : tie.Need-returns Inv-loop μ-loop
-returns c = go-hit _ _ _ (c .before .before .before .before .before .before .loop .inv) (omega (arith, c .before .before .before .before .before .before .before .num-frames .ensures)) _ (hit-is _ _ _ _ _ (c .before .before .before .before .before .before .before .before .offset .ensures .0) (c .before .before .before .before .u16-at .ensures) (c .before .before .before .u16-at2 .ensures) _ _ (c .before .before .in-frame .ensures)) (c .if1 .taken)
+returns c =
+    go-hit _ _ _ (c .before .before .before .before .before .before .loop .inv) (omega (
+      arith,
+      c .before .before .before .before .before .before .before .num-frames .ensures,
+    )) _ (hit-is _ _ _ _ _
+    (c .before .before .before .before .before .before .before .before .offset .ensures .0) (c .before .before .before .before .u16-at .ensures)
+    (c .before .before .before .u16-at2 .ensures) _ _ (c .before .before .in-frame .ensures)) (c .if1 .taken)
 
 add-i : tie.Need-add-i Inv-loop μ-loop
 add-i c = search needs
@@ -59,7 +106,13 @@ loop-less : tie.Need-loop-less Inv-loop μ-loop
 loop-less c = search needs
 
 loop-again : tie.Need-loop-again Inv-loop μ-loop
-loop-again c = go-on _ _ _ (c .before .before .before .before .before .before .loop .inv) (omega (arith, c .before .before .before .before .before .before .before .num-frames .ensures)) _ (hit-is _ _ _ _ _ (c .before .before .before .before .before .before .before .before .offset .ensures .0) (c .before .before .before .before .u16-at .ensures) (c .before .before .before .u16-at2 .ensures) _ _ (c .before .before .in-frame .ensures)) (c .if1 .left)
+loop-again c =
+    go-on _ _ _ (c .before .before .before .before .before .before .loop .inv) (omega (
+      arith,
+      c .before .before .before .before .before .before .before .num-frames .ensures,
+    )) _ (hit-is _ _ _ _ _
+    (c .before .before .before .before .before .before .before .before .offset .ensures .0) (c .before .before .before .before .u16-at .ensures)
+    (c .before .before .before .u16-at2 .ensures) _ _ (c .before .before .in-frame .ensures)) (c .if1 .left)
 
 not-found-requires : tie.Need-not-found-requires Inv-loop μ-loop
 not-found-requires c κs = search needs

@@ -26,7 +26,12 @@ no-constant-requires-2 c κs = search needs
 
 returns-2 : tie.Need-returns-2
 unfolding constantAnswer
-returns-2 c = c .no-constant2 .ensures ∙ asked-missing _ _ _ _ _ _ _ (c .before .before .before .before .check .ensures) (c .before .before .before .if1 .left) (omega (arith, c .before .before .num-constants .ensures, c .before .if2 .taken))
+returns-2 c =
+    c .no-constant2 .ensures ∙ asked-missing _ _ _ _ _ _ _ (c .before .before .before .before .check .ensures) (c .before .before .before .if1 .left) (omega (
+      arith,
+      c .before .before .num-constants .ensures,
+      c .before .if2 .taken,
+    ))
 
 mul-constant-at : tie.Need-mul-constant-at
 mul-constant-at c = let t = accepted-told _ (sym (c .before .before .before .check .ensures) ∙ c .before .before .if1 .left) in let a = told-arranged _ t in omega (arith, c .before .num-constants .ensures, c .if2 .left)
@@ -39,7 +44,12 @@ constant-at-requires c κs = let t = accepted-told _ (sym (c .before .before .be
 
 returns-3 : tie.Need-returns-3
 unfolding constantAnswer
-returns-3 c = (c .constant-at .ensures) ∙ asked-there _ _ _ _ _ _ _ (c .before .before .before .before .check .ensures) (c .before .before .before .if1 .left) (omega (arith, c .before .before .num-constants .ensures, c .before .if2 .left))
+returns-3 c =
+    (c .constant-at .ensures) ∙ asked-there _ _ _ _ _ _ _ (c .before .before .before .before .check .ensures) (c .before .before .before .if1 .left) (omega (
+      arith,
+      c .before .before .num-constants .ensures,
+      c .before .if2 .left,
+    ))
 
 pub constant-spec : {M : Type 1} → statement M
 constant-spec =

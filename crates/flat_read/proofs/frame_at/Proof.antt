@@ -56,7 +56,18 @@ u16-at-requires-6 c κs = search needs
 
 returns : tie.Need-returns
 unfolding readFrame
-returns c = rw (c .u16-at6 .ensures, c .before .u16-at5 .ensures, c .before .before .u16-at4 .ensures, c .before .before .before .u16-at3 .ensures, c .before .before .before .before .u16-at2 .ensures, c .before .before .before .before .before .u16-at .ensures, c .before .before .before .before .before .before .u32-at2 .ensures, c .before .before .before .before .before .before .before .u32-at .ensures, c .before .before .before .before .before .before .before .before .u64-at .ensures)
+returns c =
+    rw (
+      c .u16-at6 .ensures,
+      c .before .u16-at5 .ensures,
+      c .before .before .u16-at4 .ensures,
+      c .before .before .before .u16-at3 .ensures,
+      c .before .before .before .before .u16-at2 .ensures,
+      c .before .before .before .before .before .u16-at .ensures,
+      c .before .before .before .before .before .before .u32-at2 .ensures,
+      c .before .before .before .before .before .before .before .u32-at .ensures,
+      c .before .before .before .before .before .before .before .before .u64-at .ensures,
+    )
 
 pub frame-at-spec : {M : Type 1} → statement M
 frame-at-spec =

@@ -26,23 +26,48 @@ no-live-out-requires-2 c κs = search needs
 
 returns-2 : tie.Need-returns-2
 unfolding liveOutAnswer
-returns-2 c = c .no-live-out2 .ensures ∙ asked-missing _ _ _ _ _ _ _ (c .before .before .before .before .check .ensures) (c .before .before .before .if1 .left) (omega (arith, c .before .before .num-live-outs .ensures, c .before .if2 .taken))
+returns-2 c =
+    c .no-live-out2 .ensures ∙ asked-missing _ _ _ _ _ _ _ (c .before .before .before .before .check .ensures) (c .before .before .before .if1 .left) (omega (
+      arith,
+      c .before .before .num-live-outs .ensures,
+      c .before .if2 .taken,
+    ))
 
 offset-requires : tie.Need-offset-requires
 offset-requires c κs = (omega arith, accepted-told _ (sym (c .before .before .before .check .ensures) ∙ c .before .before .if1 .left) .least)
 
 mul-live-out-at : tie.Need-mul-live-out-at
-mul-live-out-at c = let t = accepted-told _ (sym (c .before .before .before .before .check .ensures) ∙ c .before .before .before .if1 .left) in let a = told-arranged _ t in omega (arith, c .offset .ensures, c .before .before .num-live-outs .ensures, c .before .if2 .left)
+mul-live-out-at c =
+    let t = accepted-told _ (sym (c .before .before .before .before .check .ensures) ∙ c .before .before .before .if1 .left) in let a = told-arranged _ t in omega (
+      arith,
+      c .offset .ensures,
+      c .before .before .num-live-outs .ensures,
+      c .before .if2 .left,
+    )
 
 add-live-out-at : tie.Need-add-live-out-at
-add-live-out-at c = let t = accepted-told _ (sym (c .before .before .before .before .check .ensures) ∙ c .before .before .before .if1 .left) in let a = told-arranged _ t in omega (arith, c .offset .ensures, c .before .before .num-live-outs .ensures, c .before .if2 .left)
+add-live-out-at c =
+    let t = accepted-told _ (sym (c .before .before .before .before .check .ensures) ∙ c .before .before .before .if1 .left) in let a = told-arranged _ t in omega (
+      arith,
+      c .offset .ensures,
+      c .before .before .num-live-outs .ensures,
+      c .before .if2 .left,
+    )
 
 live-out-at-requires : tie.Need-live-out-at-requires
-live-out-at-requires c κs = let t = accepted-told _ (sym (c .before .before .before .before .check .ensures) ∙ c .before .before .before .if1 .left) in let a = told-arranged _ t in omega (arith, c .offset .ensures, c .before .before .num-live-outs .ensures, c .before .if2 .left)
+live-out-at-requires c κs =
+    let t = accepted-told _ (sym (c .before .before .before .before .check .ensures) ∙ c .before .before .before .if1 .left) in let a = told-arranged _ t in omega (
+      arith,
+      c .offset .ensures,
+      c .before .before .num-live-outs .ensures,
+      c .before .if2 .left,
+    )
 
 returns-3 : tie.Need-returns-3
 unfolding liveOutAnswer
-returns-3 c = (rw (c .before .offset .ensures .0) at (c .live-out-at .ensures)) ∙ asked-there _ _ _ _ _ _ _ (c .before .before .before .before .before .check .ensures) (c .before .before .before .before .if1 .left) (omega (arith, c .before .before .before .num-live-outs .ensures, c .before .before .if2 .left))
+returns-3 c =
+    (rw (c .before .offset .ensures .0) at (c .live-out-at .ensures)) ∙ asked-there _ _ _ _ _ _ _ (c .before .before .before .before .before .check .ensures)
+    (c .before .before .before .before .if1 .left) (omega (arith, c .before .before .before .num-live-outs .ensures, c .before .before .if2 .left))
 
 pub live-out-spec : {M : Type 1} → statement M
 live-out-spec =

@@ -26,23 +26,48 @@ no-location-requires-2 c κs = search needs
 
 returns-2 : tie.Need-returns-2
 unfolding locationAnswer
-returns-2 c = c .no-location2 .ensures ∙ asked-missing _ _ _ _ _ _ _ (c .before .before .before .before .check .ensures) (c .before .before .before .if1 .left) (omega (arith, c .before .before .num-locations .ensures, c .before .if2 .taken))
+returns-2 c =
+    c .no-location2 .ensures ∙ asked-missing _ _ _ _ _ _ _ (c .before .before .before .before .check .ensures) (c .before .before .before .if1 .left) (omega (
+      arith,
+      c .before .before .num-locations .ensures,
+      c .before .if2 .taken,
+    ))
 
 offset-requires : tie.Need-offset-requires
 offset-requires c κs = (omega arith, accepted-told _ (sym (c .before .before .before .check .ensures) ∙ c .before .before .if1 .left) .least)
 
 mul-location-at : tie.Need-mul-location-at
-mul-location-at c = let t = accepted-told _ (sym (c .before .before .before .before .check .ensures) ∙ c .before .before .before .if1 .left) in let a = told-arranged _ t in omega (arith, c .offset .ensures, c .before .before .num-locations .ensures, c .before .if2 .left)
+mul-location-at c =
+    let t = accepted-told _ (sym (c .before .before .before .before .check .ensures) ∙ c .before .before .before .if1 .left) in let a = told-arranged _ t in omega (
+      arith,
+      c .offset .ensures,
+      c .before .before .num-locations .ensures,
+      c .before .if2 .left,
+    )
 
 add-location-at : tie.Need-add-location-at
-add-location-at c = let t = accepted-told _ (sym (c .before .before .before .before .check .ensures) ∙ c .before .before .before .if1 .left) in let a = told-arranged _ t in omega (arith, c .offset .ensures, c .before .before .num-locations .ensures, c .before .if2 .left)
+add-location-at c =
+    let t = accepted-told _ (sym (c .before .before .before .before .check .ensures) ∙ c .before .before .before .if1 .left) in let a = told-arranged _ t in omega (
+      arith,
+      c .offset .ensures,
+      c .before .before .num-locations .ensures,
+      c .before .if2 .left,
+    )
 
 location-at-requires : tie.Need-location-at-requires
-location-at-requires c κs = let t = accepted-told _ (sym (c .before .before .before .before .check .ensures) ∙ c .before .before .before .if1 .left) in let a = told-arranged _ t in omega (arith, c .offset .ensures, c .before .before .num-locations .ensures, c .before .if2 .left)
+location-at-requires c κs =
+    let t = accepted-told _ (sym (c .before .before .before .before .check .ensures) ∙ c .before .before .before .if1 .left) in let a = told-arranged _ t in omega (
+      arith,
+      c .offset .ensures,
+      c .before .before .num-locations .ensures,
+      c .before .if2 .left,
+    )
 
 returns-3 : tie.Need-returns-3
 unfolding locationAnswer
-returns-3 c = (rw (c .before .offset .ensures .0) at (c .location-at .ensures)) ∙ asked-there _ _ _ _ _ _ _ (c .before .before .before .before .before .check .ensures) (c .before .before .before .before .if1 .left) (omega (arith, c .before .before .before .num-locations .ensures, c .before .before .if2 .left))
+returns-3 c =
+    (rw (c .before .offset .ensures .0) at (c .location-at .ensures)) ∙ asked-there _ _ _ _ _ _ _ (c .before .before .before .before .before .check .ensures)
+    (c .before .before .before .before .if1 .left) (omega (arith, c .before .before .before .num-locations .ensures, c .before .before .if2 .left))
 
 pub location-spec : {M : Type 1} → statement M
 location-spec =

@@ -26,23 +26,48 @@ no-record-requires-2 c κs = search needs
 
 returns-2 : tie.Need-returns-2
 unfolding recordAnswer
-returns-2 c = c .no-record2 .ensures ∙ asked-missing _ _ _ _ _ _ _ (c .before .before .before .before .check .ensures) (c .before .before .before .if1 .left) (omega (arith, c .before .before .num-records .ensures, c .before .if2 .taken))
+returns-2 c =
+    c .no-record2 .ensures ∙ asked-missing _ _ _ _ _ _ _ (c .before .before .before .before .check .ensures) (c .before .before .before .if1 .left) (omega (
+      arith,
+      c .before .before .num-records .ensures,
+      c .before .if2 .taken,
+    ))
 
 offset-requires : tie.Need-offset-requires
 offset-requires c κs = (omega arith, accepted-told _ (sym (c .before .before .before .check .ensures) ∙ c .before .before .if1 .left) .least)
 
 mul-record-at : tie.Need-mul-record-at
-mul-record-at c = let t = accepted-told _ (sym (c .before .before .before .before .check .ensures) ∙ c .before .before .before .if1 .left) in let a = told-arranged _ t in omega (arith, c .offset .ensures, c .before .before .num-records .ensures, c .before .if2 .left)
+mul-record-at c =
+    let t = accepted-told _ (sym (c .before .before .before .before .check .ensures) ∙ c .before .before .before .if1 .left) in let a = told-arranged _ t in omega (
+      arith,
+      c .offset .ensures,
+      c .before .before .num-records .ensures,
+      c .before .if2 .left,
+    )
 
 add-record-at : tie.Need-add-record-at
-add-record-at c = let t = accepted-told _ (sym (c .before .before .before .before .check .ensures) ∙ c .before .before .before .if1 .left) in let a = told-arranged _ t in omega (arith, c .offset .ensures, c .before .before .num-records .ensures, c .before .if2 .left)
+add-record-at c =
+    let t = accepted-told _ (sym (c .before .before .before .before .check .ensures) ∙ c .before .before .before .if1 .left) in let a = told-arranged _ t in omega (
+      arith,
+      c .offset .ensures,
+      c .before .before .num-records .ensures,
+      c .before .if2 .left,
+    )
 
 record-at-requires : tie.Need-record-at-requires
-record-at-requires c κs = let t = accepted-told _ (sym (c .before .before .before .before .check .ensures) ∙ c .before .before .before .if1 .left) in let a = told-arranged _ t in omega (arith, c .offset .ensures, c .before .before .num-records .ensures, c .before .if2 .left)
+record-at-requires c κs =
+    let t = accepted-told _ (sym (c .before .before .before .before .check .ensures) ∙ c .before .before .before .if1 .left) in let a = told-arranged _ t in omega (
+      arith,
+      c .offset .ensures,
+      c .before .before .num-records .ensures,
+      c .before .if2 .left,
+    )
 
 returns-3 : tie.Need-returns-3
 unfolding recordAnswer
-returns-3 c = (rw (c .before .offset .ensures .0) at (c .record-at .ensures)) ∙ asked-there _ _ _ _ _ _ _ (c .before .before .before .before .before .check .ensures) (c .before .before .before .before .if1 .left) (omega (arith, c .before .before .before .num-records .ensures, c .before .before .if2 .left))
+returns-3 c =
+    (rw (c .before .offset .ensures .0) at (c .record-at .ensures)) ∙ asked-there _ _ _ _ _ _ _ (c .before .before .before .before .before .check .ensures)
+    (c .before .before .before .before .if1 .left) (omega (arith, c .before .before .before .num-records .ensures, c .before .before .if2 .left))
 
 pub record-spec : {M : Type 1} → statement M
 record-spec =

@@ -51,7 +51,15 @@ u16-at-requires-4 c κs = search needs
 
 returns : tie.Need-returns
 unfolding readRecord
-returns c = rw (c .u16-at4 .ensures, c .before .u16-at3 .ensures, c .before .before .u16-at2 .ensures, c .before .before .before .u16-at .ensures, c .before .before .before .before .before .before .u32-at .ensures, c .before .before .before .before .before .before .before .u64-at .ensures) (simp byte-word)
+returns c =
+    rw (
+      c .u16-at4 .ensures,
+      c .before .u16-at3 .ensures,
+      c .before .before .u16-at2 .ensures,
+      c .before .before .before .u16-at .ensures,
+      c .before .before .before .before .before .before .u32-at .ensures,
+      c .before .before .before .before .before .before .before .u64-at .ensures,
+    ) (simp byte-word)
 
 pub record-at-spec : {M : Type 1} → statement M
 record-at-spec =

@@ -26,23 +26,48 @@ no-register-requires-2 c κs = search needs
 
 returns-2 : tie.Need-returns-2
 unfolding registerAnswer
-returns-2 c = c .no-register2 .ensures ∙ asked-missing _ _ _ _ _ _ _ (c .before .before .before .before .check .ensures) (c .before .before .before .if1 .left) (omega (arith, c .before .before .num-registers .ensures .0, c .before .if2 .taken))
+returns-2 c =
+    c .no-register2 .ensures ∙ asked-missing _ _ _ _ _ _ _ (c .before .before .before .before .check .ensures) (c .before .before .before .if1 .left) (omega (
+      arith,
+      c .before .before .num-registers .ensures .0,
+      c .before .if2 .taken,
+    ))
 
 offset-requires : tie.Need-offset-requires
 offset-requires c κs = (omega arith, accepted-told _ (sym (c .before .before .before .check .ensures) ∙ c .before .before .if1 .left) .least)
 
 mul-register-at : tie.Need-mul-register-at
-mul-register-at c = let t = accepted-told _ (sym (c .before .before .before .before .check .ensures) ∙ c .before .before .before .if1 .left) in let a = told-arranged _ t in omega (arith, c .offset .ensures, c .before .before .num-registers .ensures .0, c .before .if2 .left)
+mul-register-at c =
+    let t = accepted-told _ (sym (c .before .before .before .before .check .ensures) ∙ c .before .before .before .if1 .left) in let a = told-arranged _ t in omega (
+      arith,
+      c .offset .ensures,
+      c .before .before .num-registers .ensures .0,
+      c .before .if2 .left,
+    )
 
 add-register-at : tie.Need-add-register-at
-add-register-at c = let t = accepted-told _ (sym (c .before .before .before .before .check .ensures) ∙ c .before .before .before .if1 .left) in let a = told-arranged _ t in omega (arith, c .offset .ensures, c .before .before .num-registers .ensures .0, c .before .if2 .left)
+add-register-at c =
+    let t = accepted-told _ (sym (c .before .before .before .before .check .ensures) ∙ c .before .before .before .if1 .left) in let a = told-arranged _ t in omega (
+      arith,
+      c .offset .ensures,
+      c .before .before .num-registers .ensures .0,
+      c .before .if2 .left,
+    )
 
 register-at-requires : tie.Need-register-at-requires
-register-at-requires c κs = let t = accepted-told _ (sym (c .before .before .before .before .check .ensures) ∙ c .before .before .before .if1 .left) in let a = told-arranged _ t in omega (arith, c .offset .ensures, c .before .before .num-registers .ensures .0, c .before .if2 .left)
+register-at-requires c κs =
+    let t = accepted-told _ (sym (c .before .before .before .before .check .ensures) ∙ c .before .before .before .if1 .left) in let a = told-arranged _ t in omega (
+      arith,
+      c .offset .ensures,
+      c .before .before .num-registers .ensures .0,
+      c .before .if2 .left,
+    )
 
 returns-3 : tie.Need-returns-3
 unfolding registerAnswer
-returns-3 c = (rw (c .before .offset .ensures .0) at (c .register-at .ensures)) ∙ asked-there _ _ _ _ _ _ _ (c .before .before .before .before .before .check .ensures) (c .before .before .before .before .if1 .left) (omega (arith, c .before .before .before .num-registers .ensures .0, c .before .before .if2 .left))
+returns-3 c =
+    (rw (c .before .offset .ensures .0) at (c .register-at .ensures)) ∙ asked-there _ _ _ _ _ _ _ (c .before .before .before .before .before .check .ensures)
+    (c .before .before .before .before .if1 .left) (omega (arith, c .before .before .before .num-registers .ensures .0, c .before .before .if2 .left))
 
 pub register-spec : {M : Type 1} → statement M
 register-spec =

@@ -96,19 +96,72 @@ num-live-outs-requires c κs = search needs
 
 after-requires-7 : tie.Need-after-requires-7
 unfolding numLiveOuts
-after-requires-7 c κs =
-    (omega arith, omega arith, omega (arith, c .before .before .before .before .before .before .before .before .before .before .before .before .before .before .before .before .before .before .before .before .before .before .before .before .before .before .pre .1, c .num-live-outs .ensures, c .before .before .before .before .before .before .before .before .before .before .before .before .before .before .before .before .before .before .before .offset6 .ensures .1))
+after-requires-7 c κs = (
+  omega arith,
+  omega arith,
+  omega (
+    arith,
+    c .before .before .before .before .before .before .before .before .before .before .before .before .before .before .before .before .before .before .before .before .before .before .before .before .before .before .pre .1,
+    c .num-live-outs .ensures,
+    c .before .before .before .before .before .before .before .before .before .before .before .before .before .before .before .before .before .before .before .offset6 .ensures .1,
+  ),
+)
 
 returns-8 : tie.Need-returns-8
 returns-8 c =
     right-last _ _
-    (omega (arith, c .before .before .before .before .before .before .before .before .before .before .before .before .before .before .before .before .before .before .before .before .before .before .before .before .before .offset .ensures .0, c .before .before .before .before .before .before .before .before .before .before .before .before .before .before .before .before .before .if2 .left, c .before .before .before .before .before .before .before .before .before .before .before .before .before .before .before .before .before .before .after .ensures))
-    (omega (arith, c .before .before .before .before .before .before .before .before .before .before .before .before .before .before .before .before .before .before .before .before .before .before .before .before .offset2 .ensures .0, c .before .before .before .before .before .before .before .before .before .before .before .before .before .before .before .before .before .before .before .before .before .before .before .before .before .offset .ensures .0, c .before .before .before .before .before .before .before .before .before .before .before .before .before .before .if3 .left, c .before .before .before .before .before .before .before .before .before .before .before .before .before .before .before .after2 .ensures, c .before .before .before .before .before .before .before .before .before .before .before .before .before .before .before .before .num-constants .ensures))
-    (omega (arith, c .before .before .before .before .before .before .before .before .before .before .before .before .before .before .before .before .before .before .before .before .before .before .before .offset3 .ensures .0, c .before .before .before .before .before .before .before .before .before .before .before .before .before .before .before .before .before .before .before .before .before .before .before .before .offset2 .ensures .0, c .before .before .before .before .before .before .before .before .before .before .before .if4 .left, c .before .before .before .before .before .before .before .before .before .before .before .before .after3 .ensures, c .before .before .before .before .before .before .before .before .before .before .before .before .before .num-frames .ensures))
-    (omega (arith, c .before .before .before .before .before .before .before .before .before .before .before .before .before .before .before .before .before .before .before .before .before .before .offset4 .ensures .0, c .before .before .before .before .before .before .before .before .before .before .before .before .before .before .before .before .before .before .before .before .before .before .before .offset3 .ensures .0, c .before .before .before .before .before .before .before .before .if5 .left, c .before .before .before .before .before .before .before .before .before .after4 .ensures, c .before .before .before .before .before .before .before .before .before .before .num-registers .ensures .0))
-    (omega (arith, c .before .before .before .before .before .before .before .before .before .before .before .before .before .before .before .before .before .before .before .before .before .offset5 .ensures .0, c .before .before .before .before .before .before .before .before .before .before .before .before .before .before .before .before .before .before .before .before .before .before .offset4 .ensures .0, c .before .before .before .before .before .if6 .left, c .before .before .before .before .before .before .after5 .ensures, c .before .before .before .before .before .before .before .num-records .ensures))
-    (omega (arith, c .before .before .before .before .before .before .before .before .before .before .before .before .before .before .before .before .before .before .before .before .offset6 .ensures .0, c .before .before .before .before .before .before .before .before .before .before .before .before .before .before .before .before .before .before .before .before .before .offset5 .ensures .0, c .before .before .if7 .left, c .before .before .before .after6 .ensures, c .before .before .before .before .num-locations .ensures))
-    (omega (arith, c .after7 .ensures, c .before .num-live-outs .ensures, c .before .before .before .before .before .before .before .before .before .before .before .before .before .before .before .before .before .before .before .before .offset6 .ensures .0))
+    (omega (
+      arith,
+      c .before .before .before .before .before .before .before .before .before .before .before .before .before .before .before .before .before .before .before .before .before .before .before .before .before .offset .ensures .0,
+      c .before .before .before .before .before .before .before .before .before .before .before .before .before .before .before .before .before .if2 .left,
+      c .before .before .before .before .before .before .before .before .before .before .before .before .before .before .before .before .before .before .after .ensures,
+    ))
+    (omega (
+      arith,
+      c .before .before .before .before .before .before .before .before .before .before .before .before .before .before .before .before .before .before .before .before .before .before .before .before .offset2 .ensures .0,
+      c .before .before .before .before .before .before .before .before .before .before .before .before .before .before .before .before .before .before .before .before .before .before .before .before .before .offset .ensures .0,
+      c .before .before .before .before .before .before .before .before .before .before .before .before .before .before .if3 .left,
+      c .before .before .before .before .before .before .before .before .before .before .before .before .before .before .before .after2 .ensures,
+      c .before .before .before .before .before .before .before .before .before .before .before .before .before .before .before .before .num-constants .ensures,
+    ))
+    (omega (
+      arith,
+      c .before .before .before .before .before .before .before .before .before .before .before .before .before .before .before .before .before .before .before .before .before .before .before .offset3 .ensures .0,
+      c .before .before .before .before .before .before .before .before .before .before .before .before .before .before .before .before .before .before .before .before .before .before .before .before .offset2 .ensures .0,
+      c .before .before .before .before .before .before .before .before .before .before .before .if4 .left,
+      c .before .before .before .before .before .before .before .before .before .before .before .before .after3 .ensures,
+      c .before .before .before .before .before .before .before .before .before .before .before .before .before .num-frames .ensures,
+    ))
+    (omega (
+      arith,
+      c .before .before .before .before .before .before .before .before .before .before .before .before .before .before .before .before .before .before .before .before .before .before .offset4 .ensures .0,
+      c .before .before .before .before .before .before .before .before .before .before .before .before .before .before .before .before .before .before .before .before .before .before .before .offset3 .ensures .0,
+      c .before .before .before .before .before .before .before .before .if5 .left,
+      c .before .before .before .before .before .before .before .before .before .after4 .ensures,
+      c .before .before .before .before .before .before .before .before .before .before .num-registers .ensures .0,
+    ))
+    (omega (
+      arith,
+      c .before .before .before .before .before .before .before .before .before .before .before .before .before .before .before .before .before .before .before .before .before .offset5 .ensures .0,
+      c .before .before .before .before .before .before .before .before .before .before .before .before .before .before .before .before .before .before .before .before .before .before .offset4 .ensures .0,
+      c .before .before .before .before .before .if6 .left,
+      c .before .before .before .before .before .before .after5 .ensures,
+      c .before .before .before .before .before .before .before .num-records .ensures,
+    ))
+    (omega (
+      arith,
+      c .before .before .before .before .before .before .before .before .before .before .before .before .before .before .before .before .before .before .before .before .offset6 .ensures .0,
+      c .before .before .before .before .before .before .before .before .before .before .before .before .before .before .before .before .before .before .before .before .before .offset5 .ensures .0,
+      c .before .before .if7 .left,
+      c .before .before .before .after6 .ensures,
+      c .before .before .before .before .num-locations .ensures,
+    ))
+    (omega (
+      arith,
+      c .after7 .ensures,
+      c .before .num-live-outs .ensures,
+      c .before .before .before .before .before .before .before .before .before .before .before .before .before .before .before .before .before .before .before .before .offset6 .ensures .0,
+    ))
 
 pub offsets-right-spec : {M : Type 1} → statement M
 offsets-right-spec =

@@ -47,8 +47,15 @@ loop-again c =
     (omega arith, omega arith, greatest-on _ _ _ _ _ _ _ (omega arith) (c .before .before .before .loop .inv .2) (c .before .range-end .ensures .0) (c .larger .ensures))
 
 returns : tie.Need-returns Inv-loop μ-loop
-returns c =
-    (omega (arith, c .before .loop .inv .2, greatest-none (registersUsed (c .before .before .before .args .s .now) (c .before .before .before .args .frames)) (c .before .loop .i) (c .before .before .before .args .n - c .before .loop .i) (omega arith)), omega arith)
+returns c = (
+  omega (
+    arith,
+    c .before .loop .inv .2,
+    greatest-none (registersUsed (c .before .before .before .args .s .now) (c .before .before .before .args .frames))
+        (c .before .loop .i) (c .before .before .before .args .n - c .before .loop .i) (omega arith),
+  ),
+  omega arith,
+)
 
 pub registers-used-spec : {M : Type 1} → statement M
 registers-used-spec =

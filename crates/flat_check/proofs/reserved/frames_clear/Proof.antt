@@ -27,7 +27,9 @@ both-requires : tie.Need-both-requires
 both-requires c κs = search needs
 
 returns : tie.Need-returns
-returns c = let o = c .before .before .before .before .offset .ensures .0 in let n = c .before .before .before .num-frames .ensures in both-same (c .both .ensures) (rw (o, n) at (c .before .before .each-below .ensures)) (rw (o, n) at (c .before .each-below2 .ensures))
+returns c =
+    let o = c .before .before .before .before .offset .ensures .0 in let n = c .before .before .before .num-frames .ensures in both-same (c .both .ensures) (rw (o, n) at
+    (c .before .before .each-below .ensures)) (rw (o, n) at (c .before .each-below2 .ensures))
 
 pub frames-clear-spec : {M : Type 1} → statement M
 frames-clear-spec = tie.close (tie.spec offset-requires num-frames-requires add-each-below each-below-requires add-each-below-2 each-below-requires-2 both-requires returns)

@@ -33,7 +33,10 @@ both-requires : tie.Need-both-requires
 both-requires c κs = search needs
 
 returns : tie.Need-returns
-returns c = both-same (c .both .ensures) (rw (c .before .before .before .before .before .before .offset .ensures .0, c .before .before .before .before .num-locations .ensures) at (c .before .before .each-below .ensures)) (rw (c .before .before .before .before .before .offset2 .ensures .0, c .before .before .before .num-live-outs .ensures) at (c .before .each-below2 .ensures))
+returns c =
+    both-same (c .both .ensures) (rw (c .before .before .before .before .before .before .offset .ensures .0, c .before .before .before .before .num-locations .ensures) at
+    (c .before .before .each-below .ensures)) (rw (c .before .before .before .before .before .offset2 .ensures .0, c .before .before .before .num-live-outs .ensures) at
+    (c .before .each-below2 .ensures))
 
 pub items-clear-spec : {M : Type 1} → statement M
 items-clear-spec = tie.close (tie.spec offset-requires offset-requires-2 num-locations-requires num-live-outs-requires add-each-below each-below-requires add-each-below-2 each-below-requires-2 both-requires returns)

@@ -33,7 +33,11 @@ both-requires-4 c κs = search needs
 
 returns : tie.Need-returns
 unfolding reservedClear
-returns c = both-same (c .both4 .ensures) (both-same (c .before .before .both3 .ensures) (both-same (c .before .before .before .before .both2 .ensures) (both-same (c .before .before .before .before .before .before .both .ensures) (c .before .before .before .before .before .before .before .before .header-clear .ensures) (c .before .before .before .before .before .before .before .frames-clear .ensures)) (c .before .before .before .before .before .registers-clear .ensures)) (c .before .before .before .records-clear .ensures)) (c .before .items-clear .ensures)
+returns c =
+    both-same (c .both4 .ensures) (both-same (c .before .before .both3 .ensures) (both-same (c .before .before .before .before .both2 .ensures) (both-same
+    (c .before .before .before .before .before .before .both .ensures) (c .before .before .before .before .before .before .before .before .header-clear .ensures)
+    (c .before .before .before .before .before .before .before .frames-clear .ensures)) (c .before .before .before .before .before .registers-clear .ensures))
+    (c .before .before .before .records-clear .ensures)) (c .before .items-clear .ensures)
 
 pub reserved-clear-spec : {M : Type 1} → statement M
 reserved-clear-spec = tie.close (tie.spec header-clear-requires frames-clear-requires both-requires registers-clear-requires both-requires-2 records-clear-requires both-requires-3 items-clear-requires both-requires-4 returns)
