@@ -1,4 +1,4 @@
-pub mod Bound
+pub mod Counts
 pub mod Records
 pub mod Ends
 pub mod Limits

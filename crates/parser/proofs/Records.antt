@@ -18,7 +18,7 @@ use Rattle.listing.specs.Listing.{recordItems, stands, listedRecord, recordStop
 use Rattle.listing.proofs.Listing.{items-size}
 use Rattle.parser.specs.Count.{Shaped}
 use Rattle.parser.specs.Survey.{recordSize, recordsFrom, stopFrom, Passed, Measured}
-use Rattle.parser.proofs.Bound.{records-on}
+use Rattle.listing.proofs.Bound.{records-on}
 
 -- a record of a section is at most three times as long as its items
 pub size-most : (old : Bool) (n m : ℕ) → recordSize old n m ≤ 3 * (recordItemSize + locationItemSize * n + liveOutItemSize * m)

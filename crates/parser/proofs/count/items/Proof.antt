@@ -5,7 +5,7 @@ use mathlib.Core.Path.{_≡_}
 use lib.ListN.{length}
 use Rattle.listing.specs.Listing.{run}
 use Rattle.listing.proofs.Items.{yes-item, no-room, other-kind}
-use Rattle.parser.proofs.Bound.{ran, run-ended, run-next}
+use Rattle.parser.proofs.Counts.{ran, run-ended, run-next}
 use Rattle.parser.proofs.count.items.Statement.{statement}
 use Rattle.parser.proofs.count.items.Tie as tie
 

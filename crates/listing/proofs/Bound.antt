@@ -6,10 +6,10 @@ use mathlib.Core.Bool.{Bool, true, false}
 use native.Mathlib.Omega.{arith}
 use lib.ListN.{length}
 use Rattle.stackmap.specs.Section.{Record}
 use Rattle.listing.specs.Layout.{recordKind, recordItemSize}
 use Rattle.listing.specs.Listing.{stands, run, listedRecord, recordStop, listedRecords, recordsStop}
-use Rattle.listing.proofs.Items.{run-yes, run-no, is-item, no-room, run-inside, records-yes, records-no}
-use Rattle.parser.specs.Count.{Ran}
+use Rattle.listing.specs.Bound.{BoundSuffices}
+use Rattle.listing.proofs.Items.{run-yes, run-no, is-item, no-room, records-yes, records-no}
 
 -- A run.
 
@@ -34,23 +34,11 @@ run-on k n l at o e =
     ap (λ (m : ℕ). run k n m l at) b ∙ run-yes k n (length l - 1) l at e
     ∙ ap suc (run-enough k n (length l - 1) (length l) l (at + n) o (omega arith) (omega arith))
 
--- what a count tells
-pub ran : {r k n : ℕ} {l : List ℕ} {from : ℕ} → from ≤ length l → run k n (length l) l from ≡ r → Ran l k n from r
-ran {r} {k} {n} {l} {from} i e = record { is = sym e; inside = rw (← e) (run-inside k n (length l) l from i) }
-
--- a loop that has counted c items and stands at `at`
-module _ {x : ℕ} (c k n : ℕ) (l : List ℕ) (at : ℕ) (so-far : x ≡ c + run k n (length l) l at) where
-  pub run-ended : stands k n l at ≡ false → x ≡ c
-  run-ended e = let z = run-no k n (length l) l at e in omega arith
-
-  pub run-next : 1 ≤ n → stands k n l at ≡ true → x ≡ c + 1 + run k n (length l) l (at + n)
-  run-next o e = let z = run-on k n l at o e in omega arith
-
 -- Records.
 
 module _ (l : List ℕ) where
   -- a record item and what follows it take bytes
-  pub stop-after : (at : ℕ) → at + recordItemSize ≤ recordStop l at
+  stop-after : (at : ℕ) → at + recordItemSize ≤ recordStop l at
   unfolding recordStop
   stop-after at = omega arith
 
@@ -90,3 +78,11 @@ module _ (l : List ℕ) where
         ap (λ (m : ℕ). listedRecords l m at) b ∙ y .0 ∙ ap (λ (rs : List Record). listedRecord l at ∷ rs) (s .0),
         ap (λ (m : ℕ). recordsStop l m at) b ∙ y .1 ∙ s .1,
       )
+
+pub bound-suffices : BoundSuffices
+bound-suffices =
+    record {
+      runs = λ k n m l at o h. run-enough k n m (length l) l at (omega arith) (omega arith) (omega arith);
+      records = λ m l at h. records-enough l m (length l) at (omega arith) (omega arith) .0;
+      stops = λ m l at h. records-enough l m (length l) at (omega arith) (omega arith) .1;
+    }
