@@ -31,7 +31,13 @@ same-length c = search needs
 returns : tie.Need-returns
 returns c =
     let a = c .before .before .before .before .before .before .before .before .before .before .before .before .before .args in
-    rw (c .if1 .taken, c .before .before .before .put-u642 .ensures, c .before .before .before .before .before .before .before .before .before .u64-at2 .ensures, c .before .before .before .before .before .before .before .put-u64 .ensures, c .before .before .before .before .before .before .before .before .before .before .u64-at .ensures)
+    rw (
+      c .if1 .taken,
+      c .before .before .before .put-u642 .ensures,
+      c .before .before .before .before .before .before .before .before .before .u64-at2 .ensures,
+      c .before .before .before .before .before .before .before .put-u64 .ensures,
+      c .before .before .before .before .before .before .before .before .before .before .u64-at .ensures,
+    )
     (old-function-put (a .l .now) (a .at) (a .out .now) (a .to))
 
 add-u64-at-3 : tie.Need-add-u64-at-3
@@ -52,7 +58,15 @@ same-length-2 c = search needs
 returns-2 : tie.Need-returns-2
 returns-2 c =
     let a = c .before .before .before .before .before .before .before .before .before .before .before .before .before .before .before .before .before .before .args in
-    rw (c .before .before .before .before .before .if1 .left, c .before .before .put-u643 .ensures, c .before .before .before .before .u64-at3 .ensures, c .before .before .before .before .before .before .before .before .put-u642 .ensures, c .before .before .before .before .before .before .before .before .before .before .before .before .before .before .u64-at2 .ensures, c .before .before .before .before .before .before .before .before .before .before .before .before .put-u64 .ensures, c .before .before .before .before .before .before .before .before .before .before .before .before .before .before .before .u64-at .ensures)
+    rw (
+      c .before .before .before .before .before .if1 .left,
+      c .before .before .put-u643 .ensures,
+      c .before .before .before .before .u64-at3 .ensures,
+      c .before .before .before .before .before .before .before .before .put-u642 .ensures,
+      c .before .before .before .before .before .before .before .before .before .before .before .before .before .before .u64-at2 .ensures,
+      c .before .before .before .before .before .before .before .before .before .before .before .before .put-u64 .ensures,
+      c .before .before .before .before .before .before .before .before .before .before .before .before .before .before .before .u64-at .ensures,
+    )
     (function-put (a .l .now) (a .at) (a .out .now) (a .to))
 
 pub function-spec : {M : Type 1} → statement M

@@ -45,7 +45,14 @@ returns : tie.Need-returns
 returns c =
     let a = c .before .before .before .before .before .before .before .before .before .before .before .before .before .before .before .before .before .args in
     let w : Bytes (a .l .now) = record { below = λ i. omega (arith, c .before .before .before .before .before .before .before .before .before .before .before .before .before .before .before .before .shared-slice-known .given i) } in
-    rw (c .before .before .put-u32 .ensures, c .before .before .before .before .before .before .before .before .before .before .before .before .u32-at .ensures, c .before .before .before .before .before .before .put-u162 .ensures, c .before .before .before .before .before .before .before .before .before .before .before .before .before .u16-at2 .ensures, c .before .before .before .before .before .before .before .before .before .before .put-u16 .ensures, c .before .before .before .before .before .before .before .before .before .before .before .before .before .before .u16-at .ensures)
+    rw (
+      c .before .before .put-u32 .ensures,
+      c .before .before .before .before .before .before .before .before .before .before .before .before .u32-at .ensures,
+      c .before .before .before .before .before .before .put-u162 .ensures,
+      c .before .before .before .before .before .before .before .before .before .before .before .before .before .u16-at2 .ensures,
+      c .before .before .before .before .before .before .before .before .before .before .put-u16 .ensures,
+      c .before .before .before .before .before .before .before .before .before .before .before .before .before .before .u16-at .ensures,
+    )
     (old-location-put (a .l .now) (a .at) (a .out .now) (a .to) w)
 
 pub old-location-spec : {M : Type 1} → statement M

@@ -38,8 +38,10 @@ loop-less c = search needs
 
 loop-again : tie.Need-loop-again Inv-loop μ-loop
 loop-again c =
-    rw (c .before .before .before .before .before .before .function-size .ensures .0)
-    (put-on (c .before .before .function .last .1 .1 .1 .0) (function-size (c .before .before .before .before .before .before .before .before .before .args .old)) (c .before .before .before .before .before .loop .inv) (omega arith) (c .before .before .function .ensures))
+    let i = c .before .before in
+    let l = i .before .before .before in
+    rw (l .before .function-size .ensures .0)
+    (put-on (i .function .last .1 .1 .1 .0) (function-size (l .before .before .before .before .args .old)) (l .loop .inv) (omega arith) (i .function .ensures))
 
 same-length : tie.Need-same-length Inv-loop μ-loop
 same-length c = search needs

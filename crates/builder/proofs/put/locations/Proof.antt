@@ -38,8 +38,10 @@ loop-less c = search needs
 
 loop-again : tie.Need-loop-again Inv-loop μ-loop
 loop-again c =
-    rw (c .before .before .before .before .before .before .location-size .ensures .0)
-    (put-on (c .before .before .location .last .1 .1 .1 .0) (location-size (c .before .before .before .before .before .before .before .before .before .args .old)) (c .before .before .before .before .before .loop .inv) (omega arith) (c .before .before .location .ensures))
+    let i = c .before .before in
+    let l = i .before .before .before in
+    rw (l .before .location-size .ensures .0)
+    (put-on (i .location .last .1 .1 .1 .0) (location-size (l .before .before .before .before .args .old)) (l .loop .inv) (omega arith) (i .location .ensures))
 
 same-length : tie.Need-same-length Inv-loop μ-loop
 same-length c = search needs

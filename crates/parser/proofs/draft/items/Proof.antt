@@ -40,7 +40,9 @@ items-requires-2 : tie.Need-items-requires-2
 items-requires-2 c κs =
     let s = c .before .before .before .survey-records in
     let t = c .before .before .before .before .listed-tables .ensures .inside in
-    let p = planned (c .before .before .before .before .before .before .args .old) (c .before .before .before .before .listed-tables .ensures) (sym (c .before .before .items .ensures .0) ∙ c .enum-told .given .1) (s .result .crowded) (s .ensures .0) (s .ensures .1) (s .ensures .2) in
+    let p =
+    planned (c .before .before .before .before .before .before .args .old) (c .before .before .before .before .listed-tables .ensures)
+    (sym (c .before .before .items .ensures .0) ∙ c .enum-told .given .1) (s .result .crowded) (s .ensures .0) (s .ensures .1) (s .ensures .2) in
     (omega arith, t, p .counted)
 
 enum-known-n-2 : tie.Need-enum-known-n-2
@@ -60,8 +62,12 @@ returns-3 : tie.Need-returns-3
 returns-3 c =
     let g = sym (c .before .before .before .before .before .items .ensures .0) ∙ c .before .before .before .enum-told .given .1 in
     let s = c .before .before .before .before .before .before .survey-records in
-    let k = sym (c .before .before .items2 .ensures .0) ∙ c .enum-told2 .given .1 in
-    (refl, items-whole (c .before .before .before .before .before .before .before .before .before .args .old) (c .before .before .before .before .before .before .before .listed-tables .ensures) g (s .result .crowded) (s .ensures .0) (s .ensures .1) (s .ensures .2) k)
+    let k = sym (c .before .before .items2 .ensures .0) ∙ c .enum-told2 .given .1 in (
+      refl,
+      items-whole (c .before .before .before .before .before .before .before .before .before .args .old)
+          (c .before .before .before .before .before .before .before .listed-tables .ensures) g (s .result .crowded) (s .ensures .0) (s .ensures .1)
+          (s .ensures .2) k,
+    )
 
 pub items-spec : {M : Type 1} → statement M
 items-spec =
