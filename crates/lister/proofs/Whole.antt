@@ -1,6 +1,6 @@
 -- A whole section that is accepted: where its parts stand, how long its listing is, and what the conversion answers.
 use Prim.Native.Nat.{ℕ, _+_, _*_, _≤_, _<_}
-use mathlib.Core.Path.{_≡_, refl, sym, ap, _∙_}
+use mathlib.Core.Path.{_≡_, refl, sym, _∙_}
 use mathlib.Core.Bool.{Bool}
 use mathlib.Core.List.{List}
 use native.Mathlib.Omega.{arith}
@@ -22,9 +22,9 @@ use Rattle.listing.proofs.Items.{function-item-size, constant-item-size}
 use Rattle.listing.proofs.Listing.{version-size, listing-length as encoded-listing}
 use Rattle.listing.proofs.Short.{listing-short}
 use Rattle.listing.proofs.Writes.{give-short, give-all}
-use Rattle.lister.specs.Put.{Put}
+use Rattle.lister_items.specs.Put.{Put}
 use Rattle.lister.specs.Shape.{Tabled}
-use Rattle.lister.proofs.Puts.{put-join, put-long}
+use Rattle.lister_items.proofs.Puts.{put-join, put-long}
 use Rattle.lister.proofs.Passes.{inSection, inListing}
 
 -- what a part has taken of the output, by its count

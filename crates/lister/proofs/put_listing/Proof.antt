@@ -1,6 +1,6 @@
 -- The parts stand one after the other, and there is room for each after those before it.
 use native.Mathlib.Omega.{arith}
-use Rattle.lister.proofs.Puts.{put-long}
+use Rattle.lister_items.proofs.Puts.{put-long}
 use Rattle.stackmap.specs.Fields.{size, all}
 use Rattle.stackmap.specs.Section.{readRecords}
 use Rattle.lister.proofs.Whole.{laid, parts, version-ends, functions-end, constants-end, listing-join}

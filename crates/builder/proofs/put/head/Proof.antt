@@ -1,4 +1,4 @@
-use Rattle.builder.proofs.Puts.{head-put}
+use Rattle.builder.proofs.RecordPut.{head-put}
 use borrow.Author.Needs.{needs}
 use Rattle.builder.proofs.put.head.Statement.{statement}
 use Rattle.builder.proofs.put.head.Tie as tie

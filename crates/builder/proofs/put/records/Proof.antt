@@ -1,6 +1,6 @@
 use borrow.Author.Needs.{needs}
 use native.Mathlib.Omega.{arith}
-use Rattle.parser.proofs.Walking.{record-inside}
+use Rattle.parser_items.proofs.Records.{record-inside}
 use Rattle.builder.proofs.SectionPut.{PuttingRecords, ready-small, records-start, record-room, records-on, records-end}
 use Rattle.builder.proofs.put.records.Statement.{statement}
 use Rattle.builder.proofs.put.records.Tie as tie
