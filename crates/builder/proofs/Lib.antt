@@ -1,4 +1,3 @@
-pub mod Puts
 pub mod RecordPut
 pub mod SectionPut
 pub mod Converted

@@ -4,8 +4,9 @@ use mathlib.Core.Path.{_≡_, refl}
 use mathlib.Core.Bool.{Bool}
 use mathlib.Core.List.{List, [], _∷_, _++_, append-nil}
 use native.Mathlib.Omega.{arith}
+use native.Mathlib.Nat.{add-zero}
 use lib.Seq.{sets}
-use Rattle.wire.specs.Word.{bytes}
+use Rattle.wire.specs.Word.{word, bytes}
 use Rattle.wire.proofs.Laws.{length-bytes, sets-append}
 use Rattle.stackmap.specs.Layout.{locationSize, locationsPadding}
 use Rattle.stackmap.specs.Fields.{Field, _of_, bytesOf, size, all, many}
@@ -13,9 +14,15 @@ use Rattle.stackmap.specs.Section.{locationFields, liveOutFields, recordFields}
 use Rattle.stackmap.proofs.Fields.{size-append, length-many, size-many}
 use Rattle.stackmap.proofs.Items.{location-size, live-out-size}
 use Rattle.listing.specs.Listing.{listedLocation, listedLiveOut, listedRecord}
-use Rattle.parser.specs.Count.{Shaped}
+use Rattle.parser_items.specs.Count.{Shaped}
 use Rattle.builder.specs.Put.{headFields}
-use Rattle.builder.proofs.Puts.{then-put}
+use Rattle.builder_items.proofs.Puts.{then-put, puts-all}
+
+-- the head
+pub head-put : (l : List ℕ) (at n : ℕ) (out : List ℕ) (to : ℕ)
+    → sets (sets (sets (sets out to (bytes 8 (word 8 l (at + 1)))) (to + 8) (bytes 4 (word 4 l (at + 9)))) (to + 12) (bytes 2 0)) (to + 14) (bytes 2 n)
+    ≡ sets out to (bytesOf (headFields l at n))
+head-put l at n out to = rw add-zero at (puts-all (headFields l at n) out to)
 
 -- one number is a field, and two are two
 one-field : (w v : ℕ) (out : List ℕ) (p : ℕ) → sets out p (bytes w v) ≡ sets out p (bytesOf ((w of v) ∷ []))

@@ -17,15 +17,13 @@ use Rattle.stackmap.proofs.Tests.{and-true}
 use Rattle.stackmap.proofs.Verdicts.{must-held, must-rest}
 use Rattle.listing.specs.Layout.{recordKind, recordItemSize, itemsMost}
 use Rattle.listing.specs.Listing.{stands, listedFunction, listedConstant, listedRecord, readItems}
-use Rattle.parser.specs.Count.{Tabled, Shaped}
-use Rattle.parser.specs.Survey.{recordSize, recordsFrom, recordsAfter}
-use Rattle.parser.specs.Walk.{functionsOf}
-use Rattle.parser.specs.Outcome.{Ready}
+use Rattle.parser_items.specs.Count.{Tabled, Shaped}
+use Rattle.parser_items.specs.Survey.{recordSize, recordsFrom, recordsAfter, functionsOf}
+use Rattle.parser_items.specs.Draft.{Ready}
 use Rattle.builder.specs.Put.{headerFields}
-use Rattle.parser.proofs.Records.{shape-size, records-here, check-here, sized-here}
-use Rattle.parser.proofs.Walking.{some-record}
-use Rattle.builder.proofs.Puts.{then-put, puts-all}
-use Rattle.parser.proofs.Plans.{reads}
+use Rattle.parser_items.proofs.Records.{shape-size, records-here, check-here, sized-here, some-record}
+use Rattle.builder_items.proofs.Puts.{then-put, puts-all}
+use Rattle.parser_items.proofs.Tables.{reads}
 
 -- `left` records from `at` on are still to be put, to q
 pub record PuttingRecords (l : List ℕ) (old : Bool) (from : ℕ) (out₀ : List ℕ) (to : ℕ) (out : List ℕ) (at q left : ℕ) : Type 0 where

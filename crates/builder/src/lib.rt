@@ -4,7 +4,6 @@ ghost use Rattle.listing.specs.Listing.{toSection};
 use listing::Conversion;
 use parser::Outcome;
 
-mod item;
 mod put;
 
 // The conversion of a listing to a section: 1, 22, 23, 28, then the refusal that the built section would get, at its place

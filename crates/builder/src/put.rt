@@ -1,90 +1,26 @@
-// Runs of items, records and the whole section, written to the output, in the layout of version 1 where `old` is true. Each
+// Records and the whole section, written to the output, in the layout of version 1 where `old` is true. Each
 // function writes its bytes and nothing else, and requires that they are inside: `to_section` has shown it before the first
 // write. The listing is what follows the version's item.
 ghost use mathlib.Core.Path.{_≡_};
 ghost use Prim.Native.Nat.{_+_, _*_, _≤_};
 ghost use lib.ListN.{length};
 ghost use lib.Seq.{sets};
-ghost use Rattle.stackmap.specs.Layout.{versionNumber, headerSize, functionSize, constantSize, recordHeadSize, locationSize, liveOutSize};
-ghost use Rattle.stackmap.specs.Fields.{bytesOf, size, all, many};
-ghost use Rattle.stackmap.specs.Section.{functionFields, constantFields, locationFields, liveOutFields, recordFields, encodeSection};
-ghost use Rattle.listing.specs.Layout.{functionItemSize, constantItemSize, recordItemSize, locationItemSize, liveOutItemSize, itemsMost, listingMost};
-ghost use Rattle.listing.specs.Listing.{listedFunction, listedConstant, listedLocation, listedLiveOut, listedRecord, readItems};
-ghost use Rattle.parser.specs.Count.{Shaped};
-ghost use Rattle.parser.specs.Survey.{recordSize, recordsFrom, recordsAfter, Planned};
-ghost use Rattle.parser.specs.Outcome.{sectionEnd, Ready};
+ghost use Rattle.stackmap.specs.Layout.{versionNumber, headerSize, recordHeadSize};
+ghost use Rattle.stackmap.specs.Fields.{bytesOf, size, all};
+ghost use Rattle.stackmap.specs.Section.{recordFields, encodeSection};
+ghost use Rattle.listing.specs.Layout.{recordItemSize, itemsMost, listingMost};
+ghost use Rattle.listing.specs.Listing.{listedRecord, readItems};
+ghost use Rattle.parser_items.specs.Count.{Shaped};
+ghost use Rattle.parser_items.specs.Survey.{recordSize, recordsFrom, recordsAfter, Planned};
+ghost use Rattle.parser.specs.Outcome.{sectionEnd};
+ghost use Rattle.parser_items.specs.Draft.{Ready};
 ghost use Rattle.builder.specs.Put.{headFields, headerFields};
-use crate::item;
+use builder_items::item;
+use builder_items::runs;
 use listing::numbers;
-use parser::Plan;
-use parser::shape;
+use parser_items::Plan;
+use parser_items::shape;
 use stackmap::layout;
-
-// The `n` function items from `at`.
-pub fn functions(l: &[u8], old: bool, at: usize, n: usize, out: &mut [u8], to: usize)
-    requires { ⌜ (at + functionItemSize * n ≤ length (now l)) × (to + functionSize old * n ≤ length (now out)) ⌝ }
-    ensures { λ _. ⌜ now (out .exit) ≡ sets (now (out .entry)) to (bytesOf (all (functionFields old) (many listedFunction functionItemSize n (now (l .entry)) at))) ⌝ }
-{
-    let step = layout::function_size(old);
-    let mut p = at;
-    let mut q = to;
-    let mut left = n;
-    while left > 0 {
-        item::function(l, old, p, out, q);
-        p += numbers::FUNCTION_ITEM_SIZE;
-        q += step;
-        left -= 1;
-    }
-}
-
-// The `n` constant items from `at`.
-pub fn constants(l: &[u8], at: usize, n: usize, out: &mut [u8], to: usize)
-    requires { ⌜ (at + constantItemSize * n ≤ length (now l)) × (to + constantSize * n ≤ length (now out)) ⌝ }
-    ensures { λ _. ⌜ now (out .exit) ≡ sets (now (out .entry)) to (bytesOf (all constantFields (many listedConstant constantItemSize n (now (l .entry)) at))) ⌝ }
-{
-    let mut p = at;
-    let mut q = to;
-    let mut left = n;
-    while left > 0 {
-        item::constant(l, p, out, q);
-        p += numbers::CONSTANT_ITEM_SIZE;
-        q += layout::CONSTANT_SIZE;
-        left -= 1;
-    }
-}
-
-// The `n` location items from `at`.
-fn locations(l: &[u8], old: bool, at: usize, n: usize, out: &mut [u8], to: usize)
-    requires { ⌜ (at + locationItemSize * n ≤ length (now l)) × (to + locationSize old * n ≤ length (now out)) ⌝ }
-    ensures { λ _. ⌜ now (out .exit) ≡ sets (now (out .entry)) to (bytesOf (all (locationFields old) (many listedLocation locationItemSize n (now (l .entry)) at))) ⌝ }
-{
-    let step = layout::location_size(old);
-    let mut p = at;
-    let mut q = to;
-    let mut left = n;
-    while left > 0 {
-        item::location(l, old, p, out, q);
-        p += numbers::LOCATION_ITEM_SIZE;
-        q += step;
-        left -= 1;
-    }
-}
-
-// The `n` live-out items from `at`.
-fn live_outs(l: &[u8], at: usize, n: usize, out: &mut [u8], to: usize)
-    requires { ⌜ (at + liveOutItemSize * n ≤ length (now l)) × (to + liveOutSize * n ≤ length (now out)) ⌝ }
-    ensures { λ _. ⌜ now (out .exit) ≡ sets (now (out .entry)) to (bytesOf (all liveOutFields (many listedLiveOut liveOutItemSize n (now (l .entry)) at))) ⌝ }
-{
-    let mut p = at;
-    let mut q = to;
-    let mut left = n;
-    while left > 0 {
-        item::live_out(l, p, out, q);
-        p += numbers::LIVE_OUT_ITEM_SIZE;
-        q += layout::LIVE_OUT_SIZE;
-        left -= 1;
-    }
-}
 
 // The head of the record item at `at`: ID, instruction offset, flags, number of locations.
 fn head(l: &[u8], at: usize, n: usize, out: &mut [u8], to: usize)
@@ -114,10 +50,10 @@ fn whole_record(l: &[u8], old: bool, at: usize, shape: shape::Shape, out: &mut [
     let outs = end + layout::LIVE_OUTS_HEAD_SIZE;
     let last = outs + layout::LIVE_OUT_SIZE * m;
     head(l, at, n, out, to);
-    locations(l, old, first, n, out, to + layout::RECORD_HEAD_SIZE);
+    runs::locations(l, old, first, n, out, to + layout::RECORD_HEAD_SIZE);
     item::zeros(out, pad, padding + layout::LIVE_OUTS_HEAD_ZEROS);
     wire::put_u16(out, end + layout::LIVE_OUTS_HEAD_ZEROS, m as u16);
-    live_outs(l, next, m, out, outs);
+    runs::live_outs(l, next, m, out, outs);
     item::zeros(out, last, (m + 1) % 2 * 4);
 }
 
@@ -172,7 +108,7 @@ pub fn section(l: &[u8], plan: Plan, out: &mut [u8])
     let next = layout::HEADER_SIZE + layout::function_size(plan.old) * f;
     let to = next + layout::CONSTANT_SIZE * c;
     header(plan, out);
-    functions(l, plan.old, 0, f, out, layout::HEADER_SIZE);
-    constants(l, first, c, out, next);
+    runs::functions(l, plan.old, 0, f, out, layout::HEADER_SIZE);
+    runs::constants(l, first, c, out, next);
     records(l, plan.old, from, n, out, to);
 }

@@ -14,9 +14,9 @@ use Rattle.stackmap.proofs.Within.{part-from}
 use Rattle.listing.specs.Listing.{recordItem, locationItem, liveOutItem, recordItems}
 use Rattle.listing.proofs.Listing.{items-size}
 use Rattle.listing.proofs.Short.{records-short}
-use Rattle.lister.specs.Put.{Put}
+use Rattle.lister_items.specs.Put.{Put}
 use Rattle.lister.specs.Shape.{Shaped}
-use Rattle.lister.proofs.Puts.{Putting, putting-start, putting-on, putting-end, put-join, put-long, first-record, no-record}
+use Rattle.lister_items.proofs.Puts.{Putting, putting-start, putting-on, putting-end, put-join, put-long, first-record, no-record}
 
 -- One record, which stands at the start of s.
 

@@ -1,6 +1,6 @@
 -- A whole section that is accepted: where its parts stand, how long its listing is, and what the conversion answers.
 use Prim.Native.Nat.{ℕ, _+_, _*_, _≤_, _<_}
-use mathlib.Core.Path.{_≡_, refl, sym, ap, _∙_}
+use mathlib.Core.Path.{_≡_, refl, sym, _∙_}
 use mathlib.Core.Bool.{Bool}
 use mathlib.Core.List.{List}
 use native.Mathlib.Omega.{arith}
@@ -11,7 +11,7 @@ use Rattle.stackmap.specs.declared.Verdict.{Verdict}
 use Rattle.stackmap.specs.declared.Verdict.the-variants.{Valid, Refused}
 use Rattle.stackmap.specs.Layout.{functionSize}
 use Rattle.stackmap.specs.Fields.{bytesOf, size, all, many}
-use Rattle.stackmap.specs.Section.{sectionFields, numFunctions, numConstants, numRecords, isOld, recordsAt, readFunction, readConstant, readFunctions, readRecords, readSection}
+use Rattle.stackmap.specs.Section.{Function, sectionFields, numFunctions, numConstants, numRecords, isOld, recordsAt, readFunction, readConstant, readFunctions, readRecords, readSection}
 use Rattle.stackmap.specs.Check.{sectionCheck, Accepted}
 use Rattle.stackmap.proofs.Fields.{length-bytesOf, length-many, size-many}
 use Rattle.stackmap.proofs.Back.{section-size}
@@ -22,10 +22,23 @@ use Rattle.listing.proofs.Items.{function-item-size, constant-item-size}
 use Rattle.listing.proofs.Listing.{version-size, listing-length as encoded-listing}
 use Rattle.listing.proofs.Short.{listing-short}
 use Rattle.listing.proofs.Writes.{give-short, give-all}
-use Rattle.lister.specs.Put.{Put}
+use Rattle.lister_items.specs.Put.{Put}
 use Rattle.lister.specs.Shape.{Tabled}
-use Rattle.lister.proofs.Puts.{put-join, put-long}
+use Rattle.lister_items.proofs.Puts.{put-join, put-long}
 use Rattle.lister.proofs.Passes.{inSection, inListing}
+
+-- what a part has taken of the output, by its count
+module _ {o o′ : List ℕ} {to end : ℕ} where
+  pub version-ends : (old : Bool) → Put o o′ to end (versionItem old) → (end ≡ to + versionLength old) × (length o′ ≡ length o)
+  version-ends old p = (p .ends ∙ rw (version-size old), put-long p)
+
+  pub functions-end : (read : List ℕ → ℕ → Function) (step n : ℕ) (s : List ℕ) (at : ℕ) → Put o o′ to end (all functionItem (many read step n s at))
+      → (end ≡ to + 25 * n) × (length o′ ≡ length o)
+  functions-end read step n s at p = (p .ends ∙ rw (size-many functionItem read step 25 function-item-size n s at), put-long p)
+
+  pub constants-end : (read : List ℕ → ℕ → ℕ) (step n : ℕ) (s : List ℕ) (at : ℕ) → Put o o′ to end (all constantItem (many read step n s at))
+      → (end ≡ to + 9 * n) × (length o′ ≡ length o)
+  constants-end read step n s at p = (p .ends ∙ rw (size-many constantItem read step 9 constant-item-size n s at), put-long p)
 
 module _ (s : List ℕ) where
   -- how long its listing is
@@ -55,51 +68,20 @@ module _ (s : List ℕ) where
         short = omega (arith, listing-length, listing-short s (length s) k);
       }
 
-  -- There is room for each part after those that are written.
-  module _ {old : Bool} {functions constants records pool first : ℕ} (h : Tabled s old functions constants records pool first) (l : Laid)
-      (o₀ : List ℕ) (room : length (encodeListing (readSection s)) ≤ length o₀) where
-    pub version-room : versionLength old ≤ length o₀
-    version-room = rw (h .old-is) (omega (arith, listing-length))
+  -- its parts are inside, and so is their listing in an output that is long enough
+  pub record Parts (old : Bool) (functions constants records pool first room : ℕ) : Type 0 where
+    pub functions-inside : 16 + functionSize old * functions ≤ length s
+    pub constants-inside : pool + 8 * constants ≤ length s
+    pub records-inside : first + inSection old s records first ≤ length s
+    pub fits : versionLength old + 25 * functions + 9 * constants + inListing old s records first + 1 ≤ room
 
-    module _ {o₁ : List ℕ} {a : ℕ} (v : Put o₀ o₁ 0 a (versionItem old)) where
-      after-version : (a ≡ versionLength (isOld s)) × (length o₁ ≡ length o₀)
-      after-version = let x = v .ends in let e = ap versionLength (h .old-is) in (omega (arith, version-size old), put-long v)
-
-      pub functions-room : (16 + functionSize old * functions ≤ length s) × (a + 25 * functions ≤ length o₁)
-      functions-room =
-          rw (h .old-is, h .functions-are) (let i = l .ends in omega arith, omega (arith, listing-length, after-version))
-
-      module _ {o₂ : List ℕ} {b : ℕ} (p : Put o₁ o₂ a b (all functionItem (many (readFunction old) (functionSize old) functions s 16))) where
-        after-functions : (b ≡ versionLength (isOld s) + 25 * numFunctions s) × (length o₂ ≡ length o₀)
-        after-functions =
-            let e = h .functions-are in
-            let x = p .ends in (
-              omega (arith, after-version, size-many functionItem (readFunction old) (functionSize old) 25 function-item-size functions s 16),
-              put-long p ∙ after-version .1,
-            )
-
-        pub constants-room : (pool + 8 * constants ≤ length s) × (b + 9 * constants ≤ length o₂)
-        constants-room =
-            rw (h .constants-are, h .pool-is)
-            (let i = l .ends in omega arith, omega (arith, listing-length, after-functions))
-
-        module _ {o₃ : List ℕ} {c : ℕ} (q : Put o₂ o₃ b c (all constantItem (many readConstant 8 constants s pool))) where
-          after-constants : (c ≡ versionLength (isOld s) + 25 * numFunctions s + 9 * numConstants s) × (length o₃ ≡ length o₀)
-          after-constants =
-              let e = h .constants-are in
-              let x = q .ends in
-              (omega (arith, after-functions, size-many constantItem readConstant 8 9 constant-item-size constants s pool), put-long q ∙ after-functions .1)
-
-          pub records-room : (first + inSection old s records first ≤ length s) × (c + inListing old s records first ≤ length o₃)
-          records-room =
-              rw (h .old-is, h .records-are, h .first-is)
-              (let i = l .ends in omega arith, omega (arith, listing-length, after-constants))
-
-          pub end-room : {o₄ : List ℕ} {d : ℕ} → Put o₃ o₄ c d (all recordItems (readRecords old records s first)) → d < length o₄
-          end-room r =
-              let w = rw (h .old-is, h .records-are, h .first-is) at r in
-              let x = w .ends in
-              omega (arith, listing-length, after-constants, put-long r)
+  pub parts : {old : Bool} {functions constants records pool first : ℕ} → Tabled s old functions constants records pool first → Accepted s
+      → (out : List ℕ) → length (encodeListing (readSection s)) ≤ length out → Parts old functions constants records pool first (length out)
+  parts h k out room =
+      let l = laid k in
+      let e = l .ends in
+      rw (h .old-is, h .functions-are, h .constants-are, h .records-are, h .pool-is, h .first-is)
+      (record { functions-inside = omega arith; constants-inside = omega arith; records-inside = omega arith; fits = omega (arith, listing-length) })
 
   -- its version, its functions, its constants, its records and the end are all of it
   module _ {old : Bool} {functions constants records pool first : ℕ} (h : Tabled s old functions constants records pool first) where

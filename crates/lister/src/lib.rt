@@ -7,16 +7,16 @@ ghost use Rattle.stackmap.specs.Section.{readSection};
 ghost use Rattle.stackmap.specs.Check.{Accepted};
 ghost use Rattle.listing.specs.Listing.{listingFields, encodeListing, toListing};
 ghost use Rattle.listing.specs.Answers.{Answers};
-ghost use Rattle.lister.specs.Put.{Put};
+ghost use Rattle.lister_items.specs.Put.{Put};
 ghost use Rattle.lister.specs.Shape.{Tabled};
+use lister_items::items;
+use lister_items::runs;
 use listing::Conversion;
 use listing::numbers;
 use stackmap::Verdict;
 use stackmap::layout;
 
-mod items;
 mod records;
-mod runs;
 
 // How a section is laid out: whether it is of version 1, how many functions, constants and records, where the constants begin
 // (the pool), and where the first record stands.

@@ -6,10 +6,10 @@ ghost use lib.ListN.{length};
 ghost use Rattle.stackmap.specs.Fields.{size, all};
 ghost use Rattle.stackmap.specs.Section.{recordFields, recordLength, readRecord, readRecords};
 ghost use Rattle.listing.specs.Listing.{recordItems};
-ghost use Rattle.lister.specs.Put.{Put};
+ghost use Rattle.lister_items.specs.Put.{Put};
 ghost use Rattle.lister.specs.Shape.{Shaped};
-use crate::items;
-use crate::runs;
+use lister_items::items;
+use lister_items::runs;
 use listing::numbers;
 use stackmap::layout;
 

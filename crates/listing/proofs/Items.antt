@@ -1,7 +1,7 @@
 -- The items of a listing: their sizes, that they are read back, and runs of them.
 use Prim.Native.Nat.{ℕ, zero, suc, _+_, _*_, _≤_, _<_}
 use mathlib.Core.Path.{_≡_, refl, sym, _∙_, ap}
-use mathlib.Core.List.{List, [], _∷_}
+use mathlib.Core.List.{List, [], _∷_, _++_, append-assoc}
 use mathlib.Core.Bool.{Bool, true, false, and-false}
 use native.Mathlib.Omega.{arith}
 use native.Mathlib.Nat.{add-zero, mul-suc}
@@ -14,7 +14,7 @@ use Rattle.stackmap.specs.Section.{Function, LiveOut, Location, Record}
 use Rattle.stackmap.proofs.Fields.{Has, join, split}
 use Rattle.stackmap.proofs.Tests.{and-true}
 use Rattle.stackmap.proofs.Items.{byte-word}
-use Rattle.listing.specs.Listing.{functionItem, constantItem, recordItem, locationItem, liveOutItem, stands, run, listedFunction, listedConstant, listedLocation, listedLiveOut, listedRecord, recordStop, listedRecords, recordsStop}
+use Rattle.listing.specs.Listing.{functionItem, constantItem, recordItem, locationItem, liveOutItem, endItem, recordItems, stands, run, listedFunction, listedConstant, listedLocation, listedLiveOut, listedRecord, recordStop, listedRecords, recordsStop}
 
 -- Sizes.
 
@@ -177,6 +177,12 @@ module _ {A : Type 0} (item : A → List Field) (k n : ℕ) (even : (x : A) → 
       go ih false e = rw (run-no k n (suc m) l at e) tt
 
 -- Records.
+
+-- a record is its item, its locations and then its live-outs
+pub regroup : (r : Record) (rs : List Record)
+    → recordItems r ++ all recordItems rs ++ endItem ≡ recordItem r ++ (all locationItem (r .locations) ++ (all liveOutItem (r .liveOuts) ++ (all recordItems rs ++ endItem)))
+unfolding recordItems
+regroup r rs = simp append-assoc
 
 module _ (l : List ℕ) where
   pub records-yes : (m at : ℕ) → stands 3 13 l at ≡ true

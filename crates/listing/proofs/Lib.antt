@@ -1,6 +1,7 @@
+pub mod Items
+pub mod Bound
 pub mod Old
 pub mod Fits
-pub mod Items
 pub mod Listing
 pub mod Refusals
 pub mod Writes

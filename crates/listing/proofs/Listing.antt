@@ -2,7 +2,7 @@
 -- section, and accepted items are the items of what is read from them.
 use Prim.Native.Nat.{ℕ, zero, suc, _+_, _*_, _≤_}
 use mathlib.Core.Path.{_≡_, refl, sym, _∙_, ap, subst}
-use mathlib.Core.List.{List, [], _∷_, _++_, append-nil, append-assoc}
+use mathlib.Core.List.{List, [], _∷_, _++_, append-nil}
 use mathlib.Core.Bool.{Bool, true, false}
 use native.Mathlib.Omega.{arith}
 use native.Mathlib.Nat.{add-zero, zero-add, add-assoc}
@@ -17,8 +17,14 @@ use Rattle.stackmap.proofs.Fields.{Has, fields-back, has-bytes, has-fit, join, 
 use Rattle.stackmap.proofs.Items.{byte-word}
 use Rattle.stackmap.proofs.Verdicts.{chain-first, chain-rest, must-held, must-rest}
 use Rattle.stackmap.specs.declared.Verdict.the-variants.{Valid}
-use Rattle.listing.specs.Listing.{functionItem, constantItem, recordItem, locationItem, liveOutItem, endItem, recordItems, versionItem, itemFields, listingFields, encodeListing, stands, run, listedFunction, listedConstant, listedLocation, listedLiveOut, listedLocations, listedLiveOuts, listedRecord, recordStop, listedRecords, recordsStop, functionsListed, constantsListed, recordsBegin, readItems, itemsStop, versionLength, itemsCheck}
-use Rattle.listing.proofs.Items.{function-item-size, constant-item-size, location-item-size, live-out-item-size, function-back, constant-back, location-back, live-out-back, function-has, constant-has, location-has, live-out-has, kind-byte, function-kind, constant-kind, location-kind, live-out-kind, yes-item, is-item, Leads, no-item, run-inside, run-back, run-has, records-yes, records-no}
+use Rattle.listing.specs.Listing.{functionItem, constantItem, recordItem, locationItem, liveOutItem, endItem, recordItems, versionItem}
+use Rattle.listing.specs.Listing.{itemFields, listingFields, encodeListing, stands, run, listedFunction, listedConstant, listedLocation}
+use Rattle.listing.specs.Listing.{listedLiveOut, listedLocations, listedLiveOuts, listedRecord, recordStop, listedRecords, recordsStop}
+use Rattle.listing.specs.Listing.{functionsListed, constantsListed, recordsBegin, readItems, itemsStop, versionLength, itemsCheck}
+use Rattle.listing.proofs.Items.{function-item-size, constant-item-size, location-item-size, live-out-item-size, function-back, constant-back}
+use Rattle.listing.proofs.Items.{location-back, live-out-back, function-has, constant-has, location-has, live-out-has, kind-byte, function-kind}
+use Rattle.listing.proofs.Items.{constant-kind, location-kind, live-out-kind, yes-item, is-item, Leads, no-item, run-inside, run-back, run-has}
+use Rattle.listing.proofs.Items.{regroup, records-yes, records-no}
 use Rattle.listing.proofs.Old.{Counts, Sizes, old-passes, old-tells}
 use Rattle.listing.proofs.Fits.{AllSmall, small-whole, whole-small, listing-to-section}
 
@@ -38,11 +44,6 @@ leads-constants : (cs : List ℕ) (rs : List Record) → Leads 1 (all constantIt
 unfolding all constantItem
 leads-constants [] rs = leads-records 1 rs (omega arith) (omega arith)
 leads-constants (c ∷ cs) rs = (refl, omega arith)
-
-regroup : (r : Record) (rs : List Record)
-    → recordItems r ++ all recordItems rs ++ endItem ≡ recordItem r ++ (all locationItem (r .locations) ++ (all liveOutItem (r .liveOuts) ++ (all recordItems rs ++ endItem)))
-unfolding recordItems
-regroup r rs = simp append-assoc
 
 module _ (r : Record) where
   abbrev n : ℕ

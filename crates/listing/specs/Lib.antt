@@ -1,4 +1,5 @@
 pub mod Layout
 pub mod Listing
 pub mod RoundTrip
+pub mod Bound
 pub mod Answers

@@ -8,7 +8,9 @@ use lib.Dec.{leb, eqb}
 use Rattle.wire.specs.Word.{word}
 use Rattle.stackmap.specs.Check.{sectionCheck}
 use Rattle.stackmap.specs.Fields.{size, Field, _of_, all, bytesOf, many}
-use Rattle.listing.specs.Layout.{listingMost, itemsMost, oldSizeMost, versionKind, versionItemSize, functionKind, constantKind, recordKind, locationKind, liveOutKind, endKind, functionItemSize, constantItemSize, recordItemSize, locationItemSize, liveOutItemSize, endItemSize}
+use Rattle.listing.specs.Layout.{listingMost, itemsMost, oldSizeMost, versionKind, versionItemSize, functionKind, constantKind, recordKind}
+use Rattle.listing.specs.Layout.{locationKind, liveOutKind, endKind, functionItemSize, constantItemSize, recordItemSize, locationItemSize}
+use Rattle.listing.specs.Layout.{liveOutItemSize, endItemSize}
 use Rattle.stackmap.specs.Section.{Function, LiveOut, Location, Record, Section, encodeSection, readSection}
 use Rattle.stackmap.specs.Layout.{versionNumber}
 use Rattle.stackmap.specs.Verdict.{chain, must, shift}

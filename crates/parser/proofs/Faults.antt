@@ -20,10 +20,10 @@ use Rattle.stackmap.specs.Fault.{locationFault, locationsFault, entryFault}
 use Rattle.stackmap.proofs.Steps.{many-step}
 use Rattle.stackmap.proofs.Items.{byte-word}
 use Rattle.listing.specs.Listing.{listedLocation, listedRecord}
-use Rattle.parser.specs.Count.{Shaped}
-use Rattle.parser.specs.Survey.{recordSize}
+use Rattle.parser_items.specs.Count.{Shaped}
+use Rattle.parser_items.specs.Survey.{recordSize}
 use Rattle.parser.specs.Walk.{ownerBy, entryAt}
-use Rattle.parser.proofs.Records.{shape-size}
+use Rattle.parser_items.proofs.Records.{shape-size}
 
 -- a verdict about a part, said of the whole, test by test
 shift-must : (p : ℕ) (b : Bool) (n q : ℕ) (k : Verdict) → shift p (must b n q k) ≡ must b n (p + q) (shift p k)

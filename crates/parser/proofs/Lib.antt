@@ -1,10 +1,5 @@
-pub mod Bound
-pub mod Records
-pub mod Ends
-pub mod Limits
 pub mod Faults
 pub mod Turns
 pub mod Walking
 pub mod Plans
-pub mod Drafts
 pub mod Outcomes

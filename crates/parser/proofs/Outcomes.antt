@@ -18,7 +18,8 @@ use Rattle.stackmap.proofs.Back.{entries-valid}
 use Rattle.listing.specs.Layout.{listingMost, versionKind, versionItemSize}
 use Rattle.listing.specs.Listing.{readItems, listedOld, versionLength, itemsOf, readListing, itemsCheck, listingCheck}
 use Rattle.listing.proofs.Items.{is-item}
-use Rattle.parser.specs.Outcome.{Whole, refusal, Buildable}
+use Rattle.parser_items.specs.Draft.{Whole}
+use Rattle.parser.specs.Outcome.{refusal, Buildable}
 use Rattle.parser.proofs.Plans.{planned-size}
 
 -- 1

@@ -1,4 +1,4 @@
--- What is read from a listing's items, by what was counted in them.
+-- The section that a listing is to become, by what was counted in its items.
 use Prim.Native.Nat.{ℕ, _+_, _*_, _≤_}
 use mathlib.Core.Path.{_≡_, ap}
 use mathlib.Core.List.{List}
@@ -7,36 +7,18 @@ use native.Mathlib.Omega.{arith}
 use lib.Dec.{leb}
 use Rattle.stackmap.specs.Layout.{sectionMost, functionSize, numRecordsAt}
 use Rattle.stackmap.specs.Verdict.{must}
-use Rattle.stackmap.specs.Fields.{size, many}
-use Rattle.stackmap.specs.Section.{Section, sectionFields, entriesOf}
+use Rattle.stackmap.specs.Fields.{size}
+use Rattle.stackmap.specs.Section.{sectionFields, entriesOf}
 use Rattle.stackmap.specs.Check.{countsRight}
 use Rattle.stackmap.specs.Fault.{sectionFault}
 use Rattle.stackmap.proofs.Fields.{length-many}
 use Rattle.stackmap.proofs.Back.{section-size}
 use Rattle.stackmap.proofs.Within.{counts-held}
-use Rattle.listing.specs.Listing.{listedConstant, recordsBegin, readItems}
-use Rattle.parser.specs.Count.{Tabled}
-use Rattle.parser.specs.Survey.{recordsFrom, recordsAfter, Planned}
-use Rattle.parser.specs.Walk.{functionsOf, Walkable}
+use Rattle.listing.specs.Listing.{readItems}
+use Rattle.parser_items.specs.Survey.{functionsOf, recordsAfter, Planned}
+use Rattle.parser.specs.Walk.{Walkable}
+use Rattle.parser_items.proofs.Tables.{reads}
 use Rattle.parser.proofs.Walking.{whole}
-
-module _ {l : List ℕ} {functions constants : ℕ} (t : Tabled l functions constants) where
-  pub begins : recordsBegin l ≡ recordsAfter l functions constants
-  begins = rw (← t .constants-are, ← t .functions-are)
-
-  -- the section that is read
-  abbrev pub listed : Bool → Section
-  listed old =
-      record {
-        old = old;
-        functions = functionsOf l functions;
-        constants = many listedConstant 9 constants l (25 * functions);
-        records = recordsFrom l (recordsAfter l functions constants);
-      }
-
-  pub reads : (old : Bool) → readItems l old ≡ listed old
-  unfolding readItems
-  reads old = rw (← t .constants-are, ← t .functions-are)
 
 module _ {l : List ℕ} {old : Bool} {functions constants records bytes : ℕ} (p : Planned l old functions constants records bytes) where
   -- where the records begin in the section, and where it ends

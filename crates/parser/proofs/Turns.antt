@@ -8,7 +8,8 @@ use lib.ListN.{length}
 use Rattle.stackmap.specs.Section.{recordOwners}
 use Rattle.stackmap.proofs.Steps.{replicate-step, owners-step, owners-some}
 use Rattle.listing.specs.Listing.{listedFunction}
-use Rattle.parser.specs.Walk.{functionsOf, ownerBy, laterOwners, ahead}
+use Rattle.parser_items.specs.Survey.{functionsOf}
+use Rattle.parser.specs.Walk.{ownerBy, laterOwners, ahead}
 
 module _ (l : List ℕ) (n : ℕ) where
   -- version 3: the first function is next

@@ -16,23 +16,11 @@ use Rattle.stackmap.proofs.Back.{entry-valid}
 use Rattle.stackmap.proofs.Turns.{length-recordOwners}
 use Rattle.listing.specs.Layout.{recordKind, recordItemSize}
 use Rattle.listing.specs.Listing.{stands}
-use Rattle.listing.proofs.Items.{is-item, records-no}
-use Rattle.parser.specs.Count.{Shaped}
-use Rattle.parser.specs.Survey.{recordSize, recordsFrom}
-use Rattle.parser.specs.Walk.{functionsOf, ahead, entryAt, Turning, Starting, Walkable}
-use Rattle.parser.proofs.Records.{shape-size, records-here, sized-here}
+use Rattle.parser_items.specs.Count.{Shaped}
+use Rattle.parser_items.specs.Survey.{recordSize, recordsFrom, functionsOf}
+use Rattle.parser.specs.Walk.{ahead, entryAt, Turning, Starting, Walkable}
+use Rattle.parser_items.proofs.Records.{shape-size, records-here, sized-here, some-record}
 use Rattle.parser.proofs.Turns.{ahead-one}
-
--- where records are ahead, one stands here
-pub some-record : (l : List ℕ) (at : ℕ) → 0 < length (recordsFrom l at) → stands recordKind recordItemSize l at ≡ true
-some-record l at h = go (stands recordKind recordItemSize l at) refl
-  where
-    go : (b : Bool) → stands recordKind recordItemSize l at ≡ b → stands recordKind recordItemSize l at ≡ true
-    go true e = e
-    go false e = absurd (let z : length (recordsFrom l at) ≡ 0 = rw (records-no l (length l) at e .0) in omega arith)
-
-pub record-inside : (l : List ℕ) (at : ℕ) → 0 < length (recordsFrom l at) → at + recordItemSize ≤ length l
-record-inside l at h = is-item recordKind recordItemSize l at (some-record l at h) .0
 
 -- a record's number has no part in its refusal
 renumber : (old : Bool) (c k j at : ℕ) (os : List Owner) (rs : List Record) (end : ℕ)

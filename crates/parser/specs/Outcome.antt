@@ -10,33 +10,15 @@ use Rattle.stackmap.specs.Layout.{headerSize, functionSize, constantSize}
 use Rattle.stackmap.specs.Verdict.{chain}
 use Rattle.stackmap.specs.Fault.{sectionFault}
 use Rattle.listing.specs.Layout.{listingMost}
-use Rattle.listing.specs.Listing.{notTooMany, itemsCheck, listedOld, itemsOf, listingCheck, readListing}
+use Rattle.listing.specs.Listing.{listedOld, itemsOf, listingCheck, readListing}
 use Rattle.parser.specs.declared.Outcome.{Outcome}
 use Rattle.parser.specs.declared.Outcome.the-variants.{Refused, Section}
-use Rattle.parser.specs.declared.draft.Draft.{Draft}
-use Rattle.parser.specs.declared.draft.Draft.the-variants as draft
-use Rattle.parser.specs.Survey.{recordsFrom, recordsAfter, Planned}
+use Rattle.parser_items.specs.Survey.{recordsAfter, Planned}
+use Rattle.parser_items.specs.Draft.{Ready}
 
 -- where a section ends that has so many functions and constants, and so many bytes of records
 abbrev pub sectionEnd : Bool → ℕ → ℕ → ℕ → ℕ
 sectionEnd old functions constants bytes = headerSize + functionSize old * functions + constantSize * constants + bytes
-
--- n records stand from `from` on, none with too many locations or live-outs
-pub record Ready (l : List ℕ) (from n : ℕ) : Type 0 where
-  pub inside : from ≤ length l
-  pub counted : length (recordsFrom l from) ≡ n
-  pub small : (e : ℕ) × (notTooMany (recordsFrom l from) from ≡ verdict.Valid e)
-
--- the items after the version's are as they should be, and what was counted in them
-pub record Whole (l : List ℕ) (old : Bool) (functions constants records bytes : ℕ) : Type 0 where
-  pub accepted : itemsCheck old l ≡ verdict.Valid (length l)
-  pub planned : Planned l old functions constants records bytes
-  pub ready : Ready l (recordsAfter l functions constants) records
-
--- the items of a listing of this version; a place counts from the first of them
-abbrev pub Drafted : List ℕ → Bool → Draft → Type 0
-Drafted l old (draft.Refused n p) = (itemsCheck old l ≡ verdict.Refused n p) × (p ≤ length l)
-Drafted l old (draft.Whole plan) = (plan .old ≡ old) × Whole l (plan .old) (plan .functions) (plan .constants) (plan .records) (plan .bytes)
 
 -- the refusal of the listing or of the section that it is to become, or that section's length
 unfoldable pub refusal : List ℕ → Verdict

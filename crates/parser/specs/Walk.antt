@@ -6,16 +6,12 @@ use mathlib.Core.List.{List, [], _++_}
 use lib.ListN.{length, replicate}
 use Rattle.stackmap.specs.Layout.{sectionMost}
 use Rattle.stackmap.specs.Fields.{size, all, many}
-use Rattle.stackmap.specs.Section.{Function, recordFields, Owner, nobody, owners, recordOwners, counted, Entry}
+use Rattle.stackmap.specs.Section.{recordFields, Owner, nobody, owners, recordOwners, counted, Entry}
 use Rattle.listing.specs.Layout.{functionItemSize}
 use Rattle.listing.specs.Listing.{listedFunction, listedRecord}
-use Rattle.parser.specs.Survey.{recordsFrom}
+use Rattle.parser_items.specs.Survey.{functionsOf, recordsFrom}
 
 module _ (l : List ℕ) where
-  -- n functions from the start on
-  abbrev pub functionsOf : ℕ → List Function
-  functionsOf n = many listedFunction functionItemSize n l 0
-
   -- function number i; a record of version 1 is nobody's
   unfoldable pub ownerBy : Bool → ℕ → Owner
   ownerBy true i = record { number = i; function = nobody .function }
@@ -40,7 +36,7 @@ module _ (l : List ℕ) where
   pub record Walkable (old : Bool) (n from records place end : ℕ) : Type 0 where
     pub functions-inside : functionItemSize * n ≤ length l
     pub inside : from ≤ length l
-    pub adds-up : old ≡ false → counted (functionsOf n) ≡ records
+    pub adds-up : old ≡ false → counted (functionsOf l n) ≡ records
     pub listed : length (recordsFrom l from) ≡ records
     pub ends : place + size (all (recordFields old) (recordsFrom l from)) ≡ end
     pub small : end ≤ sectionMost

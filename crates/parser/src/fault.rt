@@ -11,12 +11,12 @@ ghost use Rattle.stackmap.specs.Fields.{many};
 ghost use Rattle.stackmap.specs.Fault.{locationFault, locationsFault, entryFault};
 ghost use Rattle.listing.specs.Layout.{functionItemSize, locationItemSize, listingMost};
 ghost use Rattle.listing.specs.Listing.{listedLocation};
-ghost use Rattle.parser.specs.Count.{Shaped};
-ghost use Rattle.parser.specs.Survey.{recordSize};
+ghost use Rattle.parser_items.specs.Count.{Shaped};
+ghost use Rattle.parser_items.specs.Survey.{recordSize};
 ghost use Rattle.parser.specs.Walk.{ownerBy, entryAt};
-use crate::Plan;
-use crate::shape;
 use listing::numbers;
+use parser_items::Plan;
+use parser_items::shape;
 use stackmap::Verdict;
 use stackmap::layout;
 

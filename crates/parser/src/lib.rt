@@ -1,30 +1,16 @@
 // What a listing comes to: refused, or the section that is to be built of it. Both are found over the listing's items alone:
-// the built section's refusals are said of the items, with places in the section. All modules but `version` count places
-// from the first byte after the version's item.
+// the built section's refusals are said of the items, with places in the section. Places are counted from the first byte after
+// the version's item.
 ghost use Rattle.parser.specs.Outcome.{Found};
-use crate::draft::Draft;
 use listing::numbers;
+use parser_items::Plan;
+use parser_items::draft;
+use parser_items::draft::Draft;
+use parser_items::version;
 use stackmap::Verdict;
 
-mod count;
-mod draft;
 mod fault;
-mod grammar;
-mod narrow;
-pub mod shape;
-mod version;
 mod walk;
-
-// What is known of a listing before its section is written.
-pub struct Plan {
-    // Whether it is of version 1.
-    pub old: bool,
-    pub functions: usize,
-    pub constants: usize,
-    pub records: usize,
-    // The bytes of the records in the section.
-    pub bytes: usize,
-}
 
 // What the listing comes to.
 pub enum Outcome {

@@ -10,12 +10,12 @@ ghost use Rattle.stackmap.specs.Check.{countsRight};
 ghost use Rattle.stackmap.specs.Fault.{entriesFault, sectionFault};
 ghost use Rattle.listing.specs.Layout.{functionItemSize, listingMost};
 ghost use Rattle.listing.specs.Listing.{readItems};
-ghost use Rattle.parser.specs.Survey.{recordsFrom, Planned};
-ghost use Rattle.parser.specs.Walk.{functionsOf, ahead, Turning, Starting, Walkable};
-use crate::Plan;
+ghost use Rattle.parser_items.specs.Survey.{recordsFrom, Planned, functionsOf};
+ghost use Rattle.parser.specs.Walk.{ahead, Turning, Starting, Walkable};
 use crate::fault;
-use crate::shape;
 use listing::numbers;
+use parser_items::Plan;
+use parser_items::shape;
 use stackmap::Verdict;
 use stackmap::layout;
 

@@ -1,5 +1,6 @@
 -- All promises hold.
 use Rattle.stackmap.proofs.WellFormed
+use Rattle.listing.proofs.Bound
 use Rattle.listing.proofs.RoundTrip
 use Rattle.relocate.proofs.Demand
 use Rattle.relocate.proofs.Reorder
@@ -15,6 +16,7 @@ promises =
       output-kept = RoundTrip.output-kept;
       one-to-one = WellFormed.one-to-one;
       listing-one-to-one = RoundTrip.listing-one-to-one;
+      bound-suffices = Bound.bound-suffices;
       built-refusal = WellFormed.built;
       round-trips = RoundTrip.round-trips;
       counts = Consequences.counts;

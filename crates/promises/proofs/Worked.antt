@@ -3,10 +3,15 @@ use mathlib.Core.Path.{refl}
 use Rattle.wire.specs.Word.{word, bytes}
 use Rattle.stackmap.specs.Verdict.{must, chain, bind, pick, shift}
 use Rattle.stackmap.specs.Fields.{bytesOf, size, all, many}
-use Rattle.stackmap.specs.Section.{functionFields, constantFields, locationFields, liveOutFields, recordFields, sectionFields, encodeSection, readFunction, readConstant, readLocation, readLiveOut, recordLength, readRecord, readRecords, readFunctions, readSection, owners, recordOwners, counted, address, entriesFrom, entriesOf, entries}
+use Rattle.stackmap.specs.Section.{functionFields, constantFields, locationFields, liveOutFields, recordFields, sectionFields, encodeSection}
+use Rattle.stackmap.specs.Section.{readFunction, readConstant, readLocation, readLiveOut, recordLength, readRecord, readRecords, readFunctions}
+use Rattle.stackmap.specs.Section.{readSection, owners, recordOwners, counted, address, entriesFrom, entriesOf, entries}
 use Rattle.stackmap.specs.Record.{zeros, locationZeros, poolCheck, locationCheck, locations, liveOuts, recordInside, recordBytes, recordCheck}
 use Rattle.stackmap.specs.Check.{countsRight, headerCheck, tablesCheck, recordsCheck, walkCheck, sectionCheck}
-use Rattle.listing.specs.Listing.{functionItem, constantItem, recordItem, locationItem, liveOutItem, recordItems, versionItem, itemFields, listingFields, encodeListing, stands, run, listedFunction, listedConstant, listedLocation, listedLiveOut, listedRecord, recordStop, listedRecords, recordsStop, readItems, listedOld, readListing, itemsStop, notTooMany, noCounts, smallSizes, allSmallSizes, oldRight, itemsCheck, listingCheck, toListing, toSection}
+use Rattle.listing.specs.Listing.{functionItem, constantItem, recordItem, locationItem, liveOutItem, recordItems, versionItem, itemFields}
+use Rattle.listing.specs.Listing.{listingFields, encodeListing, stands, run, listedFunction, listedConstant, listedLocation, listedLiveOut}
+use Rattle.listing.specs.Listing.{listedRecord, recordStop, listedRecords, recordsStop, readItems, listedOld, readListing, itemsStop, notTooMany}
+use Rattle.listing.specs.Listing.{noCounts, smallSizes, allSmallSizes, oldRight, itemsCheck, listingCheck, toListing, toSection}
 use Rattle.listing.specs.RoundTrip.{result}
 use Rattle.questions.specs.Questions.{ask, withAddress, ownedBy, namedIn, sought, constantOf}
 use Rattle.moves.specs.Window.{splice}
@@ -14,11 +19,23 @@ use Rattle.moves.specs.Search.{lowest}
 use Rattle.moves.specs.Table.{rising, noZero, tableRight, lookUp}
 use Rattle.moves.specs.Pointers
 use Rattle.moves.specs.Settle.{answerFor, bytesFor, first20, put, first21, settled, settle}
-use Rattle.relocate.specs.Statepoint.{deoptCount, constantHead, pairedRest, isStatepoint, pairUp, pairs, isZero, isNull, sizeRight, isSlot, rightForm, registerOf, excess, slotAt, slotInside, inside, pointerOf}
+use Rattle.relocate.specs.Statepoint.{deoptCount, constantHead, pairedRest, isStatepoint, pairUp, pairs, isZero, isNull, sizeRight, isSlot, rightForm}
+use Rattle.relocate.specs.Statepoint.{registerOf, excess, slotAt, slotInside, inside, pointerOf}
 use Rattle.relocate.specs.Plan.{recordsOf, need, only, every, imageRight, extentRight, planPairs, planRecord, plan}
 use Rattle.relocate.specs.Relocation.{answer, moved}
-use Rattle.promises.specs.Worked.{got, header, listingH, image, table, WorkedTable}
+use Rattle.promises.specs.Worked.{got, header, sectionH, listingH, sectionOldH, listingOldH, image, table, WorkedTable}
 
 pub worked : WorkedTable
-unfolding word bytes must chain bind pick shift bytesOf size all many functionFields constantFields locationFields liveOutFields recordFields sectionFields encodeSection readFunction readConstant readLocation readLiveOut recordLength readRecord readRecords readFunctions readSection owners recordOwners counted zeros locationZeros poolCheck locationCheck locations liveOuts recordInside recordBytes recordCheck countsRight headerCheck tablesCheck recordsCheck walkCheck sectionCheck functionItem constantItem recordItem locationItem liveOutItem recordItems versionItem itemFields listingFields encodeListing stands run listedFunction listedConstant listedLocation listedLiveOut listedRecord recordStop listedRecords recordsStop readItems listedOld readListing itemsStop notTooMany noCounts smallSizes allSmallSizes oldRight itemsCheck listingCheck toListing toSection result address entriesFrom entriesOf entries ask withAddress ownedBy namedIn sought constantOf splice lowest rising noZero tableRight lookUp Pointers.overlap Pointers.anyOverlap Pointers.slotsClash Pointers.clash Pointers.newDerived Pointers.newContent answerFor bytesFor first20 put first21 settled settle deoptCount constantHead pairedRest isStatepoint pairUp pairs isZero isNull sizeRight isSlot rightForm registerOf excess slotAt slotInside inside pointerOf recordsOf need only every imageRight extentRight planPairs planRecord plan answer moved got header listingH image table
+unfolding word bytes must chain bind pick shift bytesOf size all many functionFields constantFields locationFields liveOutFields
+    recordFields sectionFields encodeSection readFunction readConstant readLocation readLiveOut recordLength readRecord readRecords
+    readFunctions readSection owners recordOwners counted zeros locationZeros poolCheck locationCheck locations liveOuts recordInside
+    recordBytes recordCheck countsRight headerCheck tablesCheck recordsCheck walkCheck sectionCheck functionItem constantItem recordItem
+    locationItem liveOutItem recordItems versionItem itemFields listingFields encodeListing stands run listedFunction listedConstant
+    listedLocation listedLiveOut listedRecord recordStop listedRecords recordsStop readItems listedOld readListing itemsStop notTooMany
+    noCounts smallSizes allSmallSizes oldRight itemsCheck listingCheck toListing toSection result address entriesFrom entriesOf entries ask
+    withAddress ownedBy namedIn sought constantOf splice lowest rising noZero tableRight lookUp Pointers.overlap Pointers.anyOverlap
+    Pointers.slotsClash Pointers.clash Pointers.newDerived Pointers.newContent answerFor bytesFor first20 put first21 settled settle
+    deoptCount constantHead pairedRest isStatepoint pairUp pairs isZero isNull sizeRight isSlot rightForm registerOf excess slotAt
+    slotInside inside pointerOf recordsOf need only every imageRight extentRight planPairs planRecord plan answer moved got header sectionH
+    listingH sectionOldH listingOldH image table
 worked = refl

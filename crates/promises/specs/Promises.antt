@@ -1,5 +1,6 @@
 -- All that is shown of the definitions, in the order of the demands.
 use Rattle.stackmap.specs.Laws.{OneToOne, BuiltRefusal}
+use Rattle.listing.specs.Bound.{BoundSuffices}
 use Rattle.listing.specs.RoundTrip.{ListingOneToOne, RoundTrips, OutputKept}
 use Rattle.relocate.specs.Lists.{Demand3, OrderFree}
 use Rattle.relocate.specs.Reorder.{PairOrder}
@@ -14,6 +15,7 @@ pub record Promises : Type 0 where
   -- 2: accepted sections and listings are their data, both round trips give the same bytes, and a move counts its pairs
   pub one-to-one : OneToOne
   pub listing-one-to-one : ListingOneToOne
+  pub bound-suffices : BoundSuffices
   pub built-refusal : BuiltRefusal
   pub round-trips : RoundTrips
   pub counts : Counts

@@ -7,7 +7,7 @@ use lib.ListN.{replicate}
 use Rattle.wire.specs.Word.{bytes}
 use Rattle.stackmap.specs.declared.Verdict.{Verdict}
 use Rattle.stackmap.specs.declared.Verdict.the-variants.{Valid, Refused}
-use Rattle.stackmap.specs.Section.{Location, Section, encodeSection}
+use Rattle.stackmap.specs.Section.{Location, isOld, encodeSection}
 use Rattle.stackmap.specs.Check.{sectionCheck}
 use Rattle.listing.specs.Listing.{Converted, toListing, toSection}
 use Rattle.listing.specs.RoundTrip.{result}
@@ -21,12 +21,14 @@ pub data Asked : Type 0 where
   check : List ℕ → Asked
   listingOf : List ℕ → Asked
   sectionOf : List ℕ → Asked
-  moveIn : Section → ℕ → ℕ → List ℕ → Asked
+  moveIn : List ℕ → ℕ → ℕ → List ℕ → Asked
 
--- a refusal's number and place; a section's length; or the length and the bytes that are written, or the count and the image
+-- of a check: a refusal's number and place, or the section's length; of the others: a refusal's number and place with the output or the
+-- image that is left, or the length and the bytes that are written, the count and the image
 pub data Got : Type 0 where
   refused : ℕ → ℕ → Got
   accepted : ℕ → Got
+  leaves : ℕ → ℕ → List ℕ → Got
   gives : ℕ → List ℕ → Got
 
 abbrev pub checked : Verdict → Got
@@ -35,11 +37,11 @@ checked (Refused n p) = refused n p
 
 abbrev pub converted : ℕ → Converted → Got
 converted zero c = gives (c .written) (result c)
-converted (suc n) c = refused (suc n) (c .place)
+converted (suc n) c = leaves (suc n) (c .place) (c .output)
 
 abbrev pub shifted : ℕ → Move → List ℕ → Got
 shifted zero a im = gives (a .count) im
-shifted (suc n) a im = refused (suc n) (a .place)
+shifted (suc n) a im = leaves (suc n) (a .place) im
 
 abbrev pub frame : Bool → Frame
 frame true = record { address = 0x20; rbp = 0; rsp = 0x7000; function = 0 }
@@ -53,10 +55,9 @@ unfoldable pub got : Asked → Got
 got (check s) = checked (sectionCheck s)
 got (listingOf s) = let c = toListing s room in converted (c .number) c
 got (sectionOf l) = let c = toSection l room in converted (c .number) c
-got (moveIn t old new im) =
-    let s = encodeSection t in
-    let a = answer s (old ∷ []) (new ∷ []) 0x7000 im (frame (t .old)) in
-    shifted (a .number) a (moved s (old ∷ []) (new ∷ []) 0x7000 im (frame (t .old)))
+got (moveIn s old new im) =
+    let a = answer s (old ∷ []) (new ∷ []) 0x7000 im (frame (isOld s)) in
+    shifted (a .number) a (moved s (old ∷ []) (new ∷ []) 0x7000 im (frame (isOld s)))
 
 -- a header of version v with three counts
 unfoldable pub header : ℕ → ℕ → ℕ → ℕ → List ℕ
@@ -69,28 +70,41 @@ abbrev pub atRSP : ℕ → Location
 atRSP o = record { kind = 3; size = 8; register = 7; offset = o }
 
 -- function at 0x1000, stack size 24, one record, ID 7, offset 0x20, three zero constants of size 8 and register 0, and pairs
-abbrev pub withPairs : List Location → Section
+abbrev pub withPairs : List Location → List ℕ
 withPairs ls =
-    record {
+    encodeSection (record {
       old = false;
       functions = record { address = 0x1000; stackSize = 24; count = 1 } ∷ [];
       constants = [];
       records = record { id = 7; offset = 0x20; locations = zeroConstant ∷ zeroConstant ∷ zeroConstant ∷ ls; liveOuts = [] } ∷ [];
-    }
+    })
 
 -- pairs (RSP+8, RSP+8) and (RSP+8, RSP+o)
-abbrev pub pairsTo : ℕ → Section
+abbrev pub pairsTo : ℕ → List ℕ
 pairsTo o = withPairs (atRSP 8 ∷ atRSP 8 ∷ atRSP 8 ∷ atRSP o ∷ [])
 
-abbrev pub H : Section
-H = pairsTo 16
-
-abbrev pub exchanged : Section
+abbrev pub exchanged : List ℕ
 exchanged = withPairs (atRSP 8 ∷ atRSP 16 ∷ atRSP 8 ∷ atRSP 8 ∷ [])
 
 -- 24 bytes from 0x7000 with these slots at RSP+8 and RSP+16
 unfoldable pub image : ℕ → ℕ → List ℕ
 image b d = replicate 8 0 ++ bytes 8 b ++ bytes 8 d
+
+-- The bytes of H, each written out: header; function; ID, offset, flags and NumLocations; seven locations (kind, zero, size, register, zero,
+-- offset); padding, 2 zero bytes, NumLiveOuts and padding.
+unfoldable pub sectionH : List ℕ
+sectionH =
+    0x03 ∷ 0x00 ∷ 0x00 ∷ 0x00 ∷ 0x01 ∷ 0x00 ∷ 0x00 ∷ 0x00 ∷ 0x00 ∷ 0x00 ∷ 0x00 ∷ 0x00 ∷ 0x01 ∷ 0x00 ∷ 0x00 ∷ 0x00 ∷
+    0x00 ∷ 0x10 ∷ 0x00 ∷ 0x00 ∷ 0x00 ∷ 0x00 ∷ 0x00 ∷ 0x00 ∷ 0x18 ∷ 0x00 ∷ 0x00 ∷ 0x00 ∷ 0x00 ∷ 0x00 ∷ 0x00 ∷ 0x00 ∷ 0x01 ∷ 0x00 ∷ 0x00 ∷ 0x00 ∷ 0x00 ∷ 0x00 ∷ 0x00 ∷ 0x00 ∷
+    0x07 ∷ 0x00 ∷ 0x00 ∷ 0x00 ∷ 0x00 ∷ 0x00 ∷ 0x00 ∷ 0x00 ∷ 0x20 ∷ 0x00 ∷ 0x00 ∷ 0x00 ∷ 0x00 ∷ 0x00 ∷ 0x07 ∷ 0x00 ∷
+    0x04 ∷ 0x00 ∷ 0x08 ∷ 0x00 ∷ 0x00 ∷ 0x00 ∷ 0x00 ∷ 0x00 ∷ 0x00 ∷ 0x00 ∷ 0x00 ∷ 0x00 ∷
+    0x04 ∷ 0x00 ∷ 0x08 ∷ 0x00 ∷ 0x00 ∷ 0x00 ∷ 0x00 ∷ 0x00 ∷ 0x00 ∷ 0x00 ∷ 0x00 ∷ 0x00 ∷
+    0x04 ∷ 0x00 ∷ 0x08 ∷ 0x00 ∷ 0x00 ∷ 0x00 ∷ 0x00 ∷ 0x00 ∷ 0x00 ∷ 0x00 ∷ 0x00 ∷ 0x00 ∷
+    0x03 ∷ 0x00 ∷ 0x08 ∷ 0x00 ∷ 0x07 ∷ 0x00 ∷ 0x00 ∷ 0x00 ∷ 0x08 ∷ 0x00 ∷ 0x00 ∷ 0x00 ∷
+    0x03 ∷ 0x00 ∷ 0x08 ∷ 0x00 ∷ 0x07 ∷ 0x00 ∷ 0x00 ∷ 0x00 ∷ 0x08 ∷ 0x00 ∷ 0x00 ∷ 0x00 ∷
+    0x03 ∷ 0x00 ∷ 0x08 ∷ 0x00 ∷ 0x07 ∷ 0x00 ∷ 0x00 ∷ 0x00 ∷ 0x08 ∷ 0x00 ∷ 0x00 ∷ 0x00 ∷
+    0x03 ∷ 0x00 ∷ 0x08 ∷ 0x00 ∷ 0x07 ∷ 0x00 ∷ 0x00 ∷ 0x00 ∷ 0x10 ∷ 0x00 ∷ 0x00 ∷ 0x00 ∷
+    0x00 ∷ 0x00 ∷ 0x00 ∷ 0x00 ∷ 0x00 ∷ 0x00 ∷ 0x00 ∷ 0x00 ∷ 0x00 ∷ 0x00 ∷ 0x00 ∷ 0x00 ∷ []
 
 unfoldable pub listingH : List ℕ
 listingH =
@@ -105,15 +119,35 @@ listingH =
     0x04 ∷ 0x03 ∷ 0x08 ∷ 0x00 ∷ 0x07 ∷ 0x00 ∷ 0x10 ∷ 0x00 ∷ 0x00 ∷ 0x00 ∷
     0x06 ∷ []
 
--- H in version 1, which states no record count
-abbrev pub oldH : Section
-oldH =
-    record {
-      old = true;
-      functions = record { address = 0x1000; stackSize = 24; count = 0 } ∷ [];
-      constants = H .constants;
-      records = H .records;
-    }
+-- H in version 1: a function without its record count, locations of 8 bytes (kind, size, register, offset), no padding after them
+unfoldable pub sectionOldH : List ℕ
+sectionOldH =
+    0x01 ∷ 0x00 ∷ 0x00 ∷ 0x00 ∷ 0x01 ∷ 0x00 ∷ 0x00 ∷ 0x00 ∷ 0x00 ∷ 0x00 ∷ 0x00 ∷ 0x00 ∷ 0x01 ∷ 0x00 ∷ 0x00 ∷ 0x00 ∷
+    0x00 ∷ 0x10 ∷ 0x00 ∷ 0x00 ∷ 0x00 ∷ 0x00 ∷ 0x00 ∷ 0x00 ∷ 0x18 ∷ 0x00 ∷ 0x00 ∷ 0x00 ∷ 0x00 ∷ 0x00 ∷ 0x00 ∷ 0x00 ∷
+    0x07 ∷ 0x00 ∷ 0x00 ∷ 0x00 ∷ 0x00 ∷ 0x00 ∷ 0x00 ∷ 0x00 ∷ 0x20 ∷ 0x00 ∷ 0x00 ∷ 0x00 ∷ 0x00 ∷ 0x00 ∷ 0x07 ∷ 0x00 ∷
+    0x04 ∷ 0x08 ∷ 0x00 ∷ 0x00 ∷ 0x00 ∷ 0x00 ∷ 0x00 ∷ 0x00 ∷
+    0x04 ∷ 0x08 ∷ 0x00 ∷ 0x00 ∷ 0x00 ∷ 0x00 ∷ 0x00 ∷ 0x00 ∷
+    0x04 ∷ 0x08 ∷ 0x00 ∷ 0x00 ∷ 0x00 ∷ 0x00 ∷ 0x00 ∷ 0x00 ∷
+    0x03 ∷ 0x08 ∷ 0x07 ∷ 0x00 ∷ 0x08 ∷ 0x00 ∷ 0x00 ∷ 0x00 ∷
+    0x03 ∷ 0x08 ∷ 0x07 ∷ 0x00 ∷ 0x08 ∷ 0x00 ∷ 0x00 ∷ 0x00 ∷
+    0x03 ∷ 0x08 ∷ 0x07 ∷ 0x00 ∷ 0x08 ∷ 0x00 ∷ 0x00 ∷ 0x00 ∷
+    0x03 ∷ 0x08 ∷ 0x07 ∷ 0x00 ∷ 0x10 ∷ 0x00 ∷ 0x00 ∷ 0x00 ∷
+    0x00 ∷ 0x00 ∷ 0x00 ∷ 0x00 ∷ 0x00 ∷ 0x00 ∷ 0x00 ∷ 0x00 ∷ []
+
+-- its listing: `07 01`, then the items of H with the record count 0
+unfoldable pub listingOldH : List ℕ
+listingOldH =
+    0x07 ∷ 0x01 ∷
+    0x01 ∷ 0x00 ∷ 0x10 ∷ 0x00 ∷ 0x00 ∷ 0x00 ∷ 0x00 ∷ 0x00 ∷ 0x00 ∷ 0x18 ∷ 0x00 ∷ 0x00 ∷ 0x00 ∷ 0x00 ∷ 0x00 ∷ 0x00 ∷ 0x00 ∷ 0x00 ∷ 0x00 ∷ 0x00 ∷ 0x00 ∷ 0x00 ∷ 0x00 ∷ 0x00 ∷ 0x00 ∷
+    0x03 ∷ 0x07 ∷ 0x00 ∷ 0x00 ∷ 0x00 ∷ 0x00 ∷ 0x00 ∷ 0x00 ∷ 0x00 ∷ 0x20 ∷ 0x00 ∷ 0x00 ∷ 0x00 ∷
+    0x04 ∷ 0x04 ∷ 0x08 ∷ 0x00 ∷ 0x00 ∷ 0x00 ∷ 0x00 ∷ 0x00 ∷ 0x00 ∷ 0x00 ∷
+    0x04 ∷ 0x04 ∷ 0x08 ∷ 0x00 ∷ 0x00 ∷ 0x00 ∷ 0x00 ∷ 0x00 ∷ 0x00 ∷ 0x00 ∷
+    0x04 ∷ 0x04 ∷ 0x08 ∷ 0x00 ∷ 0x00 ∷ 0x00 ∷ 0x00 ∷ 0x00 ∷ 0x00 ∷ 0x00 ∷
+    0x04 ∷ 0x03 ∷ 0x08 ∷ 0x00 ∷ 0x07 ∷ 0x00 ∷ 0x08 ∷ 0x00 ∷ 0x00 ∷ 0x00 ∷
+    0x04 ∷ 0x03 ∷ 0x08 ∷ 0x00 ∷ 0x07 ∷ 0x00 ∷ 0x08 ∷ 0x00 ∷ 0x00 ∷ 0x00 ∷
+    0x04 ∷ 0x03 ∷ 0x08 ∷ 0x00 ∷ 0x07 ∷ 0x00 ∷ 0x08 ∷ 0x00 ∷ 0x00 ∷ 0x00 ∷
+    0x04 ∷ 0x03 ∷ 0x08 ∷ 0x00 ∷ 0x07 ∷ 0x00 ∷ 0x10 ∷ 0x00 ∷ 0x00 ∷ 0x00 ∷
+    0x06 ∷ []
 
 infix 30 _⇒_
 pub record Row : Type 0 where
@@ -150,27 +184,35 @@ table =
     {- G -}
     (check (header 3 1 0 0) ⇒ refused 4 16) ∷
     {- H -}
-    (check (encodeSection H) ⇒ accepted 152) ∷
+    (check sectionH ⇒ accepted 152) ∷
     {- H -}
-    (listingOf (encodeSection H) ⇒ gives 109 listingH) ∷
+    (listingOf sectionH ⇒ gives 109 listingH) ∷
     {- H -}
-    (sectionOf listingH ⇒ gives 152 (encodeSection H)) ∷
+    (sectionOf listingH ⇒ gives 152 sectionH) ∷
+    {- H in version 1 -}
+    (check sectionOldH ⇒ accepted 112) ∷
+    {- H in version 1 -}
+    (listingOf sectionOldH ⇒ gives 111 listingOldH) ∷
+    {- H in version 1 -}
+    (sectionOf listingOldH ⇒ gives 112 sectionOldH) ∷
+    {- H and one byte more, listed -}
+    (listingOf (sectionH ++ (0 ∷ [])) ⇒ leaves 9 152 room) ∷
     {- I -}
-    (moveIn H 0x50000 0x90000 (image 0x50000 0x54E20) ⇒ gives 2 (image 0x90000 0x94E20)) ∷
+    (moveIn sectionH 0x50000 0x90000 (image 0x50000 0x54E20) ⇒ gives 2 (image 0x90000 0x94E20)) ∷
     {- I in version 1 -}
-    (moveIn oldH 0x50000 0x90000 (image 0x50000 0x54E20) ⇒ gives 2 (image 0x90000 0x94E20)) ∷
+    (moveIn sectionOldH 0x50000 0x90000 (image 0x50000 0x54E20) ⇒ gives 2 (image 0x90000 0x94E20)) ∷
     {- J -}
     (moveIn exchanged 0x50000 0x90000 (image 0x50000 0x54E20) ⇒ gives 2 (image 0x90000 0x94E20)) ∷
     {- K -}
-    (moveIn H 0x50000 0x90000 (image 0x50000 0x4B1E0) ⇒ gives 2 (image 0x90000 0x8B1E0)) ∷
+    (moveIn sectionH 0x50000 0x90000 (image 0x50000 0x4B1E0) ⇒ gives 2 (image 0x90000 0x8B1E0)) ∷
     {- L -}
-    (moveIn H 0x50000 0x10 (image 0x50000 0x4FFE0) ⇒ gives 2 (image 0x10 0xFFFFFFFFFFFFFFF0)) ∷
+    (moveIn sectionH 0x50000 0x10 (image 0x50000 0x4FFE0) ⇒ gives 2 (image 0x10 0xFFFFFFFFFFFFFFF0)) ∷
     {- also: base 0x50008 -}
-    (moveIn H 0x50000 0x90000 (image 0x50008 0x54E20) ⇒ refused 21 0) ∷
+    (moveIn sectionH 0x50000 0x90000 (image 0x50008 0x54E20) ⇒ leaves 21 0 (image 0x50008 0x54E20)) ∷
     {- last offset 17 -}
-    (moveIn (pairsTo 17) 0x50000 0x90000 (image 0x50000 0x54E20) ⇒ refused 19 1) ∷
+    (moveIn (pairsTo 17) 0x50000 0x90000 (image 0x50000 0x54E20) ⇒ leaves 19 1 (image 0x50000 0x54E20)) ∷
     {- last offset 12 -}
-    (moveIn (pairsTo 12) 0x50000 0x90000 (image 0x50000 0x54E20) ⇒ refused 20 1) ∷
+    (moveIn (pairsTo 12) 0x50000 0x90000 (image 0x50000 0x54E20) ⇒ leaves 20 1 (image 0x50000 0x54E20)) ∷
     {- no pairs -}
     (moveIn (withPairs []) 0x50000 0x90000 (image 0x50000 0x54E20) ⇒ gives 0 (image 0x50000 0x54E20)) ∷
     []

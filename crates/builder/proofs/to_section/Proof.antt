@@ -28,13 +28,22 @@ version-length-requires : tie.Need-version-length-requires
 version-length-requires c κs = search needs
 
 sub-section : tie.Need-sub-section
-sub-section c = let k = rw (c .before .before .before .plan .given .1) at (c .before .before .before .before .before .parse .ensures) in let h = start-inside (c .before .before .before .before .before .before .before .before .args .listing .now) (k .version) (c .version-length .ensures .0) in search needs
+sub-section c =
+    let k = rw (c .before .before .before .plan .given .1) at (c .before .before .before .before .before .parse .ensures) in
+    let h = start-inside (c .before .before .before .before .before .before .before .before .args .listing .now) (k .version) (c .version-length .ensures .0) in
+    search needs
 
 part-section-start : tie.Need-part-section-start
-part-section-start c = let k = rw (c .before .before .before .plan .given .1) at (c .before .before .before .before .before .parse .ensures) in let h = start-inside (c .before .before .before .before .before .before .before .before .args .listing .now) (k .version) (c .version-length .ensures .0) in search needs
+part-section-start c =
+    let k = rw (c .before .before .before .plan .given .1) at (c .before .before .before .before .before .parse .ensures) in
+    let h = start-inside (c .before .before .before .before .before .before .before .before .args .listing .now) (k .version) (c .version-length .ensures .0) in
+    search needs
 
 part-section-end : tie.Need-part-section-end
-part-section-end c = let k = rw (c .before .before .before .plan .given .1) at (c .before .before .before .before .before .parse .ensures) in let h = start-inside (c .before .before .before .before .before .before .before .before .args .listing .now) (k .version) (c .version-length .ensures .0) in search needs
+part-section-end c =
+    let k = rw (c .before .before .before .plan .given .1) at (c .before .before .before .before .before .parse .ensures) in
+    let h = start-inside (c .before .before .before .before .before .before .before .before .args .listing .now) (k .version) (c .version-length .ensures .0) in
+    search needs
 
 section-requires : tie.Need-section-requires
 section-requires c κs =
@@ -60,7 +69,14 @@ returns-3 c =
     let w : Bytes (a .listing .now) = record { below = λ i. omega (arith, c .before .before .before .before .before .before .before .before .before .before .before .before .shared-slice-known .given i) } in
     let k = rw (c .before .before .before .before .before .before .before .before .plan .given .1) at (c .before .before .before .before .before .before .before .before .before .before .parse .ensures) in
     rw (converted (a .listing .now) w (a .out .now) k (c .before .before .before .before .before .before .if1 .left))
-    (record { number = refl; place = refl; written = refl; output = rw (part-is (c .before .before .before .before .before .before .before .before .before .before .before .before .before .args .listing .now) (k .version) (c .before .before .before .before .before .version-length .ensures .0), read-as (a .listing .now) w (a .out .now) k) at (c .before .before .section .ensures) })
+    (record {
+      number = refl;
+      place = refl;
+      written = refl;
+      output =
+          rw (part-is (a .listing .now) (k .version) (c .before .before .before .before .before .version-length .ensures .0), read-as (a .listing .now) w (a .out .now) k)
+          at (c .before .before .section .ensures);
+    })
 
 pub to-section-spec : {M : Type 1} → statement M
 to-section-spec =

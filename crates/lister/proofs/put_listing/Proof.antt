@@ -1,7 +1,9 @@
 -- The parts stand one after the other, and there is room for each after those before it.
 use native.Mathlib.Omega.{arith}
-use Rattle.lister.proofs.Puts.{put-long}
-use Rattle.lister.proofs.Whole.{laid, version-room, functions-room, constants-room, records-room, end-room, listing-join}
+use Rattle.lister_items.proofs.Puts.{put-long}
+use Rattle.stackmap.specs.Fields.{size, all}
+use Rattle.stackmap.specs.Section.{readRecords}
+use Rattle.lister.proofs.Whole.{laid, parts, version-ends, functions-end, constants-end, listing-join}
 use Rattle.lister.proofs.put_listing.Statement.{statement}
 use Rattle.lister.proofs.put_listing.Tie as tie
 
@@ -12,14 +14,16 @@ put-version-requires : tie.Need-put-version-requires
 put-version-requires c κs =
     let t = c .before in
     let b = t .before .before .before in
-    omega (arith, version-room _ (t .section-tables .ensures) (laid _ (b .pre .0)) (b .args .out .now) (b .pre .1))
+    let k = parts _ (t .section-tables .ensures) (b .pre .0) (b .args .out .now) (b .pre .1) in
+    omega arith
 
 put-functions-requires : tie.Need-put-functions-requires
 put-functions-requires c κs =
     let v = c .before .before .before in
     let t = v .before .before in
     let b = t .before .before .before in
-    omega (arith, functions-room _ (t .section-tables .ensures) (laid _ (b .pre .0)) (b .args .out .now) (b .pre .1) (v .put-version .ensures))
+    let k = parts _ (t .section-tables .ensures) (b .pre .0) (b .args .out .now) (b .pre .1) in
+    omega (arith, version-ends _ (v .put-version .ensures))
 
 put-constants-requires : tie.Need-put-constants-requires
 put-constants-requires c κs =
@@ -27,28 +31,35 @@ put-constants-requires c κs =
     let v = f .before .before .before .before in
     let t = v .before .before in
     let b = t .before .before .before in
-    constants-room _ (t .section-tables .ensures) (laid _ (b .pre .0)) (b .args .out .now) (b .pre .1) (v .put-version .ensures) (f .put-functions .ensures)
+    let k = parts _ (t .section-tables .ensures) (b .pre .0) (b .args .out .now) (b .pre .1) in
+    omega (arith, version-ends _ (v .put-version .ensures), functions-end _ _ _ _ _ (f .put-functions .ensures))
 
 put-records-requires : tie.Need-put-records-requires
+unfolding size all readRecords
 put-records-requires c κs =
-    let k = c .before .before .before in
-    let f = k .before .before .before .before in
+    let n = c .before .before .before in
+    let f = n .before .before .before .before in
     let v = f .before .before .before .before in
     let t = v .before .before in
     let b = t .before .before .before in
-    records-room _ (t .section-tables .ensures) (laid _ (b .pre .0)) (b .args .out .now) (b .pre .1) (v .put-version .ensures) (f .put-functions .ensures)
-    (k .put-constants .ensures)
+    let k = parts _ (t .section-tables .ensures) (b .pre .0) (b .args .out .now) (b .pre .1) in
+    let e = functions-end _ _ _ _ _ (f .put-functions .ensures) in
+    omega (arith, version-ends _ (v .put-version .ensures), constants-end _ _ _ _ _ (n .put-constants .ensures))
 
 slice-write-out : tie.Need-slice-write-out
+unfolding size all readRecords
 slice-write-out c =
     let r = c .before .before in
-    let k = r .before .before .before .before in
-    let f = k .before .before .before .before in
+    let n = r .before .before .before .before in
+    let f = n .before .before .before .before in
     let v = f .before .before .before .before in
     let t = v .before .before in
     let b = t .before .before .before in
-    end-room _ (t .section-tables .ensures) (laid _ (b .pre .0)) (b .args .out .now) (b .pre .1) (v .put-version .ensures) (f .put-functions .ensures)
-    (k .put-constants .ensures) (r .put-records .ensures)
+    let k = parts _ (t .section-tables .ensures) (b .pre .0) (b .args .out .now) (b .pre .1) in
+    let e = functions-end _ _ _ _ _ (f .put-functions .ensures) in
+    let x = r .put-records .ensures .ends in
+    let y = put-long (r .put-records .ensures) in
+    omega (arith, version-ends _ (v .put-version .ensures), constants-end _ _ _ _ _ (n .put-constants .ensures))
 
 add-result : tie.Need-add-result
 add-result c = omega (arith, slice-write-out c)

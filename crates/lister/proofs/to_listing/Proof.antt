@@ -1,6 +1,6 @@
 -- The answer of each case of the definition.
 use mathlib.Core.Path.{refl, sym, _∙_}
-use Rattle.lister.proofs.Puts.{put-long}
+use Rattle.lister_items.proofs.Puts.{put-long}
 use Rattle.lister.proofs.Whole.{accepted, refused, too-short, converted}
 use borrow.Author.Needs.{needs}
 use Rattle.lister.proofs.to_listing.Statement.{statement}

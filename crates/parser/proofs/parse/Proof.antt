@@ -35,20 +35,30 @@ add-t17 : tie.Need-add-t17
 add-t17 c =
     let d = rw (part-from, length-drop) at (rw (c .before .n .given .1) at (c .before .before .before .items .ensures)) in
     let p = d .1 in
-    let h = start-inside (c .before .before .before .before .before .before .before .before .before .args .l .now) (c .before .before .before .before .before .before .listed-old .ensures) (c .before .before .before .before .before .version-length .ensures .0) in
+    let v = c .before .before .before .before .before in
+    let h = start-inside (v .before .before .before .before .args .l .now) (v .before .listed-old .ensures) (v .version-length .ensures .0) in
     omega arith
 
 enum-known-plan : tie.Need-enum-known-plan
 enum-known-plan c = search needs
 
 sub-section : tie.Need-sub-section
-sub-section c = let h = start-inside (c .before .before .before .before .before .before .before .before .before .args .l .now) (c .before .before .before .before .before .before .listed-old .ensures) (c .before .before .before .before .before .version-length .ensures .0) in search needs
+sub-section c =
+    let v = c .before .before .before .before .before in
+    let h = start-inside (v .before .before .before .before .args .l .now) (v .before .listed-old .ensures) (v .version-length .ensures .0) in
+    search needs
 
 part-section-start : tie.Need-part-section-start
-part-section-start c = let h = start-inside (c .before .before .before .before .before .before .before .before .before .args .l .now) (c .before .before .before .before .before .before .listed-old .ensures) (c .before .before .before .before .before .version-length .ensures .0) in search needs
+part-section-start c =
+    let v = c .before .before .before .before .before in
+    let h = start-inside (v .before .before .before .before .args .l .now) (v .before .listed-old .ensures) (v .version-length .ensures .0) in
+    search needs
 
 part-section-end : tie.Need-part-section-end
-part-section-end c = let h = start-inside (c .before .before .before .before .before .before .before .before .before .args .l .now) (c .before .before .before .before .before .before .listed-old .ensures) (c .before .before .before .before .before .version-length .ensures .0) in search needs
+part-section-end c =
+    let v = c .before .before .before .before .before in
+    let h = start-inside (v .before .before .before .before .args .l .now) (v .before .listed-old .ensures) (v .version-length .ensures .0) in
+    search needs
 
 section-requires : tie.Need-section-requires
 section-requires c κs =
@@ -64,17 +74,22 @@ enum-known-size c = search needs
 returns-2 : tie.Need-returns-2
 returns-2 c =
     let d = rw (c .before .n .given .1) at (c .before .before .before .items .ensures) in
-    items-refused (c .before .before .before .before .before .before .before .before .before .args .l .now) (c .before .before .before .before .before .before .listed-old .ensures) (c .before .before .before .before .before .version-length .ensures .0) (c .before .before .before .before .before .before .before .if1 .left) (d .0)
+    let v = c .before .before .before .before .before in
+    items-refused (v .before .before .before .before .args .l .now) (v .before .listed-old .ensures) (v .version-length .ensures .0) (v .before .before .if1 .left) (d .0)
 
 returns-3 : tie.Need-returns-3
 returns-3 c =
     let w = rw (c .before .before .before .before .before .before .plan .given .1) at (c .before .before .before .before .before .before .before .before .items .ensures) in
-    items-accepted (c .before .before .before .before .before .before .before .before .before .before .before .before .before .before .args .l .now) (c .before .before .before .before .before .before .before .before .before .before .before .listed-old .ensures) (c .before .before .before .before .before .before .before .before .before .before .version-length .ensures .0) (c .before .before .before .before .before .before .before .before .before .before .before .before .if1 .left) (w .0) (w .1) ∙ sym (c .before .before .before .section .ensures) ∙ c .before .n2 .given .1
+    let v = c .before .before .before .before .before .before .before .before .before .before in
+    items-accepted (v .before .before .before .before .args .l .now) (v .before .listed-old .ensures) (v .version-length .ensures .0) (v .before .before .if1 .left) (w .0) (w .1)
+    ∙ sym (c .before .before .before .section .ensures) ∙ c .before .n2 .given .1
 
 returns-4 : tie.Need-returns-4
 returns-4 c =
     let w = rw (c .before .before .before .before .before .before .plan .given .1) at (c .before .before .before .before .before .before .before .before .items .ensures) in
-    buildable (c .before .before .before .before .before .before .before .before .before .before .before .before .before .before .args .l .now) (c .before .before .before .before .before .before .before .before .before .before .before .listed-old .ensures) (c .before .before .before .before .before .before .before .before .before .before .version-length .ensures .0) (c .before .before .before .before .before .before .before .before .before .before .before .before .if1 .left) (w .0) (w .1) (sym (c .before .before .before .section .ensures) ∙ c .before .size .given .1)
+    let v = c .before .before .before .before .before .before .before .before .before .before in
+    buildable (v .before .before .before .before .args .l .now) (v .before .listed-old .ensures) (v .version-length .ensures .0) (v .before .before .if1 .left) (w .0) (w .1)
+    (sym (c .before .before .before .section .ensures) ∙ c .before .size .given .1)
 
 pub parse-spec : {M : Type 1} → statement M
 parse-spec =

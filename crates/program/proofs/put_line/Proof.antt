@@ -48,12 +48,17 @@ add-result c =
 returns : tie.Need-returns
 unfolding line decimal
 returns c =
-    let n = digits-length 20 (c .before .before .before .before .before .before .before .before .before .before .args .number) in
-    let m = digits-length 20 (c .before .before .before .before .before .before .before .before .before .before .args .place) in
-    let a = c .before .before .before .before .before .before .before .before .before .before .args in
-    let e = line-put (a .out .now) refusedText (digits 20 (a .number)) atText (digits 20 (a .place)) 10 (c .before .before .before .before .before .before .before .put-text .result)
-    (c .before .before .before .before .before .put-digits .result) (c .before .before .put-text2 .result) (c .put-digits2 .result) (c .before .before .before .before .before .before .before .put-text .ensures .0) (c .before .before .before .before .before .put-digits .ensures .0) (c .before .before .put-text2 .ensures .0) (c .put-digits2 .ensures .0) in
-    (e .1, rw (c .put-digits2 .ensures .1, c .before .before .put-text2 .ensures .1, c .before .before .before .before .before .put-digits .ensures .1, c .before .before .before .before .before .before .before .put-text .ensures .1) (e .0), omega arith)
+    let d = c .before .before .before .before .before in
+    let t = d .before .before in
+    let a = t .before .before .before .args in
+    let n = digits-length 20 (a .number) in
+    let m = digits-length 20 (a .place) in
+    let e =
+    line-put (a .out .now) refusedText (digits 20 (a .number)) atText (digits 20 (a .place)) 10
+    (t .put-text .result) (d .put-digits .result) (c .before .before .put-text2 .result) (c .put-digits2 .result)
+    (t .put-text .ensures .0) (d .put-digits .ensures .0) (c .before .before .put-text2 .ensures .0) (c .put-digits2 .ensures .0) in
+    let w = c .before .before .put-text2 .ensures .1 in
+    (e .1, rw (c .put-digits2 .ensures .1, w, d .put-digits .ensures .1, t .put-text .ensures .1) (e .0), omega arith)
 
 pub put-line-spec : {M : Type 1} → statement M
 put-line-spec =

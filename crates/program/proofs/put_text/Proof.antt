@@ -37,7 +37,7 @@ loop-again : tie.Need-loop-again Inv-loop μ-loop
 loop-again c =
     let l = c .before .before .loop in
     let a = c .before .before .before .args in
-    (omega arith, simp length-set (l .inv .1), rw (l .inv .2) (text-on (a .out .now) (a .text .now) (a .at) (l .i) (c .before .loop-test .taken)))
+    (omega arith, simp length-set (l .inv .1), rw (l .inv .2) (text-on (a .out .now) (a .text .now) (a .at) (l .i) (omega arith)))
 
 add-result : tie.Need-add-result Inv-loop μ-loop
 add-result c = search needs

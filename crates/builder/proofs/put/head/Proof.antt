@@ -1,4 +1,4 @@
-use Rattle.builder.proofs.Puts.{head-put}
+use Rattle.builder.proofs.RecordPut.{head-put}
 use borrow.Author.Needs.{needs}
 use Rattle.builder.proofs.put.head.Statement.{statement}
 use Rattle.builder.proofs.put.head.Tie as tie
@@ -45,7 +45,14 @@ same-length c = search needs
 returns : tie.Need-returns
 returns c =
     let a = c .before .before .before .before .before .before .before .before .before .before .before .before .before .before .before .before .before .before .before .before .args in
-    rw (c .before .before .put-u162 .ensures, c .before .before .before .before .before .before .put-u16 .ensures, c .before .before .before .before .before .before .before .before .before .before .put-u32 .ensures, c .before .before .before .before .before .before .before .before .before .before .before .before .before .before .before .before .u32-at .ensures, c .before .before .before .before .before .before .before .before .before .before .before .before .before .before .put-u64 .ensures, c .before .before .before .before .before .before .before .before .before .before .before .before .before .before .before .before .before .u64-at .ensures)
+    rw (
+      c .before .before .put-u162 .ensures,
+      c .before .before .before .before .before .before .put-u16 .ensures,
+      c .before .before .before .before .before .before .before .before .before .before .put-u32 .ensures,
+      c .before .before .before .before .before .before .before .before .before .before .before .before .before .before .before .before .u32-at .ensures,
+      c .before .before .before .before .before .before .before .before .before .before .before .before .before .before .put-u64 .ensures,
+      c .before .before .before .before .before .before .before .before .before .before .before .before .before .before .before .before .before .u64-at .ensures,
+    )
     (head-put (a .l .now) (a .at) (a .n) (a .out .now) (a .to))
 
 pub head-spec : {M : Type 1} → statement M

@@ -33,7 +33,13 @@ same-length c = search needs
 returns : tie.Need-returns
 returns c =
     let a = c .before .before .before .before .before .before .before .before .before .before .before .before .before .before .before .before .before .before .before .before .before .args in
-    rw (c .before .before .put-u324 .ensures, c .before .before .before .before .before .before .before .put-u323 .ensures, c .before .before .before .before .before .before .before .before .before .before .before .before .put-u322 .ensures, c .before .before .before .before .before .before .before .before .before .before .before .before .before .before .before .before .before .put-u32 .ensures, c .before .before .before .before .before .before .before .before .before .before .before .before .before .before .before .before .before .before .version-word .ensures)
+    rw (
+      c .before .before .put-u324 .ensures,
+      c .before .before .before .before .before .before .before .put-u323 .ensures,
+      c .before .before .before .before .before .before .before .before .before .before .before .before .put-u322 .ensures,
+      c .before .before .before .before .before .before .before .before .before .before .before .before .before .before .before .before .before .put-u32 .ensures,
+      c .before .before .before .before .before .before .before .before .before .before .before .before .before .before .before .before .before .before .version-word .ensures,
+    )
     (header-put (a .plan .old) (a .plan .functions) (a .plan .constants) (a .plan .records) (a .out .now))
 
 pub header-spec : {M : Type 1} → statement M

@@ -1,6 +1,6 @@
 use borrow.Author.Needs.{needs}
 use native.Mathlib.Omega.{arith}
-use Rattle.parser.proofs.Walking.{record-inside}
+use Rattle.parser_items.proofs.Records.{record-inside}
 use Rattle.builder.proofs.SectionPut.{PuttingRecords, ready-small, records-start, record-room, records-on, records-end}
 use Rattle.builder.proofs.put.records.Statement.{statement}
 use Rattle.builder.proofs.put.records.Tie as tie
@@ -28,10 +28,16 @@ whole-record-requires c κs =
     (s, m .0, m .1, record-room w h s)
 
 record-size-requires : tie.Need-record-size-requires Inv-loop μ-loop
-record-size-requires c κs = let m = ready-small (c .before .before .before .before .before .before .loop .inv .ready) (c .before .before .before .before .before .loop-test .taken) (c .before .before .before .before .record-shape .ensures) in omega arith
+record-size-requires c κs =
+    let s = c .before .before .before .before in
+    let m = ready-small (s .before .before .loop .inv .ready) (omega arith) (s .record-shape .ensures) in
+    omega arith
 
 add-q : tie.Need-add-q Inv-loop μ-loop
-add-q c = let r = record-room (c .before .before .before .before .before .before .before .loop .inv) (c .before .before .before .before .before .before .loop-test .taken) (c .before .before .before .before .before .record-shape .ensures) in omega arith
+add-q c =
+    let s = c .before .before .before .before .before in
+    let r = record-room (s .before .before .loop .inv) (omega arith) (s .record-shape .ensures) in
+    omega arith
 
 sub-left : tie.Need-sub-left Inv-loop μ-loop
 sub-left c = search needs
@@ -41,8 +47,10 @@ loop-less c = search needs
 
 loop-again : tie.Need-loop-again Inv-loop μ-loop
 loop-again c =
+    let w = c .before .before .before in
+    let s = w .before .before in
     rw (c .record-size .ensures)
-    (records-on (c .before .before .before .before .before .before .before .loop .inv) (c .before .before .before .before .before .before .loop-test .taken) (c .before .before .before .before .before .record-shape .ensures) (c .before .before .before .whole-record .last .1 .1 .1 .1 .0) (c .before .before .before .whole-record .ensures))
+    (records-on (s .before .before .loop .inv) (s .before .loop-test .taken) (s .record-shape .ensures) (w .whole-record .last .1 .1 .1 .1 .0) (w .whole-record .ensures))
 
 same-length : tie.Need-same-length Inv-loop μ-loop
 same-length c = let w = c .before .loop .inv .long in search needs

@@ -60,7 +60,13 @@ returns : tie.Need-returns
 returns c =
     let a = c .before .before .before .before .before .before .before .before .before .before .before .before .before .before .before .before .before .before .before .args in
     let p = c .before .before .before .before .before .before .before .before .before .before .before .before .before .before .before .before .before .before .before .pre .0 in
-    rw (c .before .before .records .ensures, c .before .before .before .before .before .before .constants .ensures, c .before .before .before .before .before .before .before .before .before .before .functions .ensures, c .before .before .before .before .before .before .before .before .before .before .before .before .before .before .header .ensures, c .before .before .before .before .before .before .before .before .before .before .before .before .before .before .before .before .function-size .ensures .0)
+    rw (
+      c .before .before .records .ensures,
+      c .before .before .before .before .before .before .constants .ensures,
+      c .before .before .before .before .before .before .before .before .before .before .functions .ensures,
+      c .before .before .before .before .before .before .before .before .before .before .before .before .before .before .header .ensures,
+      c .before .before .before .before .before .before .before .before .before .before .before .before .before .before .before .before .function-size .ensures .0,
+    )
     (section-put (a .plan .old) (p .tables) (p .counted) (a .out .now))
 
 pub section-spec : {M : Type 1} → statement M

@@ -87,9 +87,22 @@ same-length c = search needs
 
 returns : tie.Need-returns
 returns c =
-    let a = c .before .before .before .before .before .before .before .before .before .before .before .before .before .before .before .before .before .before .before .before .before .before .before .before .before .before .before .before .args in
-    rw (c .before .before .zeros2 .ensures, c .before .before .before .before .before .before .live-outs .ensures, c .before .before .before .before .before .before .before .before .before .before .put-u16 .ensures, c .before .before .before .before .before .before .before .before .before .before .before .before .before .before .zeros .ensures, c .before .before .before .before .before .before .before .before .before .before .before .before .before .before .before .before .before .before .locations .ensures, c .before .before .before .before .before .before .before .before .before .before .before .before .before .before .before .before .before .before .before .before .before .before .head .ensures, c .before .before .before .before .before .before .before .before .before .before .before .before .before .before .before .before .before .before .before .before .before .before .before .before .locations-padding .ensures .0, c .before .before .before .before .before .before .before .before .before .before .before .before .before .before .before .before .before .before .before .before .before .before .before .before .before .location-size .ensures .0)
-    (record-put (a .old) (c .before .before .before .before .before .before .before .before .before .before .before .before .before .before .before .before .before .before .before .before .before .before .before .before .before .before .before .before .pre .0) (a .out .now) (a .to))
+    let o = c .before .before .before .before .before .before in
+    let z = o .before .before .before .before .before .before .before .before in
+    let h = z .before .before .before .before .before .before .before .before in
+    let b = h .before .before .before .before .before .before in
+    let a = b .args in
+    rw (
+      c .before .before .zeros2 .ensures,
+      o .live-outs .ensures,
+      o .before .before .before .before .put-u16 .ensures,
+      z .zeros .ensures,
+      z .before .before .before .before .locations .ensures,
+      h .head .ensures,
+      h .before .before .locations-padding .ensures .0,
+      h .before .before .before .location-size .ensures .0,
+    )
+    (record-put (a .old) (b .pre .0) (a .out .now) (a .to))
 
 pub whole-record-spec : {M : Type 1} → statement M
 whole-record-spec =

@@ -3,7 +3,7 @@ use native.Mathlib.Omega.{arith}
 use Rattle.stackmap.specs.Layout.{locationSize}
 use Rattle.stackmap.specs.Section.{readLocation, readRecord}
 use Rattle.listing.specs.Listing.{locationItem}
-use Rattle.lister.proofs.Puts.{put-long}
+use Rattle.lister_items.proofs.Puts.{put-long}
 use Rattle.listing.proofs.Items.{record-item-size, location-item-size}
 use Rattle.stackmap.proofs.Fields.{size-many}
 use Rattle.lister.proofs.Passes.{shaped-size, shaped-inside, record-join}

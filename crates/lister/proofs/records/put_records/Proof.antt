@@ -4,7 +4,7 @@ use native.Mathlib.Omega.{arith}
 use Rattle.stackmap.specs.Fields.{all}
 use Rattle.stackmap.specs.Section.{readRecords}
 use Rattle.listing.specs.Listing.{recordItems}
-use Rattle.lister.proofs.Puts.{put-long}
+use Rattle.lister_items.proofs.Puts.{put-long}
 use Rattle.lister.proofs.Passes.{Passing, pass-start, pass-here, pass-on, pass-end}
 use Rattle.lister.proofs.records.put_records.Statement.{statement}
 use Rattle.lister.proofs.records.put_records.Tie as tie

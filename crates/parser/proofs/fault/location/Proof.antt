@@ -48,7 +48,14 @@ returns-5 c = let a = c .before .before .before .before .before .before .before 
 
 returns-6 : tie.Need-returns-6
 unfolding must pick
-returns-6 c = let a = c .before .before .before .before .before .before .before .before .before .args in rw (location-listed (a .old) (a .constants) (a .l .now) (a .at) (a .place), ← c .before .before .u32-at .ensures, ← c .before .before .before .before .before .before .before .location-size .ensures .0) (search tests)
+returns-6 c =
+    let a = c .before .before .before .before .before .before .before .before .before .args in
+    rw (
+      location-listed (a .old) (a .constants) (a .l .now) (a .at) (a .place),
+      ← c .before .before .u32-at .ensures,
+      ← c .before .before .before .before .before .before .before .location-size .ensures .0,
+    )
+    (search tests)
 
 pub location-spec : {M : Type 1} → statement M
 location-spec =

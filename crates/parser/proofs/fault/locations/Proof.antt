@@ -46,7 +46,9 @@ add-p : tie.Need-add-p Inv-loop μ-loop
 add-p c = search needs
 
 add-q : tie.Need-add-q Inv-loop μ-loop
-add-q c = let h = mul-step (locationSize (c .before .before .before .before .before .before .before .args .old)) (c .before .before .before .before .loop .left) (omega arith) in omega (arith, c .before .before .before .before .before .location-size .ensures .0)
+add-q c =
+    let h = mul-step (locationSize (c .before .before .before .before .before .before .before .args .old)) (c .before .before .before .before .loop .left) (omega arith) in
+    omega (arith, c .before .before .before .before .before .location-size .ensures .0)
 
 sub-left : tie.Need-sub-left Inv-loop μ-loop
 sub-left c = search needs

@@ -5,7 +5,7 @@ use lib.ListN.{length}
 use Rattle.stackmap.specs.Section.{counted}
 use Rattle.stackmap.proofs.Steps.{Adding, add-over, add-on, add-end}
 use Rattle.listing.specs.Listing.{listedFunction}
-use Rattle.parser.specs.Walk.{functionsOf}
+use Rattle.parser_items.specs.Survey.{functionsOf}
 use Rattle.parser.proofs.walk.counts_add_up.Statement.{statement}
 use Rattle.parser.proofs.walk.counts_add_up.Tie as tie
 

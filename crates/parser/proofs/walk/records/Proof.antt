@@ -1,6 +1,7 @@
 use mathlib.Core.Path.{sym, _∙_}
 use Rattle.stackmap.specs.Verdict.{chain}
-use Rattle.parser.proofs.Walking.{Walking, walk-start, record-inside, walk-room, walk-here, walk-on, walk-end}
+use Rattle.parser.proofs.Walking.{Walking, walk-start, walk-room, walk-here, walk-on, walk-end}
+use Rattle.parser_items.proofs.Records.{record-inside}
 use borrow.Author.Needs.{needs}
 use native.Mathlib.Omega.{arith}
 use Rattle.parser.proofs.walk.records.Statement.{statement}

@@ -44,11 +44,20 @@ counts-right-requires c κs = search needs
 records-requires : tie.Need-records-requires
 records-requires c κs =
     let p = c .before .before .before .before .before .before .pre in
-    (rw (c .before .before .before .before .function-size .ensures .0) (planned-walk (p .0) (rw (c .before .before .before .before .function-size .ensures .0) at (c .before .before .if1 .left)) (sym (c .before .counts-right .ensures) ∙ c .if2 .taken)), p .1)
+    let f = c .before .before .before .before .function-size .ensures .0 in
+    (rw f (planned-walk (p .0) (rw f at (c .before .before .if1 .left)) (sym (c .before .counts-right .ensures) ∙ c .if2 .taken)), p .1)
 
 returns-2 : tie.Need-returns-2
 unfolding must
-returns-2 c = rw (planned-fault (c .before .before .before .before .before .before .before .pre .0), ← c .before .before .before .before .before .function-size .ensures .0, le-leb _ _ (c .before .before .before .if1 .left), ← c .before .before .counts-right .ensures, c .before .if2 .taken) (c .records .ensures)
+returns-2 c =
+    rw (
+      planned-fault (c .before .before .before .before .before .before .before .pre .0),
+      ← c .before .before .before .before .before .function-size .ensures .0,
+      le-leb _ _ (c .before .before .before .if1 .left),
+      ← c .before .before .counts-right .ensures,
+      c .before .if2 .taken,
+    )
+    (c .records .ensures)
 
 returns-3 : tie.Need-returns-3
 unfolding must

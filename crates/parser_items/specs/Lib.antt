@@ -1,0 +1,4 @@
+pub mod Count
+pub mod Survey
+pub mod Grammar
+pub mod Draft

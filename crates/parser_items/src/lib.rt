@@ -1,0 +1,20 @@
+// The items of a listing, counted and held to the listing's own rules: 22, 23 and 28, or what there is to write.
+// All modules but `version` count places from the first byte after the version's item.
+// No entry point but `version::listed_old`: `parser` has tested the listing's length before.
+pub mod count;
+pub mod draft;
+pub mod grammar;
+pub mod narrow;
+pub mod shape;
+pub mod version;
+
+// What is known of a listing before its section is written.
+pub struct Plan {
+    // Whether it is of version 1.
+    pub old: bool,
+    pub functions: usize,
+    pub constants: usize,
+    pub records: usize,
+    // The bytes of the records in the section.
+    pub bytes: usize,
+}
