@@ -5,5 +5,6 @@ pub mod Section
 pub mod Record
 pub mod Check
 pub mod Walk
+pub mod Shape
 pub mod Fault
 pub mod Laws

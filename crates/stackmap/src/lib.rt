@@ -5,6 +5,7 @@ ghost use Rattle.stackmap.specs.Check.{sectionCheck};
 
 pub mod layout;
 mod record;
+pub mod shape;
 pub mod tables;
 pub mod walk;
 
