@@ -1,6 +1,6 @@
 -- The passes over the records: what is left of them, in the section and in the listing.
 use Prim.Native.Nat.{ℕ, _+_, _*_, _-_, _≤_, _<_}
-use mathlib.Core.Path.{_≡_, refl, _∙_}
+use mathlib.Core.Path.{_≡_, refl, sym, _∙_}
 use mathlib.Core.Bool.{Bool}
 use mathlib.Core.List.{List}
 use native.Mathlib.Omega.{arith}
@@ -8,30 +8,34 @@ use lib.ListN.{length, take, drop, length-drop}
 use Rattle.stackmap.specs.Layout.{locationSize}
 use Rattle.stackmap.specs.Fields.{Field, size, all, many}
 use Rattle.stackmap.specs.Section.{recordFields, readLocation, readLiveOut, numLocations, numLiveOuts, recordLength, readRecord, readRecords}
-use Rattle.stackmap.proofs.Fields.{size-append, length-many}
+use Rattle.stackmap.specs.Shape.{Shaped}
+use Rattle.stackmap.proofs.Fields.{size-append}
+use Rattle.stackmap.proofs.Parts.{count-locations, count-live-outs}
 use Rattle.stackmap.proofs.Forth.{read-size}
 use Rattle.stackmap.proofs.Within.{part-from}
 use Rattle.listing.specs.Listing.{recordItem, locationItem, liveOutItem, recordItems}
 use Rattle.listing.proofs.Listing.{items-size}
 use Rattle.listing.proofs.Short.{records-short}
 use Rattle.lister_items.specs.Put.{Put}
-use Rattle.lister.specs.Shape.{Shaped}
 use Rattle.lister_items.proofs.Puts.{Putting, putting-start, putting-on, putting-end, put-join, put-long, first-record, no-record}
 
 -- One record, which stands at the start of s.
 
 module _ (old : Bool) (s : List ℕ) where
-  pub listed-size : size (recordItems (readRecord old s)) ≡ 13 + 10 * numLocations s + 4 * numLiveOuts old s
-  listed-size = items-size (readRecord old s) ∙ (unfold readRecord in rw (length-many (readLocation old), length-many readLiveOut))
-
   module _ {locations outs begin long : ℕ} (h : Shaped old s locations outs begin long) where
+    locations-read : locations ≡ numLocations s
+    locations-read = h .locations-are ∙ count-locations old s
+
+    outs-read : outs ≡ numLiveOuts old s
+    outs-read = h .outs-are ∙ count-live-outs old s
+
     pub shaped-size : 13 + 10 * locations + 4 * outs ≡ size (recordItems (readRecord old s))
-    shaped-size = let a = h .locations-are in let b = h .outs-are in omega (arith, listed-size)
+    shaped-size = rw (h .locations-are, h .outs-are) (sym (items-size (readRecord old s)))
 
     -- where its parts stand
     pub shaped-inside : recordLength old s ≤ length s → (16 + locationSize old * locations ≤ length s) × (begin + 4 * outs ≤ length s)
     unfolding recordLength
-    shaped-inside i = rw (h .locations-are, h .outs-are, h .begins) (omega arith, omega arith)
+    shaped-inside i = rw (locations-read, outs-read, h .begins) (omega arith, omega arith)
 
     -- its item, its locations and its live-outs are all of it
     pub record-join : {o₀ o₁ o₂ o₃ : List ℕ} {a b c d : ℕ} → Put o₀ o₁ a b (recordItem (readRecord old s))
@@ -39,7 +43,7 @@ module _ (old : Bool) (s : List ℕ) where
         → Put o₀ o₃ a d (recordItems (readRecord old s))
     unfolding recordItems readRecord
     record-join p q r =
-        put-join (recordItem (readRecord old s)) _ p (put-join _ _ (rw (h .locations-are) at q) (rw (h .outs-are, h .begins) at r))
+        put-join (recordItem (readRecord old s)) _ p (put-join _ _ (rw locations-read at q) (rw (outs-read, h .begins) at r))
 
 -- The records from a place on.
 

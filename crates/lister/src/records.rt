@@ -7,40 +7,11 @@ ghost use Rattle.stackmap.specs.Fields.{size, all};
 ghost use Rattle.stackmap.specs.Section.{recordFields, recordLength, readRecord, readRecords};
 ghost use Rattle.listing.specs.Listing.{recordItems};
 ghost use Rattle.lister_items.specs.Put.{Put};
-ghost use Rattle.lister.specs.Shape.{Shaped};
 use lister_items::items;
 use lister_items::runs;
 use listing::numbers;
 use stackmap::layout;
-
-const PADDING_SIZE: usize = 4;
-
-// How a record is laid out: how many locations and live-outs, where the live-outs begin, and its length.
-struct Shape {
-    locations: usize,
-    outs: usize,
-    begin: usize,
-    length: usize,
-}
-
-// The record at the start of `s`.
-fn record_shape(s: &[u8], old: bool) -> Shape
-    requires { ⌜ recordLength old (now s) ≤ length (now s) ⌝ }
-    ensures { λ r. ⌜ Shaped old (now (s .entry)) (r .locations) (r .outs) (r .begin) (r .length) ⌝ }
-{
-    let locations = wire::u16_at(s, layout::NUM_LOCATIONS_AT) as usize;
-    let end = layout::RECORD_HEAD_SIZE
-        + layout::location_size(old) * locations
-        + layout::locations_padding(old, locations);
-    let outs = wire::u16_at(s, end + layout::LIVE_OUTS_HEAD_ZEROS) as usize;
-    let begin = end + layout::LIVE_OUTS_HEAD_SIZE;
-    Shape {
-        locations,
-        outs,
-        begin,
-        length: begin + layout::LIVE_OUT_SIZE * outs + (outs + 1) % 2 * PADDING_SIZE,
-    }
-}
+use stackmap::shape;
 
 // How long the items of the `count` records from `at` are.
 pub fn records_length(s: &[u8], old: bool, at: usize, count: usize) -> usize
@@ -51,11 +22,11 @@ pub fn records_length(s: &[u8], old: bool, at: usize, count: usize) -> usize
     let mut left = count;
     let mut total: usize = 0;
     while left > 0 {
-        let shape = record_shape(&s[p..], old);
+        let shape = shape::record_shape(&s[p..], old);
         total += numbers::RECORD_ITEM_SIZE
             + numbers::LOCATION_ITEM_SIZE * shape.locations
             + numbers::LIVE_OUT_ITEM_SIZE * shape.outs;
-        p += shape.length;
+        p += shape.size;
         left -= 1;
     }
     total
@@ -72,12 +43,12 @@ fn put_record(s: &[u8], old: bool, out: &mut [u8], to: usize) -> Passed
     requires { ⌜ (recordLength old (now s) ≤ length (now s)) × (to + size (recordItems (readRecord old (now s))) ≤ length (now out)) ⌝ }
     ensures { λ r. ⌜ (r .length ≡ recordLength old (now (s .entry))) × Put (now (out .entry)) (now (out .exit)) to (r .next) (recordItems (readRecord old (now (s .entry)))) ⌝ }
 {
-    let shape = record_shape(s, old);
+    let shape = shape::record_shape(s, old);
     let mut next = items::put_record_item(s, out, to);
     next = runs::put_locations(s, old, layout::RECORD_HEAD_SIZE, shape.locations, out, next);
     next = runs::put_live_outs(s, shape.begin, shape.outs, out, next);
     Passed {
-        length: shape.length,
+        length: shape.size,
         next,
     }
 }

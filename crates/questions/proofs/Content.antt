@@ -1,6 +1,6 @@
 -- What stands in a record, read by its number.
 use Prim.Native.Nat.{ℕ, zero, suc, _+_, _*_, _-_, _%_, _^_, _≤_, _<_}
-use mathlib.Core.Path.{_≡_, refl, sym}
+use mathlib.Core.Path.{_≡_, refl, sym, _∙_}
 use mathlib.Core.Bool.{Bool, true, false}
 use mathlib.Core.Option.{none, some}
 use mathlib.Core.List.{List, [], _∷_}
@@ -10,33 +10,12 @@ use borrow.Author.Tests.{eq-eqb, ne-eqb, lt-ltb, le-ltb}
 use lib.ListN.{length, getD, drop, getElem?}
 use Rattle.wire.specs.Word.{word}
 use Rattle.wire.proofs.Laws.{word-drop}
-use Rattle.stackmap.specs.Layout.{locationSize, locationsPadding}
+use Rattle.stackmap.specs.Layout.{locationSize}
 use Rattle.stackmap.specs.Fields.{many}
-use Rattle.stackmap.specs.Section.{Location, numConstants, constantsAt, readConstant, readLocation, readLiveOut, numLocations, locationsEnd, numLiveOuts, recordLength, readRecord, readSection}
+use Rattle.stackmap.specs.Section.{Location, numConstants, constantsAt, readConstant, readLocation, readLiveOut, numLocations, numLiveOuts, recordLength, readRecord, readSection}
+use Rattle.stackmap.specs.Shape.{Shaped}
+use Rattle.stackmap.proofs.Parts.{many-some, many-none, getD-some, count-live-outs}
 use Rattle.questions.specs.Questions.{constantOf}
-
--- the j-th of n items of one size
-pub many-some : {A : Type 0} (read : List ℕ → ℕ → A) (step n : ℕ) (s : List ℕ) (at j : ℕ) → j < n
-    → getElem? (many read step n s at) j ≡ some (read s (at + step * j))
-unfolding many
-many-some read step zero s at j h = absurd (omega arith)
-many-some read step (suc n) s at zero h = let z : at + step * 0 ≡ at = omega arith in rw z
-many-some read step (suc n) s at (suc j) h =
-    let m = mul-suc step j in
-    let e : at + step * suc j ≡ at + step + step * j = omega arith in
-    rw e (many-some read step n s (at + step) j (omega arith))
-
-pub many-none : {A : Type 0} (read : List ℕ → ℕ → A) (step n : ℕ) (s : List ℕ) (at j : ℕ) → n ≤ j → getElem? (many read step n s at) j ≡ none
-unfolding many
-many-none read step zero s at j h = refl
-many-none read step (suc n) s at zero h = absurd (omega arith)
-many-none read step (suc n) s at (suc j) h = many-none read step n s (at + step) j (omega arith)
-
--- an element by its number, or else d
-pub getD-some : {A : Type 0} (d : A) (xs : List A) (j : ℕ) (v : A) → getElem? xs j ≡ some v → getD xs j d ≡ v
-getD-some d [] j v h = absurd (let z : _≡_ {A = ℕ} 0 1 = cc in omega arith)
-getD-some d (x ∷ xs) zero v h = cc
-getD-some d (x ∷ xs) (suc j) v h = getD-some d xs j v h
 
 getD-none : (xs : List ℕ) (j : ℕ) → getElem? xs j ≡ none → getD xs j 0 ≡ 0
 getD-none [] j h = refl
@@ -78,55 +57,56 @@ times-up a m zero h = let z : m ≡ 0 = omega arith in rw z (omega arith)
 times-up a zero (suc n) h = omega arith
 times-up a (suc m) (suc n) h = let i = times-up a m n (omega arith) in omega arith
 
--- The record at the place `first` of s, by the section's own bytes.
+-- The record at the place `first` of s.
 
-module _ (old : Bool) (s : List ℕ) (first n e : ℕ) (locations : n ≡ word 2 s (first + 14))
-    (end : e ≡ first + 16 + locationSize old * n + locationsPadding old n) where
-  num-here : numLocations (drop first s) ≡ n
-  num-here = rw word-drop (sym locations)
-
-  end-here : first + (locationsEnd old (drop first s) + 2) ≡ e + 2
-  end-here = rw num-here (omega arith)
-
-  outs-here : numLiveOuts old (drop first s) ≡ word 2 s (e + 2)
-  outs-here = rw (word-drop 2 first s (locationsEnd old (drop first s) + 2), end-here)
-
-  -- how long it is
-  pub record-long : first + recordLength old (drop first s) ≡ e + 4 + 4 * word 2 s (e + 2) + (word 2 s (e + 2) + 1) % 2 * 4
-  unfolding recordLength
-  record-long = rw (outs-here, num-here) (omega arith)
-
-  -- each of its locations is inside, where it is
-  pub location-inside : (j : ℕ) → j < n → first + recordLength old (drop first s) ≤ length s → first + 16 + locationSize old * j + locationSize old ≤ length s
-  location-inside j h i =
-      let l = record-long in
-      let m : locationSize old * (j + 1) ≤ locationSize old * n = times-up (locationSize old) (j + 1) n (omega arith) in
-      omega arith
-
+module _ (old : Bool) (s : List ℕ) (first : ℕ) where
   location-here : (at : ℕ) → readLocation old (drop first s) at ≡ readLocation old s (first + at)
   unfolding readLocation
   location-here at = simp (word-drop, ← add-assoc)
 
-  pub location-at : (j : ℕ) → j < n → getElem? (readRecord old (drop first s) .locations) j ≡ some (readLocation old s (first + 16 + locationSize old * j))
-  unfolding readRecord
-  location-at j h =
-      let p : first + (16 + locationSize old * j) ≡ first + 16 + locationSize old * j = omega arith in
-      rw (num-here, many-some (readLocation old) (locationSize old) n (drop first s) 16 j h, location-here (16 + locationSize old * j), p)
+  -- it has n locations, as its head says
+  module _ (n : ℕ) (locations : n ≡ word 2 s (first + 14)) where
+    num-here : numLocations (drop first s) ≡ n
+    num-here = rw word-drop (sym locations)
 
-  pub location-past : (j : ℕ) → n ≤ j → getElem? (readRecord old (drop first s) .locations) j ≡ none
-  unfolding readRecord
-  location-past j h = rw (num-here, many-none (readLocation old) (locationSize old) n (drop first s) 16 j h)
+    -- each of its locations is inside, where it is
+    pub location-inside : (j : ℕ) → j < n → first + recordLength old (drop first s) ≤ length s → first + 16 + locationSize old * j + locationSize old ≤ length s
+    unfolding recordLength
+    location-inside j h i =
+        let k : j + 1 ≤ numLocations (drop first s) = rw num-here (omega arith) in
+        let m = times-up (locationSize old) (j + 1) (numLocations (drop first s)) k in
+        omega arith
+
+    pub location-at : (j : ℕ) → j < n → getElem? (readRecord old (drop first s) .locations) j ≡ some (readLocation old s (first + 16 + locationSize old * j))
+    unfolding readRecord
+    location-at j h =
+        let p : first + (16 + locationSize old * j) ≡ first + 16 + locationSize old * j = omega arith in
+        rw (num-here, many-some (readLocation old) (locationSize old) n (drop first s) 16 j h, location-here (16 + locationSize old * j), p)
+
+    pub location-past : (j : ℕ) → n ≤ j → getElem? (readRecord old (drop first s) .locations) j ≡ none
+    unfolding readRecord
+    location-past j h = rw (num-here, many-none (readLocation old) (locationSize old) n (drop first s) 16 j h)
 
   live-out-here : (at : ℕ) → readLiveOut (drop first s) at ≡ readLiveOut s (first + at)
   unfolding readLiveOut
   live-out-here at = simp (word-drop, ← add-assoc)
 
-  pub live-out-at : (j : ℕ) → j < word 2 s (e + 2) → getElem? (readRecord old (drop first s) .liveOuts) j ≡ some (readLiveOut s (e + 4 + 4 * j))
-  unfolding readRecord
-  live-out-at j h =
-      let p : first + (locationsEnd old (drop first s) + 4 + 4 * j) ≡ e + 4 + 4 * j = omega (arith, end-here) in
-      rw (outs-here, many-some readLiveOut 4 (word 2 s (e + 2)) (drop first s) (locationsEnd old (drop first s) + 4) j h, live-out-here _, p)
+  -- its layout, as the reader tells it
+  module _ {locations outs begin size : ℕ} (h : Shaped old (drop first s) locations outs begin size) where
+    outs-here : numLiveOuts old (drop first s) ≡ outs
+    outs-here = sym (h .outs-are ∙ count-live-outs old (drop first s))
 
-  pub live-out-past : (j : ℕ) → word 2 s (e + 2) ≤ j → getElem? (readRecord old (drop first s) .liveOuts) j ≡ none
-  unfolding readRecord
-  live-out-past j h = rw (outs-here, many-none readLiveOut 4 (word 2 s (e + 2)) (drop first s) (locationsEnd old (drop first s) + 4) j h)
+    -- each of its live-outs is inside
+    pub live-out-inside : (j : ℕ) → j < outs → first + recordLength old (drop first s) ≤ length s → first + begin + 4 * j + 4 ≤ length s
+    unfolding recordLength
+    live-out-inside j l i = let b = h .begins in let o = outs-here in omega arith
+
+    pub live-out-at : (j : ℕ) → j < outs → getElem? (readRecord old (drop first s) .liveOuts) j ≡ some (readLiveOut s (first + begin + 4 * j))
+    unfolding readRecord
+    live-out-at j l =
+        let p : first + (begin + 4 * j) ≡ first + begin + 4 * j = omega arith in
+        rw (outs-here, ← h .begins, many-some readLiveOut 4 outs (drop first s) begin j l, live-out-here _, p)
+
+    pub live-out-past : (j : ℕ) → outs ≤ j → getElem? (readRecord old (drop first s) .liveOuts) j ≡ none
+    unfolding readRecord
+    live-out-past j l = rw (outs-here, many-none readLiveOut 4 outs (drop first s) _ j l)

@@ -1,28 +1,26 @@
 -- What a search tells of the section, and of the records that it was for.
-use Prim.Native.Nat.{ℕ, _*_, _≤_, _<_}
+use Prim.Native.Nat.{ℕ, _<_}
 use mathlib.Core.Path.{_≡_, refl, sym, ap, _∙_}
 use mathlib.Core.Bool.{Bool, true, false, not, _&&_, true≢false}
 use mathlib.Core.Logic.{⊎-elim}
-use mathlib.Core.Option.{Option, none, some}
 use mathlib.Core.List.{List, [], _∷_, List·Memᴰ, List·Memᴰ·head, List·Memᴰ·tail, List·Memᴰ·cases-cons}
 use native.Mathlib.Omega.{arith}
 use native.Mathlib.Decide.{decLt}
 use borrow.Author.Tests.{ne-eqb}
 use lib.Dec.{eqb}
-use lib.ListN.{length, getElem?}
+use lib.ListN.{length}
 use Rattle.stackmap.specs.declared.Verdict.{Verdict}
 use Rattle.stackmap.specs.declared.Verdict.the-variants.{Valid, Refused}
-use Rattle.stackmap.specs.Layout.{functionSize}
-use Rattle.stackmap.specs.Section.{Function, Owner, Entry, address, numFunctions, isOld, readFunction, readFunctions, readSection, entries}
+use Rattle.stackmap.specs.Section.{Function, Owner, Entry, address, numFunctions, isOld, readFunction, functionNumber, entries}
 use Rattle.stackmap.specs.Check.{sectionCheck, Accepted}
 use Rattle.stackmap.specs.Walk.{functionAt}
+use Rattle.stackmap.proofs.Parts.{function-there, function-absent, function-number}
 use Rattle.stackmap.proofs.Numbers.{Numbered, section-numbered}
 use Rattle.stackmap.proofs.Forth.{accepted-length}
 use Rattle.stackmap.proofs.Entries.{entry-owner}
 use Rattle.questions.specs.declared.Found.{Found}
 use Rattle.questions.specs.Kept.{searched, ofSection}
 use Rattle.questions.specs.Questions.{ask, withAddress, notFound, firstOf, ownedBy, namedIn, sought}
-use Rattle.questions.proofs.Content.{many-some, many-none}
 
 never : _≡_ {A = Bool} true false → ⊥
 never h = true≢false h
@@ -66,17 +64,6 @@ module _ (s : List ℕ) (a : ℕ) (r : Found) (e : r ≡ searched s a) where
   unfolding searched ask
   first-found h = let v = valid h in e ∙ rw (v .1)
 
--- The function that is named beside it.
-
-module _ (s : List ℕ) (g : ℕ) where
-  pub function-there : g < numFunctions s → getElem? (readSection s .functions) g ≡ some (readFunction (isOld s) s (functionAt (isOld s) g))
-  unfolding readSection readFunctions
-  function-there h = many-some (readFunction (isOld s)) (functionSize (isOld s)) (numFunctions s) s 16 g h
-
-  pub function-absent : numFunctions s ≤ g → getElem? (readSection s .functions) g ≡ none
-  unfolding readSection readFunctions
-  function-absent h = many-none (readFunction (isOld s)) (functionSize (isOld s)) (numFunctions s) s 16 g h
-
 -- what was found, of one owner
 pub owned-none : (o : Owner) (es : List Entry) (r : Found) → r ≡ firstOf es → (r .number ≡ 0 → ⊥) → r ≡ firstOf (ownedBy o es)
 unfolding ownedBy
@@ -102,7 +89,7 @@ pub record One (s : List ℕ) (e : Entry) : Type 0 where
   pub first-is : e .first ≡ entry .first
   pub body-is : e .body ≡ entry .body
   pub owner-there : e .owner .number < numFunctions s
-  pub function-is : e .owner .function ≡ readFunction (isOld s) s (functionAt (isOld s) (e .owner .number))
+  pub function-is : e .owner .function ≡ functionNumber s (e .owner .number)
 
 from-entries : (a : ℕ) (es : List Entry) (e : Entry) → List·Memᴰ e (withAddress a es) → List·Memᴰ e es
 unfolding withAddress
@@ -128,13 +115,14 @@ module _ (s : List ℕ) (g a : ℕ) (e : Entry) where
   one-new new h =
       let m = alone e h in
       let o = entry-owner s new e m in
-      record { entry = e; member = m; first-is = refl; body-is = refl; owner-there = o .0; function-is = rw new (o .1) }
+      let q : e .owner .function ≡ readFunction (isOld s) s (functionAt (isOld s) (e .owner .number)) = rw new (o .1) in
+      record { entry = e; member = m; first-is = refl; body-is = refl; owner-there = o .0; function-is = q ∙ sym (function-number s _ (o .0)) }
 
   one-old : (f : Function) → f ≡ readFunction (isOld s) s (functionAt (isOld s) g) → g < numFunctions s
       → ownedBy (record { number = g; function = f }) (withAddress a (entries s)) ≡ e ∷ [] → One s e
   one-old f q l h =
       let o = owned-one _ (withAddress a (entries s)) e h in
-      rw (o .2) (record { entry = o .0; member = alone (o .0) (o .1); first-is = refl; body-is = refl; owner-there = l; function-is = q })
+      rw (o .2) (record { entry = o .0; member = alone (o .0) (o .1); first-is = refl; body-is = refl; owner-there = l; function-is = q ∙ sym (function-number s g l) })
 
   pub sought-one : sought s g a ≡ e ∷ [] → One s e
   unfolding sought namedIn

@@ -10,6 +10,7 @@ use crate::LiveOutAnswer;
 use crate::LocationAnswer;
 use crate::locate;
 use stackmap::layout;
+use stackmap::shape;
 use stackmap::tables;
 
 // What is added to the 32 bits of a negative number to make its 64 bits: 2^64 - 2^32.
@@ -141,15 +142,11 @@ fn live_out_in(s: &[u8], first: usize, number: u64) -> LiveOutAnswer
     requires { ⌜ (headerSize ≤ length (now s)) × (first + recordLength (isOld (now s)) (drop first (now s)) ≤ length (now s)) ⌝ }
     ensures { λ r. ⌜ r ≡ among (noLiveOut 11 0) thisLiveOut (getElem? (readRecord (isOld (now (s .entry))) (drop first (now (s .entry))) .liveOuts) number) ⌝ }
 {
-    let locations = wire::u16_at(s, first + layout::NUM_LOCATIONS_AT) as usize;
-    let old = tables::is_old(s);
-    let pad = first + layout::RECORD_HEAD_SIZE + layout::location_size(old) * locations;
-    let end = pad + layout::locations_padding(old, locations);
-    let count = wire::u16_at(s, end + layout::LIVE_OUTS_HEAD_ZEROS) as u64;
-    if number >= count {
+    let shape = shape::shape_at(s, first);
+    if number >= shape.outs as u64 {
         return no_live_out(11, 0);
     }
-    let at = end + layout::LIVE_OUTS_HEAD_SIZE + layout::LIVE_OUT_SIZE * (number as usize);
+    let at = first + shape.begin + layout::LIVE_OUT_SIZE * (number as usize);
     LiveOutAnswer {
         number: 0,
         place: 0,

@@ -1,15 +1,12 @@
 -- What the search for a frame's record tells of its plan.
-use Prim.Native.Nat.{ℕ, _+_, _*_, _≤_, _<_}
+use Prim.Native.Nat.{ℕ, _≤_, _<_}
 use mathlib.Core.Path.{_≡_, refl, ap, _∙_}
-use mathlib.Core.Bool.{Bool, true, false}
 use mathlib.Core.List.{List, [], _∷_}
 use native.Mathlib.Omega.{arith}
 use lib.ListN.{length}
-use Rattle.wire.specs.Word.{Bytes, word}
-use Rattle.stackmap.specs.Layout.{functionSize}
-use Rattle.stackmap.specs.Section.{numFunctions, isOld, constantsAt, readFunction, Entry}
+use Rattle.wire.specs.Word.{Bytes}
+use Rattle.stackmap.specs.Section.{Function, numFunctions, constantsAt, functionNumber, Entry}
 use Rattle.stackmap.specs.Check.{Accepted}
-use Rattle.stackmap.specs.Walk.{functionAt}
 use Rattle.stackmap.proofs.Entries.{entry-body, entry-inside}
 use Rattle.questions.specs.declared.Found.{Found}
 use Rattle.questions.specs.Questions.{firstOf}
@@ -53,11 +50,6 @@ module _ (r : Found) (k : Entry → Plan) where
       }
   one-found (x ∷ y ∷ es) e h n = absurd (let z = ap (λ (f : Found). f .sharing) e in omega arith)
 
-stack-size-read : (old : Bool) (s : List ℕ) (at : ℕ) → readFunction old s at .stackSize ≡ word 8 s (at + 8)
-unfolding readFunction
-stack-size-read true s at = refl
-stack-size-read false s at = refl
-
 -- the one record that a frame names in an accepted section
 module _ (s : List ℕ) (f : Frame) (k : Accepted s) (w : Bytes s) (e : Entry) (one : recordsOf s f ≡ e ∷ []) where
   there : searched.One s e
@@ -75,13 +67,8 @@ module _ (s : List ℕ) (f : Frame) (k : Accepted s) (w : Bytes s) (e : Entry) (
   pub owner-number : e .owner .number < numFunctions s
   owner-number = there .owner-there
 
-  pub size-is : stackSize e ≡ word 8 s (functionAt (isOld s) (e .owner .number) + 8)
-  size-is = rw (there .function-is) (stack-size-read (isOld s) s (functionAt (isOld s) (e .owner .number)))
-
--- function number i of n, up to the end of its stack size
-pub function-in : (old : Bool) (i n : ℕ) → i < n → functionSize old * i + 16 ≤ functionSize old * n
-function-in true i n h = omega arith
-function-in false i n h = omega arith
+  pub size-is : stackSize e ≡ functionNumber s (e .owner .number) .stackSize
+  size-is = ap (λ (x : Function). x .stackSize) (there .function-is)
 
 -- the functions of an accepted section are inside
 pub functions-inside : (s : List ℕ) → Accepted s → constantsAt s ≤ length s

@@ -8,10 +8,9 @@ use native.Mathlib.Omega.{arith}
 use borrow.Author.Tests.{leb-true, le-leb, lt-leb, eq-eqb, ne-eqb}
 use lib.Dec.{eqb, leb}
 use lib.ListN.{length}
-use Rattle.wire.specs.Word.{Bytes, word}
-use Rattle.stackmap.specs.Section.{Record, Entry, isOld}
+use Rattle.wire.specs.Word.{Bytes}
+use Rattle.stackmap.specs.Section.{Record, Entry, isOld, functionNumber}
 use Rattle.stackmap.specs.Check.{Accepted}
-use Rattle.stackmap.specs.Walk.{functionAt}
 use Rattle.questions.specs.declared.Found.{Found}
 use Rattle.questions.specs.Kept.{searched, ofSection}
 use Rattle.questions.specs.Questions.{ask, firstOf}
@@ -127,13 +126,13 @@ module _ (old : Bool) (pool : List ℕ) (first n : ℕ) (f : Frame) (size : ℕ)
 
 -- 10, 15
 
-same-record : (s pool : List ℕ) (first n : ℕ) (f : Frame) (size function at : ℕ) (x : Entry) → size ≡ word 8 s (functionAt (isOld s) function + 8)
-    → function ≡ x .owner .number → at ≡ x .first → stackSize x ≡ word 8 s (functionAt (isOld s) (x .owner .number) + 8) → x .body ≡ recordOf s (x .first)
+same-record : (s pool : List ℕ) (first n : ℕ) (f : Frame) (size function at : ℕ) (x : Entry) → size ≡ functionNumber s function .stackSize
+    → function ≡ x .owner .number → at ≡ x .first → stackSize x ≡ functionNumber s (x .owner .number) .stackSize → x .body ≡ recordOf s (x .first)
     → planEntry (isOld s) pool first n f x ≡ planRecord (isOld s) pool first n f size (recordOf s at)
 same-record s pool first n f size function at x q g h i b = rw (q, g, h, i, b)
 
 pub entry-plan : (s pool : List ℕ) (first n : ℕ) (f : Frame) (r : Found) (size : ℕ) → Accepted s → Bytes s
-    → r ≡ firstOf (recordsOf s f) → r .number ≡ 0 → r .sharing ≡ 1 → size ≡ word 8 s (functionAt (isOld s) (r .function) + 8)
+    → r ≡ firstOf (recordsOf s f) → r .number ≡ 0 → r .sharing ≡ 1 → size ≡ functionNumber s (r .function) .stackSize
     → only (recordsOf s f) (planEntry (isOld s) pool first n f) ≡ planRecord (isOld s) pool first n f size (recordOf s (r .first))
 entry-plan s pool first n f r size k w e z one q =
     let o = one-found r (planEntry (isOld s) pool first n f) (recordsOf s f) e z one in

@@ -2,13 +2,10 @@
 // No entry point: each stage requires what the stages before it have tested.
 ghost use mathlib.Core.Path.{_≡_};
 ghost use mathlib.Core.Bool.{true};
-ghost use Prim.Native.Nat.{_+_, _≤_, _<_};
+ghost use Prim.Native.Nat.{_+_, _≤_};
 ghost use lib.ListN.{length};
-ghost use Rattle.wire.specs.Word.{word};
-ghost use Rattle.stackmap.specs.Layout.{stackSizeAt};
-ghost use Rattle.stackmap.specs.Section.{numFunctions, isOld, constantsAt};
+ghost use Rattle.stackmap.specs.Section.{isOld};
 ghost use Rattle.stackmap.specs.Check.{Accepted};
-ghost use Rattle.stackmap.specs.Walk.{functionAt};
 ghost use Rattle.questions.specs.Questions.{firstOf};
 ghost use Rattle.moves.specs.Limits.{pairsMost};
 ghost use Rattle.moves.specs.Table.{tableRight, lookUp};
@@ -25,7 +22,6 @@ use crate::statepoint;
 use moves::Move;
 use moves::PAIRS_MOST;
 use questions::Found;
-use stackmap::layout;
 use stackmap::tables;
 
 // A refusal, with count 0.
@@ -123,18 +119,6 @@ fn move_record(
     refused(12, 0)
 }
 
-// The stack size of a function.
-pub fn stack_size(s: &[u8], function: usize) -> u64
-    requires { ⌜ (constantsAt (now s) ≤ length (now s)) × (function < numFunctions (now s)) ⌝ }
-    ensures { λ r. ⌜ r ≡ word 8 (now (s .entry)) (functionAt (isOld (now (s .entry))) function + stackSizeAt) ⌝ }
-{
-    let step = layout::function_size(tables::is_old(s));
-    wire::u64_at(
-        s,
-        layout::HEADER_SIZE + step * function + layout::STACK_SIZE_AT,
-    )
-}
-
 // 10, 15 and what follows, of an accepted section.
 pub fn move_found(
     s: &[u8],
@@ -155,6 +139,6 @@ pub fn move_found(
     if found.sharing != 1 {
         return refused(15, 0);
     }
-    let size = stack_size(s, found.function);
+    let size = tables::stack_size(s, found.function);
     move_record(s, found.first, size, image, first, olds, news, frame, write)
 }

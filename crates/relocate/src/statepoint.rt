@@ -3,14 +3,14 @@
 ghost use mathlib.Core.Path.{_≡_};
 ghost use mathlib.Core.Bool.{true};
 ghost use Prim.Native.Nat.{_≤_};
-ghost use lib.ListN.{drop};
+ghost use lib.ListN.{length, drop};
 ghost use Rattle.stackmap.specs.Section.{numLocations};
 ghost use Rattle.relocate.specs.Limits.{headLocations};
 ghost use Rattle.relocate.specs.Statepoint.{constantHead, pairedRest, isStatepoint};
 ghost use Rattle.relocate.specs.Code.{recordOf, Stands, Paired};
 use crate::reader;
 use stackmap::layout;
-use stackmap::tables;
+use stackmap::shape;
 
 // The locations at a statepoint's head; the last of them holds the deopt count.
 const HEAD_LOCATIONS: usize = 3;
@@ -34,9 +34,9 @@ fn constant_head(s: &[u8], at: usize) -> bool
     c.kind == layout::KIND_CONSTANT
 }
 
-// Whether the deopt count leaves whole pairs, and there are no live-outs; the record has `count` locations.
-fn paired_rest(s: &[u8], at: usize, count: usize) -> bool
-    requires { ⌜ Stands (now s) at × (headLocations ≤ count) × (count ≡ numLocations (drop at (now s))) ⌝ }
+// Whether the deopt count leaves whole pairs, and there are no live-outs; the record has `count` locations and `outs` live-outs.
+fn paired_rest(s: &[u8], at: usize, count: usize, outs: usize) -> bool
+    requires { ⌜ Stands (now s) at × (headLocations ≤ count) × (count ≡ length (recordOf (now s) at .locations)) × (outs ≡ length (recordOf (now s) at .liveOuts)) ⌝ }
     ensures { λ r. ⌜ r ≡ pairedRest (recordOf (now (s .entry)) at) ⌝ }
 {
     let d = reader::location(s, at, DEOPT_AT);
@@ -51,22 +51,19 @@ fn paired_rest(s: &[u8], at: usize, count: usize) -> bool
     if (count - start) % 2 != 0 {
         return false;
     }
-    let old = tables::is_old(s);
-    let pad = at + layout::RECORD_HEAD_SIZE + layout::location_size(old) * count;
-    let end = pad + layout::locations_padding(old, count);
-    wire::u16_at(s, end + layout::LIVE_OUTS_HEAD_ZEROS) == 0
+    outs == 0
 }
 
 pub fn is_statepoint(s: &[u8], at: usize) -> bool
     requires { ⌜ Stands (now s) at ⌝ }
     ensures { λ r. ⌜ r ≡ isStatepoint (recordOf (now (s .entry)) at) ⌝ }
 {
-    let count = wire::u16_at(s, at + layout::NUM_LOCATIONS_AT) as usize;
-    if count < HEAD_LOCATIONS {
+    let shape = shape::shape_at(s, at);
+    if shape.locations < HEAD_LOCATIONS {
         return false;
     }
     if constant_head(s, at) {
-        return paired_rest(s, at, count);
+        return paired_rest(s, at, shape.locations, shape.outs);
     }
     false
 }
@@ -81,11 +78,11 @@ pub fn pairs_of(s: &[u8], at: usize) -> Pairs
     requires { ⌜ Stands (now s) at × (isStatepoint (recordOf (now s) at) ≡ true) ⌝ }
     ensures { λ r. ⌜ Paired (now (s .entry)) at (r .start) (r .count) ⌝ }
 {
-    let count = wire::u16_at(s, at + layout::NUM_LOCATIONS_AT) as usize;
+    let shape = shape::shape_at(s, at);
     let d = reader::location(s, at, DEOPT_AT);
     let start = HEAD_LOCATIONS + d.offset as usize;
     Pairs {
         start,
-        count: (count - start) / 2,
+        count: (shape.locations - start) / 2,
     }
 }

@@ -3,6 +3,7 @@ pub mod Tests
 pub mod Steps
 pub mod Fields
 pub mod Items
+pub mod Parts
 pub mod Back
 pub mod Forth
 pub mod WellFormed

@@ -5,6 +5,7 @@ pub mod Section
 pub mod Record
 pub mod Check
 pub mod Walk
+pub mod Shape
 pub mod Fault
 pub mod Laws
 pub mod Quick

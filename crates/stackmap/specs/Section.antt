@@ -177,6 +177,13 @@ readSection s =
       records = readRecords (isOld s) (numRecords s) s (recordsAt s);
     }
 
+-- function number i; past the last one, what is read is 0
+abbrev pub noFunction : Function
+noFunction = record { address = 0; stackSize = 0; count = 0 }
+
+unfoldable pub functionNumber : List ℕ → ℕ → Function
+functionNumber s i = getD (readSection s .functions) i noFunction
+
 -- Records belong to functions in order, as many as each record count says. Version 1 does not say which function owns a record.
 
 -- a function's number, and the function
@@ -191,7 +198,7 @@ owners i (f ∷ fs) = replicate (f .count) (record { number = i; function = f })
 
 -- the owner of a record of version 1: none is known, and its address counts from 0, so that a record's address is its offset
 abbrev pub nobody : Owner
-nobody = record { number = 0; function = record { address = 0; stackSize = 0; count = 0 } }
+nobody = record { number = 0; function = noFunction }
 
 -- the owners of n records
 unfoldable pub recordOwners : Bool → ℕ → List Function → List Owner

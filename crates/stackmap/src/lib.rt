@@ -6,6 +6,7 @@ ghost use Rattle.stackmap.specs.Check.{sectionCheck};
 pub mod layout;
 mod quick;
 mod record;
+pub mod shape;
 pub mod tables;
 pub mod walk;
 

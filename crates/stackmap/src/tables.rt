@@ -1,13 +1,13 @@
 // The header, the functions and the constants.
-// `is_old` is no entry point: it requires the header, which 1 has tested.
+// `is_old` and `stack_size` are no entry points: they require the header, which 1 has tested, and the functions, which 4 has.
 ghost use mathlib.Core.Path.{_≡_};
 ghost use mathlib.Core.Bool.{false};
-ghost use Prim.Native.Nat.{_+_, _*_, _≤_};
+ghost use Prim.Native.Nat.{_+_, _*_, _≤_, _<_};
 ghost use lib.ListN.{length};
 ghost use lib.Dec.{eqb};
 ghost use Rattle.stackmap.specs.Layout.{headerSize, functionSize};
 ghost use Rattle.stackmap.specs.Fields.{many};
-ghost use Rattle.stackmap.specs.Section.{isOld, readFunction, counted};
+ghost use Rattle.stackmap.specs.Section.{numFunctions, isOld, constantsAt, readFunction, functionNumber, counted};
 ghost use Rattle.stackmap.specs.Verdict.{chain};
 ghost use Rattle.stackmap.specs.Check.{versionRight, headerCheck, tablesCheck};
 use crate::Verdict;
@@ -107,4 +107,16 @@ pub fn begin(s: &[u8]) -> Verdict
         return Verdict::Refused(n, p);
     }
     tables(s)
+}
+
+// The stack size of function number `function`.
+pub fn stack_size(s: &[u8], function: usize) -> u64
+    requires { ⌜ (constantsAt (now s) ≤ length (now s)) × (function < numFunctions (now s)) ⌝ }
+    ensures { λ r. ⌜ r ≡ functionNumber (now (s .entry)) function .stackSize ⌝ }
+{
+    let step = layout::function_size(is_old(s));
+    wire::u64_at(
+        s,
+        layout::HEADER_SIZE + step * function + layout::STACK_SIZE_AT,
+    )
 }

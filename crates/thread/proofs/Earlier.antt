@@ -7,10 +7,9 @@ use native.Mathlib.Omega.{arith}
 use borrow.Author.Tests.{lt-ltb, le-ltb, leb-true, ne-eqb}
 use lib.Dec.{ltb, leb}
 use lib.ListN.{length}
-use Rattle.wire.specs.Word.{Bytes, word}
-use Rattle.stackmap.specs.Section.{numFunctions, isOld, constantsAt}
+use Rattle.wire.specs.Word.{Bytes}
+use Rattle.stackmap.specs.Section.{numFunctions, constantsAt, functionNumber}
 use Rattle.stackmap.specs.Check.{Accepted}
-use Rattle.stackmap.specs.Walk.{functionAt}
 use Rattle.questions.specs.declared.Found.{Found}
 use Rattle.questions.specs.Questions.{firstOf}
 use Rattle.moves.specs.declared.Move.{Move}
@@ -52,7 +51,7 @@ module _ (s : List ℕ) (f : Frame) (t : Sited s f) where
     pub sited-function : (constantsAt s ≤ length s) × (r .function < numFunctions s)
     sited-function = (functions-inside s k, rw here (owner-number s f k w (t .entry) (t .one)))
 
-    pub sited-size : word 8 s (functionAt (isOld s) (r .function) + 8) ≡ stackSize (t .entry)
+    pub sited-size : functionNumber s (r .function) .stackSize ≡ stackSize (t .entry)
     sited-size = rw here (sym (size-is s f k w (t .entry) (t .one)))
 
 -- The extents that were kept.

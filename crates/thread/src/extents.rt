@@ -15,7 +15,7 @@ use crate::list;
 use crate::search;
 use crate::search::HITS_LENGTH;
 use crate::stretches;
-use relocate::moving;
+use stackmap::tables;
 
 // Bytes of memory, from the start up to, not including, the end.
 pub struct Stretch {
@@ -37,7 +37,7 @@ fn extent(
 {
     let frame = list::frame_at(frames, k);
     let found = search::of_frame(s, keys, count, hits, frame);
-    let size = moving::stack_size(s, found.function);
+    let size = tables::stack_size(s, found.function);
     Stretch {
         start: frame.rsp,
         end: frame.rsp + size,

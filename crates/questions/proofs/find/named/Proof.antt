@@ -3,7 +3,8 @@ use mathlib.Core.Path.{_≡_, sym, _∙_}
 use native.Mathlib.Omega.{arith}
 use Rattle.stackmap.specs.Section.{numFunctions}
 use Rattle.questions.specs.Questions.{namedIn}
-use Rattle.questions.proofs.Searched.{function-there, function-absent, owned-none, owned-some}
+use Rattle.stackmap.proofs.Parts.{function-there, function-absent}
+use Rattle.questions.proofs.Searched.{owned-none, owned-some}
 use borrow.Author.Needs.{needs}
 use Rattle.questions.proofs.find.named.Statement.{statement}
 use Rattle.questions.proofs.find.named.Tie as tie

@@ -1,12 +1,12 @@
 -- The location stands after the record's head, one size for each before it.
 use Prim.Native.Nat.{_+_, _*_, _≤_, _<_}
-use mathlib.Core.Path.{_≡_, refl, sym, ap, _∙_}
+use mathlib.Core.Path.{_≡_, ap, _∙_}
 use native.Mathlib.Omega.{arith}
 use lib.ListN.{length}
 use Rattle.stackmap.specs.Layout.{locationSize}
 use Rattle.stackmap.specs.Section.{isOld, recordLength}
 use Rattle.stackmap.proofs.Steps.{times-most}
-use Rattle.questions.proofs.Content.{record-long, location-at, location-past, location-inside}
+use Rattle.questions.proofs.Content.{location-at, location-past, location-inside}
 use borrow.Author.Needs.{needs}
 use Rattle.questions.proofs.read.location_in.Statement.{statement}
 use Rattle.questions.proofs.read.location_in.Tie as tie
@@ -26,7 +26,7 @@ no-location-requires c κs = search needs
 
 returns : tie.Need-returns
 returns c =
-    rw (c .no-location .ensures, location-past (isOld (c .before .before .before .before .args .s .now)) (c .before .before .before .before .args .s .now) (c .before .before .before .before .args .first) _ _ (c .before .before .u16-at .ensures) refl (c .before .before .before .before .args .number) (c .before .if1 .taken))
+    rw (c .no-location .ensures, location-past (isOld (c .before .before .before .before .args .s .now)) (c .before .before .before .before .args .s .now) (c .before .before .before .before .args .first) _ (c .before .before .u16-at .ensures) (c .before .before .before .before .args .number) (c .before .if1 .taken))
 
 is-old-requires : tie.Need-is-old-requires
 is-old-requires c κs = let i = c .before .before .before .pre .0 in omega arith
@@ -59,7 +59,7 @@ location-fields-requires c κs =
     let a = q .args in
     let r = c .location-size .result in
     let z : r ≡ locationSize (isOld (a .s .now)) = c .location-size .ensures .0 ∙ ap locationSize (c .before .is-old .ensures) in
-    rw (z, c .before .is-old .ensures) (location-inside (isOld (a .s .now)) (a .s .now) (a .first) _ _ (c .before .before .before .u16-at .ensures) refl (a .number) (omega arith) (q .pre .1))
+    rw (z, c .before .is-old .ensures) (location-inside (isOld (a .s .now)) (a .s .now) (a .first) _ (c .before .before .before .u16-at .ensures) (a .number) (omega arith) (q .pre .1))
 
 constant-requires : tie.Need-constant-requires
 constant-requires c κs = search needs
@@ -71,7 +71,7 @@ returns-2 c =
     let r = c .before .before .location-size .result in
     let z : r ≡ locationSize (isOld (a .s .now)) = c .before .before .location-size .ensures .0 ∙ ap locationSize (c .before .before .before .is-old .ensures) in
     rw (
-      location-at (isOld (a .s .now)) (a .s .now) (a .first) _ _ (c .before .before .before .before .before .u16-at .ensures) refl (a .number) (c .before .before .before .before .if1 .left),
+      location-at (isOld (a .s .now)) (a .s .now) (a .first) _ (c .before .before .before .before .before .u16-at .ensures) (a .number) (c .before .before .before .before .if1 .left),
       ← z,
       ← c .before .before .before .is-old .ensures,
       c .before .location-fields .ensures,

@@ -1,10 +1,12 @@
 -- What is read is what the definitions read.
+use mathlib.Core.Path.{sym, _∙_}
 use native.Mathlib.Omega.{arith}
 use Rattle.stackmap.specs.Section.{recordLength}
 use Rattle.stackmap.proofs.Steps.{times-most}
+use Rattle.stackmap.proofs.Parts.{count-locations, count-live-outs}
 use borrow.Author.Needs.{needs}
-use Rattle.lister.proofs.records.record_shape.Statement.{statement}
-use Rattle.lister.proofs.records.record_shape.Tie as tie
+use Rattle.stackmap.proofs.shape.record_shape.Statement.{statement}
+use Rattle.stackmap.proofs.shape.record_shape.Tie as tie
 
 u16-at-requires : tie.Need-u16-at-requires
 unfolding recordLength
@@ -66,8 +68,8 @@ returns c =
     let y = c .before .locations-padding .ensures .0 in
     let b = c .u16-at2 .ensures in
     record {
-      locations-are = a;
-      outs-are = rw (← a, ← z, ← y) b;
+      locations-are = a ∙ sym (count-locations _ _);
+      outs-are = rw (count-live-outs, ← a, ← z, ← y) b;
       begins = rw (← a, ← z, ← y);
       ends = rw (← a, ← z, ← y, ← b);
     }

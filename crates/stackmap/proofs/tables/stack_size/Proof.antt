@@ -1,12 +1,12 @@
 use Prim.Native.Nat.{_*_}
-use mathlib.Core.Path.{_≡_, _∙_}
+use mathlib.Core.Path.{_≡_}
 use native.Mathlib.Omega.{arith}
 use Rattle.stackmap.specs.Layout.{functionSize}
 use Rattle.stackmap.specs.Section.{numFunctions, isOld}
-use Rattle.relocate.proofs.Asking.{function-in}
+use Rattle.stackmap.proofs.Parts.{function-in, function-size}
 use borrow.Author.Needs.{needs}
-use Rattle.relocate.proofs.moving.stack_size.Statement.{statement}
-use Rattle.relocate.proofs.moving.stack_size.Tie as tie
+use Rattle.stackmap.proofs.tables.stack_size.Statement.{statement}
+use Rattle.stackmap.proofs.tables.stack_size.Tie as tie
 
 is-old-requires : tie.Need-is-old-requires
 is-old-requires c κs = let w = c .before .pre .0 in omega arith
@@ -27,7 +27,9 @@ u64-at-requires : tie.Need-u64-at-requires
 u64-at-requires c κs = let a = c .before .before .before .args in let w = c .before .before .before .pre .0 in let i = function-in (isOld (a .s .now)) (a .function) (numFunctions (a .s .now)) (c .before .before .before .pre .1) in let m : c .function-size .result * a .function ≡ functionSize (isOld (a .s .now)) * a .function = rw (c .function-size .ensures .0, c .before .is-old .ensures) in omega arith
 
 returns : tie.Need-returns
-returns c = c .u64-at .ensures ∙ rw (c .before .function-size .ensures .0, c .before .before .is-old .ensures)
+returns c =
+    let q = c .before .before .before .before in
+    rw (function-size (q .args .s .now) (q .args .function) (q .pre .1), ← c .before .before .is-old .ensures, ← c .before .function-size .ensures .0) (c .u64-at .ensures)
 
 pub stack-size-spec : {M : Type 1} → statement M
 stack-size-spec = tie.close (tie.spec is-old-requires function-size-requires mul-u64-at add-u64-at add-u64-at-2 u64-at-requires returns)
