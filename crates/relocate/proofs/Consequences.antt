@@ -8,14 +8,16 @@ use lib.ListN.{length, getD, length-map}
 use Rattle.wire.specs.Word.{word}
 use Rattle.wire.proofs.Laws.{word-bound}
 use Rattle.stackmap.specs.Section.{Entry, readSection}
-use Rattle.stackmap.specs.Check.{Accepted}
+use Rattle.stackmap.specs.declared.Verdict.{Verdict}
+use Rattle.stackmap.specs.declared.Verdict.the-variants.{Valid, Refused}
+use Rattle.stackmap.specs.Check.{sectionCheck, Accepted}
 use Rattle.moves.specs.declared.Move.{Move}
 use Rattle.moves.specs.Window.{In, part}
 use Rattle.moves.specs.Table.{lookUp}
 use Rattle.moves.specs.Pointers.{Pointer, null, slots, orZero}
 use Rattle.moves.specs.Settle.{acceptedMove}
 use Rattle.moves.specs.Plan.{Plan, refuse, window, says, leaves}
-use Rattle.moves.proofs.Splice.{part-at}
+use Rattle.moves.proofs.Splice.{part-at, splice-same}
 use Rattle.moves.proofs.Words.{word-of, word-local, kept}
 use Rattle.moves.proofs.Order.{settle-refused, accepted-whole, refused-count}
 use Rattle.moves.proofs.Local.{Agrees, settled-local}
@@ -24,9 +26,8 @@ use Rattle.relocate.specs.Statepoint.{pairs, pointerOf}
 use Rattle.relocate.specs.Plan.{plan, stackSize}
 use Rattle.relocate.specs.Relocation.{answer, moved, OneRecord, Lists, newStart, newContent}
 use Rattle.relocate.specs.Consequences.{Untouched, Counts, KeepsDistance, AgreeOnSlots, OnlySlotsCount}
-use Rattle.relocate.proofs.Planned.{Planned, planned, window-pair, from-slots}
-use Rattle.moves.proofs.Splice.{splice-same}
-use Rattle.relocate.proofs.Demand.{demand3, accepts}
+use Rattle.relocate.proofs.Planned.{Planned, planned, window-pair, window-lists, from-slots}
+use Rattle.relocate.proofs.Demand.{demand3, accepts, plan-refused, accepted-section}
 
 untouched-plan : (table : ℕ → Option ℕ) (im : List ℕ) (p : Plan) → (says table im p .number ≡ 0 → ⊥) → leaves table im p ≡ im
 untouched-plan table im (refuse n q) h = refl
@@ -97,17 +98,17 @@ keeps-distance s olds news first im f k w a b d l r =
     rw (new-word s olds news first im f k a b d l (low .1), new-word s olds news first im f k a b b r (low .0))
     (kept (word 8 im (d - first)) (word 8 im (b - first)) (orZero (lookUp olds news (word 8 im (b - first)))) (omega (arith, word-bound 8 im (b - first) w)))
 
-module _ (s olds news : List ℕ) (first : ℕ) (im im′ : List ℕ) (f : Frame) (k : Accepted s) (g : AgreeOnSlots s f first im im′) where
+module _ (s olds news : List ℕ) (first : ℕ) (im im′ : List ℕ) (f : Frame) (g : AgreeOnSlots s f first im im′) where
   abbrev table : ℕ → Option ℕ
   table = lookUp olds news
 
-  plan-agrees : (p : Plan) → plan s olds news first (length im) f ≡ p → says table im p ≡ says table im′ p
-  plan-agrees (refuse n q) h = refl
-  plan-agrees (window off size ps) h =
+  plan-agrees : (e : ℕ) → sectionCheck s ≡ Valid e → (p : Plan) → plan s olds news first (length im) f ≡ p → says table im p ≡ says table im′ p
+  plan-agrees e k (refuse n q) h = refl
+  plan-agrees e k (window off size ps) h =
       settled-local table ps (part im off size) (part im′ off size) agrees
     where
       q : Planned s olds news first (length im) f off size ps
-      q = planned s olds news first (length im) f (length s) k off size ps h
+      q = planned s olds news first (length im) f e k off size ps h
 
       at : (b i : ℕ) → b + 8 ≤ size → In b 8 i → ((j : ℕ) → In (f .rsp + b) 8 (first + j) → getD im j 0 ≡ getD im′ j 0)
           → getD (part im off size) i 0 ≡ getD (part im′ off size) i 0
@@ -119,26 +120,31 @@ module _ (s olds news : List ℕ) (first : ℕ) (im im′ : List ℕ) (f : Frame
       agrees : (p : Pointer) → List·Memᴰ p ps → Agrees (part im off size) (part im′ off size) p
       agrees null m = tt
       agrees (slots b d) m =
-          let v = window-pair s olds news first (length im) f (length s) k off size ps q b d m in
-          let l : Lists s f (f .rsp + b) (f .rsp + d) =
-          record { entry = q .entry; one = q .one; pair = v .0; listed = v .1; not-null = v .2 .not-null; base-at = v .2 .base-at; derived-at = v .2 .derived-at } in
+          let v = window-pair s olds news first (length im) f e k off size ps q b d m in
+          let l = window-lists s olds news first (length im) f e k off size ps q b d m in
           (λ i r. at b i (v .2 .base-in) r (g .on-base _ _ l), λ i r. at d i (v .2 .derived-in) r (g .on-derived _ _ l))
 
   same-answer : answer s olds news first im f ≡ answer s olds news first im′ f
   unfolding answer
-  same-answer =
-      rw (← g .same-length) (plan-agrees (plan s olds news first (length im) f) refl)
+  same-answer = rw (← g .same-length) (go (sectionCheck s) refl)
+    where
+      P : Plan
+      P = plan s olds news first (length im) f
+
+      go : (v : Verdict) → sectionCheck s ≡ v → says table im P ≡ says table im′ P
+      go (Valid e) k = plan-agrees e k P refl
+      go (Refused n p) k = rw (plan-refused s olds news first (length im) f n p k)
 
   same-content : answer s olds news first im f .number ≡ 0 → (b d : ℕ) → Lists s f b d
       → newContent olds news first im b d ≡ newContent olds news first im′ b d
   unfolding newContent
   same-content a b d l =
-      let low = slots-low s olds news first im f k a b d l in
+      let low = slots-low s olds news first im f (accepted-section s olds news first im f a) a b d l in
       rw (
         word-local 8 im im′ (b - first) (λ i r. g .on-base b d l i (record { low = omega arith; high = omega arith })),
         word-local 8 im im′ (d - first) (λ i r. g .on-derived b d l i (record { low = omega arith; high = omega arith })),
       )
 
 pub only-slots-count : OnlySlotsCount
-only-slots-count s olds news first im im′ f k g =
-    record { same-answer = same-answer s olds news first im im′ f k g; same-content = same-content s olds news first im im′ f k g }
+only-slots-count s olds news first im im′ f g =
+    record { same-answer = same-answer s olds news first im im′ f g; same-content = same-content s olds news first im im′ f g }

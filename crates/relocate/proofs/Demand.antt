@@ -8,9 +8,13 @@ use native.Mathlib.Omega.{arith}
 use lib.ListN.{length, getD}
 use lib.Seq.{ext-getD}
 use Rattle.wire.specs.Word.{bytes}
-use Rattle.stackmap.specs.declared.Verdict.the-variants.{Valid}
+use Rattle.stackmap.specs.declared.Verdict.{Verdict}
+use Rattle.stackmap.specs.declared.Verdict.the-variants.{Valid, Refused}
 use Rattle.stackmap.specs.Section.{readSection}
-use Rattle.stackmap.specs.Check.{sectionCheck}
+use Rattle.stackmap.specs.Check.{sectionCheck, Accepted}
+use Rattle.stackmap.proofs.Numbers.{section-numbered}
+use Rattle.stackmap.proofs.Forth.{accepted-length}
+use Rattle.questions.specs.Questions.{ask}
 use Rattle.moves.specs.declared.Move.{Move}
 use Rattle.moves.specs.Window.{In, part}
 use Rattle.moves.specs.Table.{lookUp}
@@ -29,7 +33,7 @@ use Rattle.relocate.specs.Statepoint.{pairs, slotAt, pointerOf}
 use Rattle.relocate.specs.Plan.{plan, stackSize}
 use Rattle.relocate.specs.Relocation.{answer, moved, InExtent, newStart, newContent}
 use Rattle.relocate.specs.Lists.{answers, final, Disjoint, Written, Demand3, OrderFree}
-use Rattle.relocate.proofs.Planned.{Above, planned, plan-above, window-pair, sound, from-slots, pair-slots}
+use Rattle.relocate.proofs.Planned.{Above, planned, plan-above, window-lists, sound, from-slots, pair-slots}
 
 -- a new content in the image, and in a window of it
 pub content-is : (olds news : List ℕ) (first : ℕ) (im : List ℕ) (b d : ℕ)
@@ -41,6 +45,22 @@ content-part : (table : ℕ → Option ℕ) (im : List ℕ) (off n b d : ℕ) �
     → windowContent table (part im off n) b d ≡ windowContent table im (off + b) (off + d)
 unfolding windowContent
 content-part table im off n b d h k = rw (word-part 8 im off n b h, word-part 8 im off n d k)
+
+-- a refused section's number and place are the plan's, and an answer with the number 0 is of an accepted section
+pub plan-refused : (s olds news : List ℕ) (first n : ℕ) (f : Frame) (m p : ℕ) → sectionCheck s ≡ Refused m p → plan s olds news first n f ≡ refuse m p
+unfolding plan ask
+plan-refused s olds news first n f m p h = rw h
+
+pub accepted-section : (s olds news : List ℕ) (first : ℕ) (im : List ℕ) (f : Frame) → answer s olds news first im f .number ≡ 0 → Accepted s
+unfolding answer
+accepted-section s olds news first im f h = go (sectionCheck s) refl
+  where
+    go : (v : Verdict) → sectionCheck s ≡ v → Accepted s
+    go (Valid e) q = q ∙ ap Valid (accepted-length s e q .0)
+    go (Refused m p) q =
+        let a = (rw q at (section-numbered s)) .above in
+        let z : m ≡ 0 = rw (plan-refused s olds news first (length im) f m p q) at h in
+        absurd (omega arith)
 
 -- a plan as a task of moves
 says-task : (table : ℕ → Option ℕ) (im : List ℕ) (p : Plan) → says table im p ≡ answerIn im (taskOf table p)
@@ -163,13 +183,12 @@ module _ (s olds news : List ℕ) (first : ℕ) (e : ℕ) (k : sectionCheck s �
       rw (final-run fs im)
       (final-rest table P snd fs im (disjoint (length im) fs dis) i (λ f m off size ps b d h.
       let q = planned s olds news first (length im) f e k off size ps (h .planned) in
-      let v = window-pair s olds news first (length im) f e k off size ps q b d (h .listed) in
       none (f .rsp + b) (f .rsp + d)
       (record {
         frame = f;
         in-list = m;
         accepted = yes-answer f off size ps im (h .planned) (h .accepted);
-        lists = record { entry = q .entry; one = q .one; pair = v .0; listed = v .1; not-null = v .2 .not-null; base-at = v .2 .base-at; derived-at = v .2 .derived-at };
+        lists = window-lists s olds news first (length im) f e k off size ps q b d (h .listed);
         inside = record { low = omega (arith, h .inside .low, q .off-is, q .low); high = omega (arith, h .inside .high, q .off-is, q .low) };
       })))
 

@@ -8,7 +8,7 @@ use native.Mathlib.Omega.{arith}
 use borrow.Author.Tests.{eqb-false, leb-true}
 use Rattle.stackmap.specs.declared.Verdict.the-variants.{Valid}
 use Rattle.stackmap.specs.Layout.{stackSizeUnknown}
-use Rattle.stackmap.specs.Section.{Location, Entry, readSection}
+use Rattle.stackmap.specs.Section.{Location, Entry, isOld, readSection}
 use Rattle.stackmap.specs.Check.{sectionCheck}
 use Rattle.stackmap.proofs.Tests.{and-true, not-true}
 use Rattle.moves.specs.Pointers.{Pointer, null, slots}
@@ -16,8 +16,9 @@ use Rattle.moves.specs.Plan.{Plan, refuse, window}
 use Rattle.moves.proofs.Lists.{Sound}
 use Rattle.relocate.specs.declared.Frame.{Frame}
 use Rattle.questions.specs.Questions.{ask}
-use Rattle.relocate.specs.Statepoint.{Pair, pairs, isNull, slotInside, slotAt, registerOf, excess, inside, pointerOf}
+use Rattle.relocate.specs.Statepoint.{isStatepoint, Pair, pairs, isNull, isSlot, rightForm, slotInside, slotAt, registerOf, excess, inside, pointerOf}
 use Rattle.relocate.specs.Plan.{recordsOf, need, only, every, stackSize, extentRight, planPairs, planRecord, plan}
+use Rattle.relocate.specs.Relocation.{Lists}
 
 -- the refusal numbers of a plan are above 0
 abbrev pub Above : Plan → Type 0
@@ -126,6 +127,12 @@ pub pair-slots : (pool : List ℕ) (f : Frame) (p : Pair) → isNull pool p ≡ 
 unfolding pointerOf
 pair-slots pool f p e = rw e
 
+-- a pair of the right form that is not null has two slots
+form-slots : (old : Bool) (pool : List ℕ) (p : Pair) → rightForm old pool p ≡ true → isNull pool p ≡ false
+    → (isSlot old (p .base) ≡ true) × (isSlot old (p .derived) ≡ true)
+unfolding rightForm
+form-slots old pool p h e = and-true _ _ (rw e at h)
+
 module _ (s olds news : List ℕ) (first n : ℕ) (f : Frame) where
   abbrev pool : List ℕ
   pool = readSection s .constants
@@ -139,6 +146,8 @@ module _ (s olds news : List ℕ) (first n : ℕ) (f : Frame) where
     pub off-is : off ≡ f .rsp - first
     pub size-is : size ≡ stackSize entry
     pub pairs-are : ws ≡ map (pointerOf pool f) (pairs (entry .body))
+    pub statepoint : isStatepoint (entry .body) ≡ true
+    pub forms : (p : Pair) → List·Memᴰ p (pairs (entry .body)) → rightForm (isOld s) pool p ≡ true
     pub insides : (p : Pair) → List·Memᴰ p (pairs (entry .body)) → inside pool f (stackSize entry) p ≡ true
 
   pub planned : (e : ℕ) → sectionCheck s ≡ Valid e → (off size : ℕ) (ws : List Pointer) → plan s olds news first n f ≡ window off size ws → Planned off size ws
@@ -163,6 +172,8 @@ module _ (s olds news : List ℕ) (first n : ℕ) (f : Frame) where
         off-is = cc;
         size-is = cc;
         pairs-are = cc;
+        statepoint = h₁ .0;
+        forms = h₄ .0;
         insides = h₅ .0;
       }
 
@@ -178,6 +189,25 @@ module _ (s olds news : List ℕ) (first n : ℕ) (f : Frame) where
   window-pair e k off size ws q b d m =
       let o = Memᴰ·of-map (pointerOf pool f) (pairs (q .entry .body)) (rw (q .pairs-are) at m) in
       (o .0, o .1, rw (q .size-is) (pair-from pool f (stackSize (q .entry)) (o .0) b d (q .insides (o .0) (o .1)) (o .2)))
+
+  -- and is listed
+  pub window-lists : (e : ℕ) → sectionCheck s ≡ Valid e → (off size : ℕ) (ws : List Pointer) (q : Planned off size ws)
+      → (b d : ℕ) → List·Memᴰ (slots b d) ws → Lists s f (f .rsp + b) (f .rsp + d)
+  window-lists e k off size ws q b d m =
+      let v = window-pair e k off size ws q b d m in
+      let t = form-slots (isOld s) pool (v .0) (q .forms (v .0) (v .1)) (v .2 .not-null) in
+      record {
+        entry = q .entry;
+        one = q .one;
+        statepoint = q .statepoint;
+        pair = v .0;
+        listed = v .1;
+        not-null = v .2 .not-null;
+        base-slot = t .0;
+        derived-slot = t .1;
+        base-at = v .2 .base-at;
+        derived-at = v .2 .derived-at;
+      }
 
   pub sound : (e : ℕ) → sectionCheck s ≡ Valid e → Sound n (plan s olds news first n f)
   sound e k = go (plan s olds news first n f) refl

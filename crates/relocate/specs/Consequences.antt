@@ -49,8 +49,8 @@ pub record Unaffected (s olds news : List ℕ) (first : ℕ) (im im′ : List �
   pub same-content : answer s olds news first im f .number ≡ 0 → (b d : ℕ) → Lists s f b d
       → newContent olds news first im b d ≡ newContent olds news first im′ b d
 
--- Image bytes outside the listed slots affect no answer and no new content.
+-- Image bytes outside the listed slots affect no answer and no new content, of accepted sections and of refused ones.
 abbrev pub OnlySlotsCount : Type 0
 OnlySlotsCount =
-    (s olds news : List ℕ) (first : ℕ) (im im′ : List ℕ) (f : Frame) → Accepted s
+    (s olds news : List ℕ) (first : ℕ) (im im′ : List ℕ) (f : Frame)
     → AgreeOnSlots s f first im im′ → Unaffected s olds news first im im′ f

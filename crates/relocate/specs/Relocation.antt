@@ -1,19 +1,19 @@
 -- One move: a call that relocates one frame.
 use Prim.Native.Nat.{ℕ, _+_, _-_, _%_, _^_, _≤_, _<_}
 use mathlib.Core.Path.{_≡_}
-use mathlib.Core.Bool.{false}
+use mathlib.Core.Bool.{true, false}
 use mathlib.Core.List.{List, [], _∷_, List·Memᴰ}
 use lib.ListN.{length}
 use Rattle.wire.specs.Word.{word}
 use Rattle.stackmap.specs.Layout.{stackSizeUnknown}
-use Rattle.stackmap.specs.Section.{Entry, readSection}
+use Rattle.stackmap.specs.Section.{Entry, isOld, readSection}
 use Rattle.moves.specs.declared.Move.{Move}
 use Rattle.moves.specs.Limits.{pointerSize}
 use Rattle.moves.specs.Table.{lookUp}
 use Rattle.moves.specs.Pointers.{orZero}
 use Rattle.moves.specs.Plan.{says, leaves}
 use Rattle.relocate.specs.declared.Frame.{Frame}
-use Rattle.relocate.specs.Statepoint.{Pair, pairs, isNull, registerOf, excess}
+use Rattle.relocate.specs.Statepoint.{isStatepoint, Pair, pairs, isNull, isSlot, registerOf, excess}
 use Rattle.relocate.specs.Plan.{plan, recordsOf, stackSize}
 
 -- section, table and first address stay the same throughout
@@ -44,13 +44,17 @@ pub record InExtent (s : List ℕ) (f : Frame) (a : ℕ) : Type 0 where
   pub low : f .rsp ≤ a
   pub high : a < f .rsp + stackSize entry
 
--- The frame's statepoint lists a pair that is not null, whose base slot starts at the address b and whose derived slot at d.
+-- The frame's one record is a statepoint, and lists a pair that is not null and whose locations are slots: its base slot starts at the
+-- address b, and its derived slot at d.
 pub record Lists (s : List ℕ) (f : Frame) (b d : ℕ) : Type 0 where
   pub entry : Entry
   pub one : OneRecord s f entry
+  pub statepoint : isStatepoint (entry .body) ≡ true
   pub pair : Pair
   pub listed : List·Memᴰ pair (pairs (entry .body))
   pub not-null : isNull (readSection s .constants) pair ≡ false
+  pub base-slot : isSlot (isOld s) (pair .base) ≡ true
+  pub derived-slot : isSlot (isOld s) (pair .derived) ≡ true
   pub base-at : b + excess (pair .base) ≡ registerOf f (pair .base) + pair .base .offset
   pub derived-at : d + excess (pair .derived) ≡ registerOf f (pair .derived) + pair .derived .offset
 
