@@ -10,7 +10,7 @@ use Rattle.wire.proofs.Laws.{word-bound}
 use Rattle.stackmap.specs.Section.{Entry, readSection}
 use Rattle.stackmap.specs.declared.Verdict.{Verdict}
 use Rattle.stackmap.specs.declared.Verdict.the-variants.{Valid, Refused}
-use Rattle.stackmap.specs.Check.{sectionCheck, Accepted}
+use Rattle.stackmap.specs.Check.{sectionCheck}
 use Rattle.moves.specs.declared.Move.{Move}
 use Rattle.moves.specs.Window.{In, part}
 use Rattle.moves.specs.Table.{lookUp}
@@ -39,10 +39,11 @@ unfolding answer moved
 untouched s olds news first im f h = untouched-plan (lookUp olds news) im (plan s olds news first (length im) f) h
 
 -- the answer of an accepted frame
-accepted-answer : (s olds news : List ℕ) (first : ℕ) (im : List ℕ) (f : Frame) → Accepted s → answer s olds news first im f .number ≡ 0
+accepted-answer : (s olds news : List ℕ) (first : ℕ) (im : List ℕ) (f : Frame) → answer s olds news first im f .number ≡ 0
     → (e : Entry) → OneRecord s f e → answer s olds news first im f ≡ acceptedMove (length (pairs (e .body)))
 unfolding answer
-accepted-answer s olds news first im f k h e one =
+accepted-answer s olds news first im f h e one =
+    let k = accepted-section s olds news first im f h in
     let a = accepts s olds news first (length s) k im f h in
     let q = planned s olds news first (length im) f (length s) k (a .off) (a .size) (a .pairs) (a .is-window) in
     let same : e ≡ q .entry = (let y = q .one in cc) in
@@ -61,19 +62,19 @@ refused-answer s olds news first im f h = refused-plan (lookUp olds news) im (pl
 pub counts : Counts
 counts =
     record {
-      accepted = λ s olds news first im f k h e one. (
-        ap (λ (m : Move). m .place) (accepted-answer s olds news first im f k h e one),
-        ap (λ (m : Move). m .count) (accepted-answer s olds news first im f k h e one),
+      accepted = λ s olds news first im f h e one. (
+        ap (λ (m : Move). m .place) (accepted-answer s olds news first im f h e one),
+        ap (λ (m : Move). m .count) (accepted-answer s olds news first im f h e one),
       );
       refused = refused-answer;
     }
 
 -- the new content of a derived slot, as a number in the new image
-new-word : (s olds news : List ℕ) (first : ℕ) (im : List ℕ) (f : Frame) → Accepted s → answer s olds news first im f .number ≡ 0
+new-word : (s olds news : List ℕ) (first : ℕ) (im : List ℕ) (f : Frame) → answer s olds news first im f .number ≡ 0
     → (b d : ℕ) → Lists s f b d → first ≤ d → word 8 (moved s olds news first im f) (d - first) ≡ newContent olds news first im b d
 unfolding newContent
-new-word s olds news first im f k a b d l low =
-    let h = demand3 s olds news first im k (f ∷ []) ((λ g m. absurd (List·Memᴰ·not-nil m)), tt) in
+new-word s olds news first im f a b d l low =
+    let h = demand3 s olds news first im (f ∷ []) ((λ g m. absurd (List·Memᴰ·not-nil m)), tt) in
     let v = newContent olds news first im b d in
     word-of 8 (moved s olds news first im f) (d - first) v (λ i q.
     let e : first + i - d ≡ i - (d - first) = omega arith in
@@ -81,9 +82,10 @@ new-word s olds news first im f k a b d l low =
     ∙ omega arith
 
 -- the slots of an accepted frame stand in the image
-slots-low : (s olds news : List ℕ) (first : ℕ) (im : List ℕ) (f : Frame) → Accepted s → answer s olds news first im f .number ≡ 0
+slots-low : (s olds news : List ℕ) (first : ℕ) (im : List ℕ) (f : Frame) → answer s olds news first im f .number ≡ 0
     → (b d : ℕ) → Lists s f b d → (first ≤ b) × (first ≤ d)
-slots-low s olds news first im f k h b d l =
+slots-low s olds news first im f h b d l =
+    let k = accepted-section s olds news first im f h in
     let a = accepts s olds news first (length s) k im f h in
     let q = planned s olds news first (length im) f (length s) k (a .off) (a .size) (a .pairs) (a .is-window) in
     let same : l .entry ≡ q .entry = (let x = l .one in let y = q .one in cc) in
@@ -93,9 +95,9 @@ slots-low s olds news first im f k h b d l =
 
 pub keeps-distance : KeepsDistance
 unfolding newContent newStart
-keeps-distance s olds news first im f k w a b d l r =
-    let low = slots-low s olds news first im f k a b d l in
-    rw (new-word s olds news first im f k a b d l (low .1), new-word s olds news first im f k a b b r (low .0))
+keeps-distance s olds news first im f w a b d l r =
+    let low = slots-low s olds news first im f a b d l in
+    rw (new-word s olds news first im f a b d l (low .1), new-word s olds news first im f a b b r (low .0))
     (kept (word 8 im (d - first)) (word 8 im (b - first)) (orZero (lookUp olds news (word 8 im (b - first)))) (omega (arith, word-bound 8 im (b - first) w)))
 
 module _ (s olds news : List ℕ) (first : ℕ) (im im′ : List ℕ) (f : Frame) (g : AgreeOnSlots s f first im im′) where
@@ -139,7 +141,7 @@ module _ (s olds news : List ℕ) (first : ℕ) (im im′ : List ℕ) (f : Frame
       → newContent olds news first im b d ≡ newContent olds news first im′ b d
   unfolding newContent
   same-content a b d l =
-      let low = slots-low s olds news first im f (accepted-section s olds news first im f a) a b d l in
+      let low = slots-low s olds news first im f a b d l in
       rw (
         word-local 8 im im′ (b - first) (λ i r. g .on-base b d l i (record { low = omega arith; high = omega arith })),
         word-local 8 im im′ (d - first) (λ i r. g .on-derived b d l i (record { low = omega arith; high = omega arith })),

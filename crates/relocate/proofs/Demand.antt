@@ -32,7 +32,7 @@ use Rattle.relocate.specs.declared.Frame.{Frame}
 use Rattle.relocate.specs.Statepoint.{pairs, slotAt, pointerOf}
 use Rattle.relocate.specs.Plan.{plan, stackSize}
 use Rattle.relocate.specs.Relocation.{answer, moved, InExtent, newStart, newContent}
-use Rattle.relocate.specs.Lists.{answers, final, Disjoint, Written, Demand3, OrderFree}
+use Rattle.relocate.specs.Lists.{answers, final, Disjoint, Written, Holds, Demand3, OrderFree}
 use Rattle.relocate.proofs.Planned.{Above, planned, plan-above, window-lists, sound, from-slots, pair-slots}
 
 -- a new content in the image, and in a window of it
@@ -223,14 +223,53 @@ disjoint-perm s (List·Permᴰ·swap {a = f} {b = g} {a′ = g′} {b′ = f′}
     )
 disjoint-perm s (List·Permᴰ·trans p q) d = disjoint-perm s q (disjoint-perm s p d)
 
-pub order-free : OrderFree
-order-free s olds news first im k fs gs p d = one-image s olds news first (length s) k fs gs im p d (disjoint-perm s p d)
+-- On a refused section nothing moves.
+module _ (s olds news : List ℕ) (first : ℕ) (m p : ℕ) (k : sectionCheck s ≡ Refused m p) where
+  refused-moved : (im : List ℕ) (f : Frame) → moved s olds news first im f ≡ im
+  unfolding moved
+  refused-moved im f = rw (plan-refused s olds news first (length im) f m p k)
+
+  refused-final : (fs : List Frame) (im : List ℕ) → final s olds news first fs im ≡ im
+  refused-final [] im = refl
+  refused-final (f ∷ fs) im = rw (refused-moved im f) (refused-final fs im)
+
+  refused-plain : (fs : List Frame) (im : List ℕ) → answers s olds news first fs im ≡ map (answer s olds news first im) fs
+  refused-plain [] im = refl
+  refused-plain (f ∷ fs) im = rw (refused-moved im f, refused-plain fs im)
+
+  refused-slot : (im : List ℕ) (f : Frame) → answer s olds news first im f .number ≡ 0 → ⊥
+  refused-slot im f h =
+      let z : Valid (length s) ≡ Refused m p = sym (accepted-section s olds news first im f h) ∙ k in
+      let y : _≡_ {A = ℕ} 0 1 = cc in
+      omega arith
+
+  refused-holds : (im : List ℕ) (fs : List Frame) → Holds s olds news first im fs
+  refused-holds im fs =
+      record {
+        plain = refused-plain fs im;
+        same-length = ap length (refused-final fs im);
+        slot = λ b d i w. absurd (refused-slot im (w .frame) (w .accepted));
+        rest = λ i n. ap (λ (l : List ℕ). getD l i 0) (refused-final fs im);
+      }
 
 pub demand3 : Demand3
-demand3 s olds news first im k fs d =
-    record {
-      plain = plain s olds news first (length s) k fs im d;
-      same-length = final-length s olds news first (length s) k fs im;
-      slot = slot s olds news first (length s) k fs im d;
-      rest = rest s olds news first (length s) k fs im d;
-    }
+demand3 s olds news first im fs d = go (sectionCheck s) refl
+  where
+    go : (v : Verdict) → sectionCheck s ≡ v → Holds s olds news first im fs
+    go (Refused m p) k = refused-holds s olds news first m p k im fs
+    go (Valid e) k =
+        record {
+          plain = plain s olds news first e k fs im d;
+          same-length = final-length s olds news first e k fs im;
+          slot = slot s olds news first e k fs im d;
+          rest = rest s olds news first e k fs im d;
+        }
+
+pub order-free : OrderFree
+order-free s olds news first im fs gs p d =
+    let d′ = disjoint-perm s p d in
+    record { disjoint = d′; holds = demand3 s olds news first im gs d′; same-image = go d′ (sectionCheck s) refl }
+  where
+    go : Disjoint s gs → (v : Verdict) → sectionCheck s ≡ v → final s olds news first fs im ≡ final s olds news first gs im
+    go d′ (Refused m q) k = refused-final s olds news first m q k fs im ∙ sym (refused-final s olds news first m q k gs im)
+    go d′ (Valid e) k = one-image s olds news first e k fs gs im p d d′

@@ -110,7 +110,7 @@ module _ (s olds news : List ℕ) (first : ℕ) (im : List ℕ) where
       movable-image = rw movable-answer
 
       holds : Holds s olds news first im (framesOf ns)
-      holds = demand3 s olds news first im (m .section-right) (framesOf ns) (m .disjoint)
+      holds = demand3 s olds news first im (framesOf ns) (m .disjoint)
 
       by-frames : ByFrames s olds news first im ns
       by-frames =
@@ -156,7 +156,7 @@ any-order s olds news first im ns ns′ h l p =
           ∙ sym (movable-answer s olds news first im ns′ m′);
       same-image =
           movable-image s olds news first im ns m
-          ∙ order-free s olds news first im (m .section-right) (framesOf ns) (framesOf ns′) p (m .disjoint)
+          ∙ order-free s olds news first im (framesOf ns) (framesOf ns′) p (m .disjoint) .same-image
           ∙ sym (movable-image s olds news first im ns′ m′);
     }
 
