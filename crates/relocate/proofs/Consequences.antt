@@ -26,7 +26,7 @@ use Rattle.relocate.specs.Statepoint.{pairs, pointerOf}
 use Rattle.relocate.specs.Plan.{plan, stackSize}
 use Rattle.relocate.specs.Relocation.{answer, moved, OneRecord, Lists, newStart, newContent}
 use Rattle.relocate.specs.Consequences.{Untouched, Counts, KeepsDistance, AgreeOnSlots, OnlySlotsCount}
-use Rattle.relocate.proofs.Planned.{Planned, planned, window-pair, window-lists, from-slots}
+use Rattle.relocate.proofs.Planned.{Planned, planned, window-pair, window-lists, from-slots, one-address}
 use Rattle.relocate.proofs.Demand.{demand3, accepts, plan-refused, accepted-section}
 
 untouched-plan : (table : ℕ → Option ℕ) (im : List ℕ) (p : Plan) → (says table im p .number ≡ 0 → ⊥) → leaves table im p ≡ im
@@ -91,7 +91,7 @@ slots-low s olds news first im f h b d l =
     let same : l .entry ≡ q .entry = (let x = l .one in let y = q .one in cc) in
     let m : List·Memᴰ (l .pair) (pairs (q .entry .body)) = rw (← same) (l .listed) in
     let v = from-slots (readSection s .constants) f (stackSize (q .entry)) (l .pair) (q .insides (l .pair) m) (l .not-null) in
-    (omega (arith, v .base-at, l .base-at, q .low), omega (arith, v .derived-at, l .derived-at, q .low))
+    (omega (arith, one-address (v .base-at) (l .base-at), q .low), omega (arith, one-address (v .derived-at) (l .derived-at), q .low))
 
 pub keeps-distance : KeepsDistance
 unfolding newContent newStart

@@ -33,7 +33,7 @@ use Rattle.relocate.specs.Statepoint.{pairs, slotAt, pointerOf}
 use Rattle.relocate.specs.Plan.{plan, stackSize}
 use Rattle.relocate.specs.Relocation.{answer, moved, InExtent, newStart, newContent}
 use Rattle.relocate.specs.Lists.{answers, final, Disjoint, Written, Holds, Demand3, OrderFree}
-use Rattle.relocate.proofs.Planned.{Above, planned, plan-above, window-lists, sound, from-slots, pair-slots}
+use Rattle.relocate.proofs.Planned.{Above, planned, plan-above, window-lists, sound, from-slots, pair-slots, one-address}
 
 -- a new content in the image, and in a window of it
 pub content-is : (olds news : List ℕ) (first : ℕ) (im : List ℕ) (b d : ℕ)
@@ -161,8 +161,8 @@ module _ (s olds news : List ℕ) (first : ℕ) (e : ℕ) (k : sectionCheck s �
       let v = from-slots (readSection s .constants) f (stackSize (q .entry)) (l .pair) (q .insides (l .pair) m) (l .not-null) in
       let b′ = slotAt f (l .pair .base) in
       let d′ = slotAt f (l .pair .derived) in
-      let eb : b ≡ f .rsp + b′ = omega (arith, v .base-at, l .base-at) in
-      let ed : d ≡ f .rsp + d′ = omega (arith, v .derived-at, l .derived-at) in
+      let eb : b ≡ f .rsp + b′ = one-address (l .base-at) (v .base-at) in
+      let ed : d ≡ f .rsp + d′ = one-address (l .derived-at) (v .derived-at) in
       let mem : List·Memᴰ (slots b′ d′) (a .pairs) =
       rw (q .pairs-are, ← pair-slots (readSection s .constants) f (l .pair) (l .not-null)) (Memᴰ·map (pointerOf (readSection s .constants) f) m) in
       let ob : b - first ≡ a .off + b′ = omega (arith, q .off-is, q .low) in

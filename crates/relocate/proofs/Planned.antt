@@ -1,22 +1,24 @@
 -- What a plan that is a window tells.
 use Prim.Native.Nat.{ℕ, suc, _+_, _-_, _≤_, _<_}
-use mathlib.Core.Path.{_≡_, refl, sym, _∙_}
-use mathlib.Core.Bool.{Bool, true, false}
+use mathlib.Core.Path.{_≡_, refl, sym, ap, _∙_}
+use mathlib.Core.Bool.{Bool, true, false, true≢false}
 use mathlib.Core.Logic.{_⊎_, inl, inr}
+use mathlib.Core.Option.{Option, none, some}
 use mathlib.Core.List.{List, [], _∷_, map, List·Memᴰ, Memᴰ·of-map, List·Memᴰ·not-nil, List·Memᴰ·cases-cons}
 use native.Mathlib.Omega.{arith}
 use borrow.Author.Tests.{eqb-false, leb-true}
+use lib.Dec.{leb}
 use Rattle.stackmap.specs.declared.Verdict.the-variants.{Valid}
 use Rattle.stackmap.specs.Layout.{stackSizeUnknown}
 use Rattle.stackmap.specs.Section.{Location, Entry, isOld, readSection}
 use Rattle.stackmap.specs.Check.{sectionCheck}
 use Rattle.stackmap.proofs.Tests.{and-true, not-true}
-use Rattle.moves.specs.Pointers.{Pointer, null, slots}
+use Rattle.moves.specs.Pointers.{Pointer, null, slots, orZero}
 use Rattle.moves.specs.Plan.{Plan, refuse, window}
 use Rattle.moves.proofs.Lists.{Sound}
 use Rattle.relocate.specs.declared.Frame.{Frame}
 use Rattle.questions.specs.Questions.{ask}
-use Rattle.relocate.specs.Statepoint.{isStatepoint, Pair, pairs, isNull, isSlot, rightForm, slotInside, slotAt, registerOf, excess, inside, pointerOf}
+use Rattle.relocate.specs.Statepoint.{isStatepoint, Pair, pairs, isNull, isSlot, rightForm, slotAddress, slotInside, slotAt, inside, pointerOf}
 use Rattle.relocate.specs.Plan.{recordsOf, need, only, every, stackSize, extentRight, planPairs, planRecord, plan}
 use Rattle.relocate.specs.Relocation.{Lists}
 
@@ -84,21 +86,26 @@ module _ {off size : ℕ} {ws : List Pointer} where
 
 -- the slots of a pair that is not null, and inside
 slot-inside : (f : Frame) (n : ℕ) (l : Location) → slotInside f n l ≡ true
-    → (f .rsp + slotAt f l + excess l ≡ registerOf f l + l .offset) × (slotAt f l + 8 ≤ n)
+    → (slotAddress f l ≡ some (f .rsp + slotAt f l)) × (slotAt f l + 8 ≤ n)
 unfolding slotInside slotAt
-slot-inside f n l h =
-    let a = and-true _ _ h in
-    let x : f .rsp + excess l ≤ registerOf f l + l .offset = leb-true _ _ (a .0) in
-    let y : registerOf f l + l .offset + 8 ≤ f .rsp + n + excess l = leb-true _ _ (a .1) in
-    (omega arith, omega arith)
+slot-inside f n l h = go (slotAddress f l) refl
+  where
+    go : (x : Option ℕ) → slotAddress f l ≡ x
+        → (slotAddress f l ≡ some (f .rsp + (orZero (slotAddress f l) - f .rsp))) × (orZero (slotAddress f l) - f .rsp + 8 ≤ n)
+    go none e = absurd (true≢false (sym (rw e at h)))
+    go (some a) e =
+        let t = and-true (leb (f .rsp) a) (leb (a + 8) (f .rsp + n)) (rw e at h) in
+        let x : f .rsp ≤ a = leb-true _ _ (t .0) in
+        let y : a + 8 ≤ f .rsp + n = leb-true _ _ (t .1) in
+        rw e (ap some (omega arith), omega arith)
 
 -- a pair of the window, and the pair that it comes from
 pub record From (pool : List ℕ) (f : Frame) (n b d : ℕ) (p : Pair) : Type 0 where
   pub not-null : isNull pool p ≡ false
   pub base-is : b ≡ slotAt f (p .base)
   pub derived-is : d ≡ slotAt f (p .derived)
-  pub base-at : f .rsp + b + excess (p .base) ≡ registerOf f (p .base) + p .base .offset
-  pub derived-at : f .rsp + d + excess (p .derived) ≡ registerOf f (p .derived) + p .derived .offset
+  pub base-at : slotAddress f (p .base) ≡ some (f .rsp + b)
+  pub derived-at : slotAddress f (p .derived) ≡ some (f .rsp + d)
   pub base-in : b + 8 ≤ n
   pub derived-in : d + 8 ≤ n
 
@@ -126,6 +133,10 @@ pair-from pool f n p b d h e = go (isNull pool p) refl
 pub pair-slots : (pool : List ℕ) (f : Frame) (p : Pair) → isNull pool p ≡ false → pointerOf pool f p ≡ slots (slotAt f (p .base)) (slotAt f (p .derived))
 unfolding pointerOf
 pair-slots pool f p e = rw e
+
+-- a slot has one address
+pub one-address : {x : Option ℕ} {a b : ℕ} → x ≡ some a → x ≡ some b → a ≡ b
+one-address {a = a} {b = b} h k = let e : some a ≡ some b = sym h ∙ k in cc
 
 -- a pair of the right form that is not null has two slots
 form-slots : (old : Bool) (pool : List ℕ) (p : Pair) → rightForm old pool p ≡ true → isNull pool p ≡ false

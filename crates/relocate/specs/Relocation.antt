@@ -2,6 +2,7 @@
 use Prim.Native.Nat.{ℕ, _+_, _-_, _%_, _^_, _≤_, _<_}
 use mathlib.Core.Path.{_≡_}
 use mathlib.Core.Bool.{true, false}
+use mathlib.Core.Option.{some}
 use mathlib.Core.List.{List, [], _∷_, List·Memᴰ}
 use lib.ListN.{length}
 use Rattle.wire.specs.Word.{word}
@@ -13,7 +14,7 @@ use Rattle.moves.specs.Table.{lookUp}
 use Rattle.moves.specs.Pointers.{orZero}
 use Rattle.moves.specs.Plan.{says, leaves}
 use Rattle.relocate.specs.declared.Frame.{Frame}
-use Rattle.relocate.specs.Statepoint.{isStatepoint, Pair, pairs, isNull, isSlot, registerOf, excess}
+use Rattle.relocate.specs.Statepoint.{isStatepoint, Pair, pairs, isNull, isSlot, slotAddress}
 use Rattle.relocate.specs.Plan.{plan, recordsOf, stackSize}
 
 -- section, table and first address stay the same throughout
@@ -55,8 +56,8 @@ pub record Lists (s : List ℕ) (f : Frame) (b d : ℕ) : Type 0 where
   pub not-null : isNull (readSection s .constants) pair ≡ false
   pub base-slot : isSlot (isOld s) (pair .base) ≡ true
   pub derived-slot : isSlot (isOld s) (pair .derived) ≡ true
-  pub base-at : b + excess (pair .base) ≡ registerOf f (pair .base) + pair .base .offset
-  pub derived-at : d + excess (pair .derived) ≡ registerOf f (pair .derived) + pair .derived .offset
+  pub base-at : slotAddress f (pair .base) ≡ some b
+  pub derived-at : slotAddress f (pair .derived) ≡ some d
 
 -- where an object is now: base content 0 moves to 0
 unfoldable pub newStart : List ℕ → List ℕ → ℕ → ℕ
