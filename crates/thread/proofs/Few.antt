@@ -6,7 +6,7 @@ use mathlib.Core.Option.{Option}
 use mathlib.Core.List.{List, [], _∷_, map}
 use native.Mathlib.Omega.{arith}
 use borrow.Author.Tests.{leb-true}
-use lib.Dec.{leb, ltb}
+use lib.Dec.{leb}
 use lib.ListN.{length, length-map}
 use Rattle.stackmap.specs.declared.Verdict.{Verdict}
 use Rattle.stackmap.specs.declared.Verdict.the-variants.{Valid, Refused}
@@ -15,8 +15,9 @@ use Rattle.stackmap.specs.Check.{sectionCheck}
 use Rattle.questions.specs.Questions.{ask}
 use Rattle.moves.specs.Table.{tableRight, lookUp}
 use Rattle.moves.specs.Pointers.{Pointer}
-use Rattle.moves.specs.Settle.{answerBy, answerFor, first20, first21, settled}
+use Rattle.moves.specs.Window.{part}
 use Rattle.moves.specs.Plan.{Plan, refuse, window, says}
+use Rattle.moves.proofs.Order.{settled-most}
 use Rattle.relocate.specs.declared.Frame.{Frame}
 use Rattle.relocate.specs.Statepoint.{isStatepoint, Pair, pairs, rightForm, inside, pointerOf}
 use Rattle.relocate.specs.Plan.{recordsOf, need, only, every, imageRight, extentRight, stackSize, planPairs, planRecord, planEntry, plan}
@@ -71,14 +72,8 @@ plan-few s olds news first n f =
     only-few (recordsOf s f) _ (λ e. record-few (isOld s) (readSection s .constants) first n f (stackSize e) (e .body)))))
 
 says-few : (table : ℕ → Option ℕ) (im : List ℕ) (p : Plan) → Few p → says table im p .count ≤ 256
-unfolding settled answerFor
 says-few table im (refuse n q) h = omega arith
-says-few table im (window off size ps) h = go (ltb (first20 ps _) (length ps)) (ltb (first21 table ps _) (length ps)) _ _
-  where
-    go : (b d : Bool) (x y : ℕ) → answerBy b d x y (length ps) .count ≤ 256
-    go true d x y = omega arith
-    go false true x y = omega arith
-    go false false x y = h
+says-few table im (window off size ps) h = omega (arith, settled-most table ps (part im off size))
 
 pub answer-few : (s olds news : List ℕ) (first : ℕ) (im : List ℕ) (f : Frame) → answer s olds news first im f .count ≤ 256
 unfolding answer
