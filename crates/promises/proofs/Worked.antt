@@ -15,10 +15,10 @@ use Rattle.moves.specs.Table.{rising, noZero, tableRight, lookUp}
 use Rattle.moves.specs.Pointers
 use Rattle.moves.specs.Settle.{atLowest, first20, put, first21, settled, settle}
 use Rattle.relocate.specs.Statepoint.{deoptCount, constantHead, pairedRest, isStatepoint, pairUp, pairs, isZero, isNull, sizeRight, isSlot, rightForm, registerOf, asOffset, slotAddress, slotInside, slotAt, inside, pointerOf}
-use Rattle.relocate.specs.Plan.{recordsOf, need, only, every, imageRight, extentRight, planPairs, planRecord, plan}
+use Rattle.relocate.specs.Plan.{recordsOf, only, every, imageRight, extentRight, planPairs, planRecord, plan}
 use Rattle.relocate.specs.Relocation.{answer, moved}
 use Rattle.promises.specs.Worked.{got, header, listingH, image, table, WorkedTable}
 
 pub worked : WorkedTable
-unfolding word bytes must chain bind pick shift bytesOf size all many functionFields constantFields locationFields liveOutFields recordFields sectionFields encodeSection readFunction readConstant readLocation readLiveOut recordLength readRecord readRecords readFunctions readSection owners recordOwners counted zeros locationZeros poolCheck locationCheck locations liveOuts recordInside recordBytes recordCheck countsRight headerCheck tablesCheck recordsCheck walkCheck sectionCheck functionItem constantItem recordItem locationItem liveOutItem recordItems versionItem itemFields listingFields encodeListing stands run listedFunction listedConstant listedLocation listedLiveOut listedRecord recordStop listedRecords recordsStop readItems listedOld readListing itemsStop notTooMany noCounts smallSizes allSmallSizes oldRight itemsCheck listingCheck toListing toSection result address entriesFrom entriesOf entries ask withAddress ownedBy namedIn sought constantOf splice lowest rising noZero tableRight lookUp Pointers.overlap Pointers.anyOverlap Pointers.slotsClash Pointers.clash Pointers.newDerived Pointers.newContent atLowest first20 put first21 settled settle deoptCount constantHead pairedRest isStatepoint pairUp pairs isZero isNull sizeRight isSlot rightForm registerOf asOffset slotAddress slotInside slotAt inside pointerOf recordsOf need only every imageRight extentRight planPairs planRecord plan answer moved got header listingH image table
+unfolding word bytes must chain bind pick shift bytesOf size all many functionFields constantFields locationFields liveOutFields recordFields sectionFields encodeSection readFunction readConstant readLocation readLiveOut recordLength readRecord readRecords readFunctions readSection owners recordOwners counted zeros locationZeros poolCheck locationCheck locations liveOuts recordInside recordBytes recordCheck countsRight headerCheck tablesCheck recordsCheck walkCheck sectionCheck functionItem constantItem recordItem locationItem liveOutItem recordItems versionItem itemFields listingFields encodeListing stands run listedFunction listedConstant listedLocation listedLiveOut listedRecord recordStop listedRecords recordsStop readItems listedOld readListing itemsStop notTooMany noCounts smallSizes allSmallSizes oldRight itemsCheck listingCheck toListing toSection result address entriesFrom entriesOf entries ask withAddress ownedBy namedIn sought constantOf splice lowest rising noZero tableRight lookUp Pointers.overlap Pointers.anyOverlap Pointers.slotsClash Pointers.clash Pointers.newDerived Pointers.newContent atLowest first20 put first21 settled settle deoptCount constantHead pairedRest isStatepoint pairUp pairs isZero isNull sizeRight isSlot rightForm registerOf asOffset slotAddress slotInside slotAt inside pointerOf recordsOf only every imageRight extentRight planPairs planRecord plan answer moved got header listingH image table
 worked = refl

@@ -14,7 +14,7 @@ use Rattle.stackmap.specs.Check.{sectionCheck}
 use Rattle.moves.specs.declared.Move.{Move}
 use Rattle.moves.specs.Window.{In, part}
 use Rattle.moves.specs.Table.{lookUp}
-use Rattle.moves.specs.Pointers.{Pointer, null, slots, orZero}
+use Rattle.moves.specs.Pointers.{Pointer, null, slots, orZero, newDerived, newContent}
 use Rattle.moves.specs.Settle.{acceptedMove}
 use Rattle.moves.specs.Plan.{Plan, refuse, window, says, leaves}
 use Rattle.moves.proofs.Splice.{part-at, splice-same}
@@ -24,7 +24,7 @@ use Rattle.moves.proofs.Local.{Agrees, settled-local}
 use Rattle.relocate.specs.declared.Frame.{Frame}
 use Rattle.relocate.specs.Statepoint.{pairs, pointerOf}
 use Rattle.relocate.specs.Plan.{plan, stackSize}
-use Rattle.relocate.specs.Relocation.{answer, moved, OneRecord, Lists, newStart, newContent}
+use Rattle.relocate.specs.Relocation.{answer, moved, OneRecord, Lists, newContentAt}
 use Rattle.relocate.specs.Consequences.{Untouched, Counts, KeepsDistance, AgreeOnSlots, OnlySlotsCount}
 use Rattle.relocate.proofs.Planned.{Planned, planned, window-pair, window-lists, from-slots, one-address}
 use Rattle.relocate.proofs.Demand.{demand3, accepts, plan-refused, accepted-section}
@@ -71,11 +71,11 @@ counts =
 
 -- the new content of a derived slot, as a number in the new image
 new-word : (s olds news : List ℕ) (first : ℕ) (im : List ℕ) (f : Frame) → answer s olds news first im f .number ≡ 0
-    → (b d : ℕ) → Lists s f b d → first ≤ d → word 8 (moved s olds news first im f) (d - first) ≡ newContent olds news first im b d
-unfolding newContent
+    → (b d : ℕ) → Lists s f b d → first ≤ d → word 8 (moved s olds news first im f) (d - first) ≡ newContentAt olds news first im b d
+unfolding newContent newDerived
 new-word s olds news first im f a b d l low =
     let h = demand3 s olds news first im (f ∷ []) ((λ g m. absurd (List·Memᴰ·not-nil m)), tt) in
-    let v = newContent olds news first im b d in
+    let v = newContentAt olds news first im b d in
     word-of 8 (moved s olds news first im f) (d - first) v (λ i q.
     let e : first + i - d ≡ i - (d - first) = omega arith in
     rw e at (h .slot b d i (record { frame = f; in-list = List·Memᴰ·head refl; accepted = a; lists = l; inside = record { low = omega arith; high = omega arith } })))
@@ -94,7 +94,7 @@ slots-low s olds news first im f h b d l =
     (omega (arith, one-address (v .base-at) (l .base-at), q .low), omega (arith, one-address (v .derived-at) (l .derived-at), q .low))
 
 pub keeps-distance : KeepsDistance
-unfolding newContent newStart
+unfolding newContent newDerived
 keeps-distance s olds news first im f w a b d l r =
     let low = slots-low s olds news first im f a b d l in
     rw (new-word s olds news first im f a b d l (low .1), new-word s olds news first im f a b b r (low .0))
@@ -138,7 +138,7 @@ module _ (s olds news : List ℕ) (first : ℕ) (im im′ : List ℕ) (f : Frame
       go (Refused n p) k = rw (plan-refused s olds news first (length im) f n p k)
 
   same-content : answer s olds news first im f .number ≡ 0 → (b d : ℕ) → Lists s f b d
-      → newContent olds news first im b d ≡ newContent olds news first im′ b d
+      → newContentAt olds news first im b d ≡ newContentAt olds news first im′ b d
   unfolding newContent
   same-content a b d l =
       let low = slots-low s olds news first im f a b d l in

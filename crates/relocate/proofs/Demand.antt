@@ -1,16 +1,18 @@
 -- Demand 3, from the list theorem of the crate below.
-use Prim.Native.Nat.{ℕ, _+_, _-_, _≤_}
+use Prim.Native.Nat.{ℕ, _+_, _-_, _≤_, _<_}
 use mathlib.Core.Path.{_≡_, refl, sym, ap, _∙_, subst, fun-ext}
 use mathlib.Core.Logic.{_⊎_, inl, inr, ⊎-elim}
 use mathlib.Core.Option.{Option}
 use mathlib.Core.List.{List, [], _∷_, map, List·Memᴰ, Memᴰ·map, List·Memᴰ·head, List·Memᴰ·tail, List·Memᴰ·cases-cons, List·Permᴰ, List·Permᴰ·nil, List·Permᴰ·cons, List·Permᴰ·swap, List·Permᴰ·trans, Permᴰ·symm}
 use native.Mathlib.Omega.{arith}
+use borrow.Author.Tests.{ne-eqb}
 use lib.ListN.{length, getD}
 use lib.Seq.{ext-getD}
 use Rattle.wire.specs.Word.{bytes}
 use Rattle.stackmap.specs.declared.Verdict.{Verdict}
 use Rattle.stackmap.specs.declared.Verdict.the-variants.{Valid, Refused}
-use Rattle.stackmap.specs.Section.{readSection}
+use Rattle.stackmap.specs.Layout.{stackSizeUnknown}
+use Rattle.stackmap.specs.Section.{Entry, readSection}
 use Rattle.stackmap.specs.Check.{sectionCheck, Accepted}
 use Rattle.stackmap.proofs.Numbers.{section-numbered}
 use Rattle.stackmap.proofs.Forth.{accepted-length}
@@ -18,8 +20,7 @@ use Rattle.questions.specs.Questions.{ask}
 use Rattle.moves.specs.declared.Move.{Move}
 use Rattle.moves.specs.Window.{In, part}
 use Rattle.moves.specs.Table.{lookUp}
-use Rattle.moves.specs.Pointers.{Pointer, slots, newDerived}
-use Rattle.moves.specs.Pointers.{newContent as windowContent}
+use Rattle.moves.specs.Pointers.{Pointer, slots, newContent}
 use Rattle.moves.specs.Settle.{settled}
 use Rattle.moves.specs.Plan.{Plan, refuse, window, says, leaves}
 use Rattle.moves.proofs.Searches.{perm-mem}
@@ -31,19 +32,14 @@ use Rattle.moves.proofs.Lists.{Disjoint as WindowsApart, answers as list-answer
 use Rattle.relocate.specs.declared.Frame.{Frame}
 use Rattle.relocate.specs.Statepoint.{pairs, slotAt, pointerOf}
 use Rattle.relocate.specs.Plan.{plan, stackSize}
-use Rattle.relocate.specs.Relocation.{answer, moved, InExtent, newStart, newContent}
+use Rattle.relocate.specs.Relocation.{answer, moved, OneRecord, InExtent, extentOf, newContentAt}
 use Rattle.relocate.specs.Lists.{answers, final, Disjoint, Written, Holds, Demand3, OrderFree}
 use Rattle.relocate.proofs.Planned.{Above, planned, plan-above, window-lists, sound, from-slots, pair-slots, one-address}
 
 -- a new content in the image, and in a window of it
-pub content-is : (olds news : List ℕ) (first : ℕ) (im : List ℕ) (b d : ℕ)
-    → windowContent (lookUp olds news) im (b - first) (d - first) ≡ newContent olds news first im b d
-unfolding windowContent newDerived newContent newStart
-content-is olds news first im b d = refl
-
 content-part : (table : ℕ → Option ℕ) (im : List ℕ) (off n b d : ℕ) → b + 8 ≤ n → d + 8 ≤ n
-    → windowContent table (part im off n) b d ≡ windowContent table im (off + b) (off + d)
-unfolding windowContent
+    → newContent table (part im off n) b d ≡ newContent table im (off + b) (off + d)
+unfolding newContent
 content-part table im off n b d h k = rw (word-part 8 im off n b h, word-part 8 im off n d k)
 
 -- a refused section's number and place are the plan's, and an answer with the number 0 is of an accepted section
@@ -61,6 +57,12 @@ accepted-section s olds news first im f h = go (sectionCheck s) refl
         let a = (rw q at (section-numbered s)) .above in
         let z : m ≡ 0 = rw (plan-refused s olds news first (length im) f m p q) at h in
         absurd (omega arith)
+
+-- the extent of a frame that has one
+extent-is : (s : List ℕ) (f : Frame) (e : Entry) → OneRecord s f e → (stackSize e ≡ stackSizeUnknown → ⊥)
+    → extentOf s f ≡ record { start = f .rsp; end = f .rsp + stackSize e }
+unfolding extentOf
+extent-is s f e one k = rw (one, ne-eqb (stackSize e) stackSizeUnknown k)
 
 -- a plan as a task of moves
 says-task : (table : ℕ → Option ℕ) (im : List ℕ) (p : Plan) → says table im p ≡ answerIn im (taskOf table p)
@@ -91,7 +93,10 @@ module _ (s olds news : List ℕ) (first : ℕ) (e : ℕ) (k : sectionCheck s �
       go (refuse m p) h q = absurd q
       go (window off size ws) h q =
           let w = planned s olds news first n f e k off size ws h in
-          record { entry = w .entry; one = w .one; known = w .known; low = omega arith; high = omega arith }
+          let x = extent-is s f (w .entry) (w .one) (w .known) in
+          let a : f .rsp ≤ first + i = omega arith in
+          let b : first + i < f .rsp + stackSize (w .entry) = omega arith in
+          record { low = rw x a; high = rw x b }
 
   disjoint : (n : ℕ) (fs : List Frame) → Disjoint s fs → WindowsApart P n fs
   disjoint n [] d = tt
@@ -150,7 +155,7 @@ module _ (s olds news : List ℕ) (first : ℕ) (e : ℕ) (k : sectionCheck s �
   yes-answer f off size ps im g z = rw g z
 
   slot : (fs : List Frame) (im : List ℕ) → Disjoint s fs → (b d i : ℕ) → Written s olds news first im fs b d i
-      → getD (final s olds news first fs im) i 0 ≡ getD (bytes 8 (newContent olds news first im b d)) (first + i - d) 0
+      → getD (final s olds news first fs im) i 0 ≡ getD (bytes 8 (newContentAt olds news first im b d)) (first + i - d) 0
   slot fs im dis b d i w =
       let f = w .frame in
       let a = accepts im f (w .accepted) in
@@ -168,7 +173,7 @@ module _ (s olds news : List ℕ) (first : ℕ) (e : ℕ) (k : sectionCheck s �
       let ob : b - first ≡ a .off + b′ = omega (arith, q .off-is, q .low) in
       let od : d - first ≡ a .off + d′ = omega (arith, q .off-is, q .low) in
       let p : first + i - d ≡ i - (a .off + d′) = omega (arith, q .off-is, q .low) in
-      rw (← content-is olds news first im b d, final-run fs im, ob, od, p, ← content-part table im (a .off) (a .size) b′ d′ (rw (q .size-is) (v .base-in)) (rw (q .size-is) (v .derived-in)))
+      rw (final-run fs im, ob, od, p, ← content-part table im (a .off) (a .size) b′ d′ (rw (q .size-is) (v .base-in)) (rw (q .size-is) (v .derived-in)))
       (final-slot table P snd fs im (disjoint (length im) fs dis) f (w .in-list) (a .off) (a .size) (a .pairs) b′ d′ i
       (record {
         planned = a .is-window;

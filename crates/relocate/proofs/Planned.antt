@@ -8,18 +8,21 @@ use mathlib.Core.List.{List, [], _∷_, map, List·Memᴰ, Memᴰ·of-map, List�
 use native.Mathlib.Omega.{arith}
 use borrow.Author.Tests.{eqb-false, leb-true}
 use lib.Dec.{leb}
+use lib.ListN.{length}
 use Rattle.stackmap.specs.declared.Verdict.the-variants.{Valid}
 use Rattle.stackmap.specs.Layout.{stackSizeUnknown}
+use Rattle.stackmap.specs.Verdict.{need}
 use Rattle.stackmap.specs.Section.{Location, Entry, isOld, readSection}
 use Rattle.stackmap.specs.Check.{sectionCheck}
 use Rattle.stackmap.proofs.Tests.{and-true, not-true}
 use Rattle.moves.specs.Pointers.{Pointer, null, slots, orZero}
+use Rattle.moves.specs.Table.{tableRight}
 use Rattle.moves.specs.Plan.{Plan, refuse, window}
 use Rattle.moves.proofs.Lists.{Sound}
 use Rattle.relocate.specs.declared.Frame.{Frame}
 use Rattle.questions.specs.Questions.{ask}
 use Rattle.relocate.specs.Statepoint.{isStatepoint, Pair, pairs, isNull, isSlot, rightForm, slotAddress, slotInside, slotAt, inside, pointerOf}
-use Rattle.relocate.specs.Plan.{recordsOf, need, only, every, stackSize, extentRight, planPairs, planRecord, plan}
+use Rattle.relocate.specs.Plan.{recordsOf, only, every, stackSize, imageRight, extentRight, planPairs, planRecord, plan}
 use Rattle.relocate.specs.Relocation.{Lists}
 
 -- the refusal numbers of a plan are above 0
@@ -27,8 +30,7 @@ abbrev pub Above : Plan → Type 0
 Above (refuse n p) = 0 < n
 Above (window off size ps) = Unit {0}
 
-need-above : (b : Bool) (n : ℕ) (k : Plan) → Above k → Above (need b (suc n) k)
-unfolding need
+need-above : (b : Bool) (n : ℕ) (k : Plan) → Above k → Above (need b (refuse (suc n) 0) k)
 need-above true n k a = a
 need-above false n k a = omega arith
 
@@ -57,8 +59,7 @@ every-above good n i (p ∷ ps) k a = go (every-above good n (suc i) ps k a) (go
 -- a window stands where every test held
 
 module _ {off size : ℕ} {ws : List Pointer} where
-  need-held : (b : Bool) (n : ℕ) (k : Plan) → need b n k ≡ window off size ws → (b ≡ true) × (k ≡ window off size ws)
-  unfolding need
+  need-held : (b : Bool) (n : ℕ) (k : Plan) → need b (refuse n 0) k ≡ window off size ws → (b ≡ true) × (k ≡ window off size ws)
   need-held true n k h = (refl, h)
   need-held false n k h = absurd (let z : _≡_ {A = ℕ} 0 1 = cc in omega arith)
 
@@ -164,11 +165,11 @@ module _ (s olds news : List ℕ) (first n : ℕ) (f : Frame) where
   pub planned : (e : ℕ) → sectionCheck s ≡ Valid e → (off size : ℕ) (ws : List Pointer) → plan s olds news first n f ≡ window off size ws → Planned off size ws
   unfolding plan planRecord planPairs extentRight ask
   planned e k off size ws h =
-      let h₀ = need-held _ _ _ (need-held _ _ _ (rw k at h) .1) in
+      let h₀ = need-held (tableRight olds news) 14 _ (need-held (imageRight first n) 13 _ (rw k at h) .1) in
       let o = only-held _ _ (h₀ .1) in
-      let h₁ = need-held _ _ _ (o .2) in
-      let h₂ = need-held _ _ _ (h₁ .1) in
-      let h₃ = need-held _ _ _ (h₂ .1) in
+      let h₁ = need-held (isStatepoint (o .0 .body)) 12 _ (o .2) in
+      let h₂ = need-held (extentRight first n (f .rsp) (stackSize (o .0))) 16 _ (h₁ .1) in
+      let h₃ = need-held (leb (length (pairs (o .0 .body))) 256) 17 _ (h₂ .1) in
       let h₄ = every-held _ _ _ _ _ (h₃ .1) in
       let h₅ = every-held _ _ _ _ _ (h₄ .1) in
       let x = and-true _ _ (h₂ .0) in
@@ -192,8 +193,9 @@ module _ (s olds news : List ℕ) (first n : ℕ) (f : Frame) where
   unfolding plan planRecord planPairs ask
   plan-above e k =
       rw k
-      (need-above _ 12 _ (need-above _ 13 _ (only-above _ _ (λ x.
-      need-above _ 11 _ (need-above _ 15 _ (need-above _ 16 _ (every-above _ 17 0 _ _ (every-above _ 18 0 _ _ tt))))))))
+      (need-above (imageRight first n) 12 _ (need-above (tableRight olds news) 13 _ (only-above _ _ (λ x.
+      need-above (isStatepoint (x .body)) 11 _ (need-above (extentRight first n (f .rsp) (stackSize x)) 15 _
+      (need-above (leb (length (pairs (x .body))) 256) 16 _ (every-above _ 17 0 _ _ (every-above _ 18 0 _ _ tt))))))))
 
   pub window-pair : (e : ℕ) → sectionCheck s ≡ Valid e → (off size : ℕ) (ws : List Pointer) (q : Planned off size ws)
       → (b d : ℕ) → List·Memᴰ (slots b d) ws → (p : Pair) × List·Memᴰ p (pairs (q .entry .body)) × From pool f size b d p

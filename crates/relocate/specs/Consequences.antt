@@ -9,7 +9,7 @@ use Rattle.moves.specs.Limits.{pointerSize}
 use Rattle.moves.specs.Window.{In}
 use Rattle.relocate.specs.declared.Frame.{Frame}
 use Rattle.relocate.specs.Statepoint.{pairs}
-use Rattle.relocate.specs.Relocation.{answer, moved, OneRecord, Lists, newContent}
+use Rattle.relocate.specs.Relocation.{answer, moved, OneRecord, Lists, newContentAt}
 
 -- Every refusal leaves the image untouched.
 abbrev pub Untouched : Type 0
@@ -46,7 +46,7 @@ pub record AgreeOnSlots (s : List ℕ) (f : Frame) (first : ℕ) (im im′ : Lis
 pub record Unaffected (s olds news : List ℕ) (first : ℕ) (im im′ : List ℕ) (f : Frame) : Type 0 where
   pub same-answer : answer s olds news first im f ≡ answer s olds news first im′ f
   pub same-content : answer s olds news first im f .number ≡ 0 → (b d : ℕ) → Lists s f b d
-      → newContent olds news first im b d ≡ newContent olds news first im′ b d
+      → newContentAt olds news first im b d ≡ newContentAt olds news first im′ b d
 
 -- Image bytes outside the listed slots affect no answer and no new content, of accepted sections and of refused ones.
 abbrev pub OnlySlotsCount : Type 0

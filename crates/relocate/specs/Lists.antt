@@ -8,7 +8,7 @@ use Rattle.moves.specs.declared.Move.{Move}
 use Rattle.moves.specs.Limits.{pointerSize}
 use Rattle.moves.specs.Window.{In}
 use Rattle.relocate.specs.declared.Frame.{Frame}
-use Rattle.relocate.specs.Relocation.{answer, moved, InExtent, Lists, newContent}
+use Rattle.relocate.specs.Relocation.{answer, moved, InExtent, Lists, newContentAt}
 
 -- the moves run one after another, each on the image as the last one left it
 module _ (s olds news : List ℕ) (first : ℕ) where
@@ -40,7 +40,7 @@ module _ (s olds news : List ℕ) (first : ℕ) (im : List ℕ) where
     pub plain : answers s olds news first fs im ≡ map (answer s olds news first im) fs
     pub same-length : length (final s olds news first fs im) ≡ length im
     pub slot : (b d i : ℕ) → Written fs b d i
-        → getD (final s olds news first fs im) i 0 ≡ getD (bytes pointerSize (newContent olds news first im b d)) (first + i - d) 0
+        → getD (final s olds news first fs im) i 0 ≡ getD (bytes pointerSize (newContentAt olds news first im b d)) (first + i - d) 0
     pub rest : (i : ℕ) → ((b d : ℕ) → Written fs b d i → ⊥) → getD (final s olds news first fs im) i 0 ≡ getD im i 0
 
 -- Demand 3, of lists of moves: on one section, one table and one image, every list of frames of which no two have extents that share

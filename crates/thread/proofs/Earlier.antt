@@ -17,13 +17,13 @@ use Rattle.moves.specs.declared.Move.{Move}
 use Rattle.moves.specs.Settle.{refusedMove}
 use Rattle.relocate.specs.declared.Frame.{Frame}
 use Rattle.relocate.specs.Plan.{recordsOf, imageRight, stackSize}
-use Rattle.relocate.specs.Relocation.{answer}
+use Rattle.relocate.specs.Relocation.{answer, Extent, extentOf}
 use Rattle.stackmap.proofs.Tests.{and-true}
 use Rattle.relocate.proofs.Planned.{planned}
 use Rattle.relocate.proofs.Asking.{functions-inside, owner-number, size-is}
 use Rattle.relocate.proofs.Demand.{accepts}
 use Rattle.thread.specs.Stretches.{share, sharesAny, Apart}
-use Rattle.thread.specs.Thread.{frameAt, framesFrom, Extent, extentOf, sharesOne, apart}
+use Rattle.thread.specs.Thread.{frameAt, framesFrom, sharesOne, apart}
 use Rattle.thread.specs.Code.{Sited}
 use Rattle.thread.proofs.StretchesApart.{share-empty-2, apart-none, none-shares}
 use Rattle.thread.proofs.Judging.{frames-step, frames-end, frames-start}

@@ -10,6 +10,7 @@ use lib.Dec.{leb}
 use lib.ListN.{length, length-map}
 use Rattle.stackmap.specs.declared.Verdict.{Verdict}
 use Rattle.stackmap.specs.declared.Verdict.the-variants.{Valid, Refused}
+use Rattle.stackmap.specs.Verdict.{need}
 use Rattle.stackmap.specs.Section.{isOld, Record, Entry, readSection}
 use Rattle.stackmap.specs.Check.{sectionCheck}
 use Rattle.questions.specs.Questions.{ask}
@@ -20,7 +21,7 @@ use Rattle.moves.specs.Plan.{Plan, refuse, window, says}
 use Rattle.moves.proofs.Order.{settled-most}
 use Rattle.relocate.specs.declared.Frame.{Frame}
 use Rattle.relocate.specs.Statepoint.{isStatepoint, Pair, pairs, rightForm, inside, pointerOf}
-use Rattle.relocate.specs.Plan.{recordsOf, need, only, every, imageRight, extentRight, stackSize, planPairs, planRecord, planEntry, plan}
+use Rattle.relocate.specs.Plan.{recordsOf, only, every, imageRight, extentRight, stackSize, planPairs, planRecord, planEntry, plan}
 use Rattle.relocate.specs.Relocation.{answer}
 
 -- a plan with so few pointers
@@ -28,8 +29,7 @@ abbrev Few : Plan → Type 0
 Few (refuse n p) = Unit {0}
 Few (window off size ps) = length ps ≤ 256
 
-need-few : (b : Bool) (n : ℕ) (k : Plan) → (b ≡ true → Few k) → Few (need b n k)
-unfolding need
+need-few : (b : Bool) (n : ℕ) (k : Plan) → (b ≡ true → Few k) → Few (need b (refuse n 0) k)
 need-few true n k h = h refl
 need-few false n k h = tt
 
@@ -62,13 +62,14 @@ pairs-few old pool f off size ps h =
 record-few : (old : Bool) (pool : List ℕ) (first n : ℕ) (f : Frame) (size : ℕ) (r : Record) → Few (planRecord old pool first n f size r)
 unfolding planRecord
 record-few old pool first n f size r =
-    need-few _ 12 _ (λ a. need-few _ 16 _ (λ b. need-few _ 17 _ (λ c. pairs-few old pool f _ size (pairs r) (leb-true (length (pairs r)) 256 c))))
+    need-few (isStatepoint r) 12 _ (λ a. need-few (extentRight first n (f .rsp) size) 16 _ (λ b. need-few (leb (length (pairs r)) 256) 17 _ (λ c.
+    pairs-few old pool f _ size (pairs r) (leb-true (length (pairs r)) 256 c))))
 
 plan-few : (s olds news : List ℕ) (first n : ℕ) (f : Frame) → Few (plan s olds news first n f)
 unfolding plan
 plan-few s olds news first n f =
     ask-few (sectionCheck s) _
-    (need-few _ 13 _ (λ a. need-few _ 14 _ (λ b.
+    (need-few (imageRight first n) 13 _ (λ a. need-few (tableRight olds news) 14 _ (λ b.
     only-few (recordsOf s f) _ (λ e. record-few (isOld s) (readSection s .constants) first n f (stackSize e) (e .body)))))
 
 says-few : (table : ℕ → Option ℕ) (im : List ℕ) (p : Plan) → Few p → says table im p .count ≤ 256
