@@ -3,7 +3,7 @@ use Prim.Native.Nat.{ℕ, suc, _≤_}
 use mathlib.Core.Path.{_≡_, refl}
 use mathlib.Core.Bool.{Bool, true, false}
 use mathlib.Core.Option.{Option}
-use mathlib.Core.List.{List, [], _∷_, map}
+use mathlib.Core.List.{List, [], _∷_}
 use native.Mathlib.Omega.{arith}
 use borrow.Author.Tests.{leb-true}
 use lib.Dec.{leb}
@@ -15,13 +15,12 @@ use Rattle.stackmap.specs.Section.{isOld, Record, Entry, readSection}
 use Rattle.stackmap.specs.Check.{sectionCheck}
 use Rattle.questions.specs.Questions.{ask}
 use Rattle.moves.specs.Table.{tableRight, lookUp}
-use Rattle.moves.specs.Pointers.{Pointer}
 use Rattle.moves.specs.Window.{part}
 use Rattle.moves.specs.Plan.{Plan, refuse, window, says}
 use Rattle.moves.proofs.Order.{settled-most}
 use Rattle.relocate.specs.declared.Frame.{Frame}
 use Rattle.relocate.specs.Statepoint.{isStatepoint, Pair, pairs, rightForm, inside, pointerOf}
-use Rattle.relocate.specs.Plan.{recordsOf, only, every, imageRight, extentRight, stackSize, planPairs, planRecord, planEntry, plan}
+use Rattle.relocate.specs.Plan.{recordsOf, only, every, imageRight, extentRight, stackSize, planPairs, planRecord, plan}
 use Rattle.relocate.specs.Relocation.{answer}
 
 -- a plan with so few pointers

@@ -1,22 +1,16 @@
 -- Stretches that share a byte, extents as stretches, and what the test of a list's extents tells: that they share none.
-use Prim.Native.Nat.{ℕ, suc, _+_, max, _≤_, _<_}
+use Prim.Native.Nat.{ℕ, suc, max, _≤_, _<_}
 use mathlib.Core.Path.{_≡_, refl, sym, _∙_}
-use mathlib.Core.Bool.{Bool, true, false, cond, true≢false}
+use mathlib.Core.Bool.{Bool, true, false, true≢false}
 use mathlib.Core.Logic.{_⊎_, inl, inr, ⊎-elim}
 use mathlib.Core.List.{List, [], _∷_, map, List·Memᴰ, List·Memᴰ·head, List·Memᴰ·tail, List·Memᴰ·not-nil, List·Memᴰ·cases-cons}
 use native.Mathlib.Omega.{arith}
-use borrow.Author.Tests.{ltb-true, eqb-false, lt-ltb, ne-eqb}
-use lib.Dec.{eqb}
-use Rattle.stackmap.specs.Layout.{stackSizeUnknown}
-use Rattle.stackmap.specs.Section.{Entry}
 use Rattle.moves.specs.declared.Move.{Move}
 use Rattle.moves.specs.Settle.{refusedMove}
 use Rattle.moves.proofs.Searches.{or-no}
 use Rattle.relocate.specs.declared.Frame.{Frame}
-use Rattle.relocate.specs.Plan.{recordsOf, stackSize}
 use Rattle.relocate.specs.Relocation.{Extent, extentOf, InExtent}
 use Rattle.relocate.specs.Lists.{Disjoint}
-use Rattle.stackmap.proofs.Tests.{and-true}
 use Rattle.thread.specs.Stretches.{share}
 use Rattle.thread.specs.Thread.{sharesOne, apart}
 use Rattle.thread.proofs.StretchesApart.{share-yes, share-told}

@@ -1,20 +1,18 @@
 -- The whole call, from its stages.
-use Prim.Native.Nat.{ℕ, zero, suc, _+_, _*_, _-_, _/_, _≤_, _<_}
+use Prim.Native.Nat.{ℕ, zero, suc, _+_, _*_, _/_, _≤_, _<_}
 use mathlib.Core.Path.{_≡_, refl, sym, ap, _∙_}
 use mathlib.Core.Bool.{Bool, true, false, cond}
 use mathlib.Core.List.{List, [], _∷_, map, List·Memᴰ, List·Memᴰ·head, List·Memᴰ·tail}
 use native.Mathlib.Omega.{arith}
 use native.Mathlib.Decide.{ℕ-discrete}
-use borrow.Author.Tests.{eq-eqb, ne-eqb, lt-ltb, le-ltb, eqb-true, eqb-false}
+use borrow.Author.Tests.{ne-eqb, lt-ltb, le-ltb}
 use lib.Dec.{eqb, ltb}
 use lib.ListN.{length, getD, replicate}
-use Rattle.stackmap.specs.declared.Verdict.{Verdict}
 use Rattle.stackmap.specs.declared.Verdict.the-variants.{Valid, Refused}
 use Rattle.stackmap.specs.Verdict.{need}
 use Rattle.stackmap.specs.Check.{sectionCheck, Accepted}
 use Rattle.stackmap.proofs.Numbers.{section-numbered}
 use Rattle.stackmap.proofs.Forth.{accepted-length}
-use Rattle.questions.specs.declared.Hits.{Hits}
 use Rattle.questions.specs.Kept.{noHits}
 use Rattle.questions.specs.Questions.{ask}
 use Rattle.moves.specs.declared.Move.{Move}
@@ -25,7 +23,7 @@ use Rattle.relocate.specs.Plan.{imageRight}
 use Rattle.relocate.specs.Relocation.{answer, extentOf}
 use Rattle.relocate.specs.Lists.{final}
 use Rattle.thread.specs.Thread.{listRight, frameAt, framesFrom, framesOf, passes, apart, judged, pairsIn, threadAnswer, threadImage, Threads}
-use Rattle.thread.specs.Code.{hitsAt, Holding, Counted, EachSited, framesAnswer, framesImage}
+use Rattle.thread.specs.Code.{Holding, Counted, EachSited, framesAnswer, framesImage}
 use Rattle.thread.proofs.OneInstant.{judged-tells, judged-passes}
 use Rattle.thread.proofs.Earlier.{accepted-sited}
 
