@@ -1,5 +1,5 @@
 -- What the arrays of the code make is what the pairs' list makes.
-use Prim.Native.Nat.{ℕ, zero, suc, _+_, _-_, _≤_, _<_}
+use Prim.Native.Nat.{ℕ, zero, suc, _+_, _≤_, _<_}
 use mathlib.Core.Path.{_≡_, refl, sym, ap, _∙_}
 use mathlib.Core.Bool.{Bool, true, false, cond}
 use mathlib.Core.Option.{Option}
@@ -11,7 +11,7 @@ use lib.Dec.{eqb}
 use lib.ListN.{length, getD}
 use Rattle.wire.specs.Word.{word}
 use Rattle.moves.specs.Pointers.{Pointer, null, slots, slotsClash, clash, unknown, newDerived, newContent}
-use Rattle.moves.specs.Settle.{refusedMove, acceptedMove, put, first20, first21, write1, write, answerFor, bytesFor, settled, settle, settleIf, Settles}
+use Rattle.moves.specs.Settle.{refusedMove, acceptedMove, put, first20, first21, write1, write, atLowest, settled, settle, settleIf, Settles}
 use Rattle.moves.specs.Arrays.{pointerAt, listFrom, pointersOf, clashAt, firstClash, Within, Filled, unknownAt, firstUnknown, putOne, puts}
 use Rattle.moves.proofs.Searches.{lowest-ext, any-ext}
 
@@ -85,7 +85,7 @@ module _ (live bs ds : List ℕ) (n : ℕ) where
 
       pub done : (p u : ℕ) → p ≡ firstClash live bs ds vs n → n ≤ p → u ≡ firstUnknown table live vs n → n ≤ u
           → Settles table true (acceptedMove n) (puts live ds cs n 0 w) (pointersOf n live bs ds) w
-      unfolding settled settle answerFor bytesFor pointersOf
+      unfolding settled settle atLowest pointersOf
       done p u a b d e =
           record {
             answer = rw (← first20-meets, ← first21-meets, ← a, ← d, pointers-length, le-ltb p n b, le-ltb u n e);
@@ -97,7 +97,7 @@ module _ (live bs ds : List ℕ) (n : ℕ) where
     -- only judged: accepted, and nothing is written
     pub fine : (p u : ℕ) → p ≡ firstClash live bs ds vs n → n ≤ p → u ≡ firstUnknown table live vs n → n ≤ u
         → Settles table false (acceptedMove n) w (pointersOf n live bs ds) w
-    unfolding settled answerFor
+    unfolding settled atLowest
     fine p u a b d e =
         record { answer = rw (← first20-meets, ← first21-meets, ← a, ← d, pointers-length, le-ltb p n b, le-ltb u n e); left = refl }
 
@@ -107,7 +107,7 @@ module _ (live bs ds : List ℕ) (n : ℕ) where
     stays false ps h = refl
 
     pub stop20 : (write : Bool) (p : ℕ) → p ≡ firstClash live bs ds vs n → p < n → Settles table write (refusedMove 20 p) w (pointersOf n live bs ds) w
-    unfolding settled settle answerFor bytesFor
+    unfolding settled settle atLowest
     stop20 write p a b =
         record {
           answer = rw (← first20-meets, ← a, pointers-length, lt-ltb p n b);
@@ -116,7 +116,7 @@ module _ (live bs ds : List ℕ) (n : ℕ) where
 
     pub stop21 : (write : Bool) (p u : ℕ) → p ≡ firstClash live bs ds vs n → n ≤ p → u ≡ firstUnknown table live vs n → u < n
         → Settles table write (refusedMove 21 u) w (pointersOf n live bs ds) w
-    unfolding settled settle answerFor bytesFor
+    unfolding settled settle atLowest
     stop21 write p u a b d e =
         record {
           answer = rw (← first20-meets, ← first21-meets, ← a, ← d, pointers-length, le-ltb p n b, lt-ltb u n e);

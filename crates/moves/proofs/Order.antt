@@ -1,11 +1,12 @@
 -- The move of a window: byte by byte, and in any order of its pairs.
 use Prim.Native.Nat.{ℕ, _+_, _-_, _≤_, _<_}
 use mathlib.Core.Path.{_≡_, refl, sym, ap, _∙_}
-use mathlib.Core.Bool.{Bool, true, false, not, _&&_, _||_, true≢false, and-comm}
+use mathlib.Core.Bool.{Bool, true, false, cond, not, _&&_, _||_, true≢false, and-comm}
 use mathlib.Core.Logic.{_↔_, _⊎_, inl, inr}
 use mathlib.Core.Option.{Option}
 use mathlib.Core.List.{List, List·Memᴰ, List·Permᴰ, Permᴰ·symm}
 use native.Mathlib.Omega.{arith}
+use native.Mathlib.Decide.{ℕ-discrete}
 use borrow.Author.Tests.{eqb-true, eqb-false, lt-ltb, le-ltb, ltb-true, ltb-false, eq-eqb, ne-eqb, not-false}
 use lib.Dec.{eqb, ltb}
 use lib.ListN.{length, getD}
@@ -14,7 +15,7 @@ use Rattle.moves.specs.declared.Move.{Move}
 use Rattle.moves.specs.Window.{In}
 use Rattle.wire.specs.Word.{word, bytes}
 use Rattle.moves.specs.Pointers.{Pointer, null, slots, overlap, anyOverlap, clash, slotsClash, unknown, newContent}
-use Rattle.moves.specs.Settle.{acceptedMove, first20, first21, write, answerFor, answerBy, bytesFor, bytesBy, settled, settle}
+use Rattle.moves.specs.Settle.{refusedMove, acceptedMove, atLowest, first20, first21, write, settled, settle}
 use Rattle.moves.proofs.Searches.{or-no, perm-mem, perm-length, pairwise-no, pairwise-perm, each-perm}
 use Rattle.moves.proofs.Writes.{Agree, Inside, Hits, hits?, write-length, write-hit, write-miss}
 
@@ -91,12 +92,16 @@ ltb-same a n a′ n′ f = go (ltb a n) refl (ltb a′ n′) refl
     go true d false e = let l : n ≤ a = f .1 (ltb-false a′ n′ e) in absurd (omega (arith, ltb-true a n d))
     go false d true e = let l : n′ ≤ a′ = f .0 (ltb-false a n d) in absurd (omega (arith, ltb-true a′ n′ e))
 
+-- the answer by the first pair that collides, the first whose base is unknown, and the number of pairs
+abbrev answerFor : ℕ → ℕ → ℕ → Move
+answerFor a u n = atLowest 20 a n (atLowest 21 u n (acceptedMove n))
+
 answer-0 : (a u n : ℕ) → answerFor a u n .number ≡ 0 → (n ≤ a) × (n ≤ u)
-unfolding answerFor
+unfolding atLowest
 answer-0 a u n = go (ltb a n) refl (ltb u n) refl
   where
     go : (s : Bool) → ltb a n ≡ s → (t : Bool) → ltb u n ≡ t
-        → answerBy s t a u n .number ≡ 0
+        → cond s (refusedMove 20 a) (cond t (refusedMove 21 u) (acceptedMove n)) .number ≡ 0
         → (n ≤ a) × (n ≤ u)
     go true d t e z = absurd (omega arith)
     go false d true e z = absurd (omega arith)
@@ -109,31 +114,20 @@ pub record Alike (a a′ : Move) : Type 0 where
   pub place : a .number < 18 → a′ .place ≡ a .place
 
 answers-alike : (a u n a′ u′ n′ : ℕ) → n ≤ a ↔ n′ ≤ a′ → n ≤ u ↔ n′ ≤ u′ → n ≡ n′ → Alike (answerFor a u n) (answerFor a′ u′ n′)
-unfolding answerFor
+unfolding atLowest
 answers-alike a u n a′ u′ n′ f g e = rw (ltb-same a n a′ n′ f, ltb-same u n u′ n′ g) (go (ltb a′ n′) (ltb u′ n′))
   where
-    go : (s t : Bool) → Alike (answerBy s t a u n) (answerBy s t a′ u′ n′)
+    go : (s t : Bool)
+        → Alike (cond s (refusedMove 20 a) (cond t (refusedMove 21 u) (acceptedMove n)))
+        (cond s (refusedMove 20 a′) (cond t (refusedMove 21 u′) (acceptedMove n′)))
     go true t = record { number = refl; count = refl; place = λ l. absurd (omega arith) }
     go false true = record { number = refl; count = refl; place = λ l. absurd (omega arith) }
     go false false = record { number = refl; count = sym e; place = λ l. refl }
 
-bytes-same : (a u n a′ u′ n′ : ℕ) (w x y : List ℕ) → n ≤ a ↔ n′ ≤ a′ → n ≤ u ↔ n′ ≤ u′ → (n ≤ a → x ≡ y) → bytesFor a u n w x ≡ bytesFor a′ u′ n′ w y
-unfolding bytesFor
-bytes-same a u n a′ u′ n′ w x y f g h = rw (← (ltb-same a n a′ n′ f), ← (ltb-same u n u′ n′ g)) (go (ltb a n) refl)
-  where
-    go : (s : Bool) → ltb a n ≡ s → bytesBy s (ltb u n) w x ≡ bytesBy s (ltb u n) w y
-    go true d = refl
-    go false d = rw (h (ltb-false a n d))
-
--- what holds of both holds of the bytesFor
-bytes-are : (a u n : ℕ) (old new : List ℕ) (P : List ℕ → Type 0) → P old → P new → P (bytesFor a u n old new)
-unfolding bytesFor
-bytes-are a u n old new P p q = go (ltb a n) (ltb u n)
-  where
-    go : (s t : Bool) → P (bytesBy s t old new)
-    go true t = p
-    go false true = p
-    go false false = q
+-- what holds of both holds of the one that is taken
+either : (t : Bool) (new old : List ℕ) (P : List ℕ → Type 0) → P new → P old → P (cond t new old)
+either true new old P p q = p
+either false new old P p q = q
 
 module _ (table : ℕ → Option ℕ) where
   first21-perm : {ps qs : List Pointer} (w : List ℕ) → List·Permᴰ ps qs → length ps ≤ first21 table ps w → length qs ≤ first21 table qs w
@@ -156,64 +150,70 @@ module _ (table : ℕ → Option ℕ) where
   -- 3: the new window, byte by byte
   pub settle-length : (ps : List Pointer) (w : List ℕ) → length (settle table ps w) ≡ length w
   unfolding settle
-  settle-length ps w = bytes-are (first20 ps w) (first21 table ps w) (length ps) w (write table w w ps) (λ l. length l ≡ length w) refl (write-length table ps w w)
+  settle-length ps w = either (eqb (settled table ps w .number) 0) (write table w w ps) w (λ l. length l ≡ length w) (write-length table ps w w) refl
 
   pub settle-refused : (ps : List Pointer) (w : List ℕ) → (settled table ps w .number ≡ 0 → ⊥) → settle table ps w ≡ w
-  unfolding settle settled answerFor bytesFor
-  settle-refused ps w = go (ltb (first20 ps w) (length ps)) (ltb (first21 table ps w) (length ps))
-    where
-      go : (s t : Bool) → (answerBy s t (first20 ps w) (first21 table ps w) (length ps) .number ≡ 0 → ⊥)
-          → bytesBy s t w (write table w w ps) ≡ w
-      go true t n = refl
-      go false true n = refl
-      go false false n = absurd (n refl)
+  unfolding settle
+  settle-refused ps w h = rw (ne-eqb (settled table ps w .number) 0 h)
 
-  settle-accepted : (ps : List Pointer) (w : List ℕ) → settled table ps w .number ≡ 0 → (settle table ps w ≡ write table w w ps) × Agree w ps
-  unfolding settle settled bytesFor
-  settle-accepted ps w e =
-      let o : (length ps ≤ first20 ps w) × (length ps ≤ first21 table ps w) = answer-0 (first20 ps w) (first21 table ps w) (length ps) e in
-      (rw (le-ltb _ _ (o .0), le-ltb _ _ (o .1)), first20-agree ps w (o .0))
+  passed : (ps : List Pointer) (w : List ℕ) → settled table ps w .number ≡ 0 → (length ps ≤ first20 ps w) × (length ps ≤ first21 table ps w)
+  unfolding settled
+  passed ps w e = answer-0 (first20 ps w) (first21 table ps w) (length ps) e
+
+  settle-accepted : (ps : List Pointer) (w : List ℕ) → settled table ps w .number ≡ 0 → settle table ps w ≡ write table w w ps
+  unfolding settle
+  settle-accepted ps w e = rw (eq-eqb (settled table ps w .number) 0 e)
 
   -- the whole of an accepted answer, and the count of a refused one
   pub accepted-whole : (ps : List Pointer) (w : List ℕ) → settled table ps w .number ≡ 0 → settled table ps w ≡ acceptedMove (length ps)
-  unfolding settled answerFor
-  accepted-whole ps w e =
-      let o : (length ps ≤ first20 ps w) × (length ps ≤ first21 table ps w) = answer-0 (first20 ps w) (first21 table ps w) (length ps) e in
-      rw (le-ltb _ _ (o .0), le-ltb _ _ (o .1))
+  unfolding settled atLowest
+  accepted-whole ps w e = let o = passed ps w e in rw (le-ltb _ _ (o .0), le-ltb _ _ (o .1))
 
   pub refused-count : (ps : List Pointer) (w : List ℕ) → (settled table ps w .number ≡ 0 → ⊥) → settled table ps w .count ≡ 0
-  unfolding settled answerFor
+  unfolding settled atLowest
   refused-count ps w = go (ltb (first20 ps w) (length ps)) (ltb (first21 table ps w) (length ps))
     where
-      go : (s t : Bool) → (answerBy s t (first20 ps w) (first21 table ps w) (length ps) .number ≡ 0 → ⊥)
-          → answerBy s t (first20 ps w) (first21 table ps w) (length ps) .count ≡ 0
+      by : Bool → Bool → Move
+      by s t = cond s (refusedMove 20 (first20 ps w)) (cond t (refusedMove 21 (first21 table ps w)) (acceptedMove (length ps)))
+
+      go : (s t : Bool) → (by s t .number ≡ 0 → ⊥) → by s t .count ≡ 0
       go true t n = refl
       go false true n = refl
       go false false n = absurd (n refl)
+
+  -- no count is above the number of pairs
+  pub settled-most : (ps : List Pointer) (w : List ℕ) → settled table ps w .count ≤ length ps
+  settled-most ps w = go (ℕ-discrete (settled table ps w .number) 0)
+    where
+      go : Dec (settled table ps w .number ≡ 0) → settled table ps w .count ≤ length ps
+      go (yes e) = rw (accepted-whole ps w e) (omega arith)
+      go (no n) = rw (refused-count ps w n) (omega arith)
 
   pub settle-hit : (ps : List Pointer) (w : List ℕ) → settled table ps w .number ≡ 0 → Inside (length w) ps
       → (i b d : ℕ) → List·Memᴰ (slots b d) ps → In d 8 i → getD (settle table ps w) i 0 ≡ getD (bytes 8 (newContent table w b d)) (i - d) 0
   settle-hit ps w e inside i b d m q =
-      let o : (settle table ps w ≡ write table w w ps) × Agree w ps = settle-accepted ps w e in
-      rw (o .0) (write-hit table ps w w (o .1) inside i b d m q)
+      rw (settle-accepted ps w e) (write-hit table ps w w (first20-agree ps w (passed ps w e .0)) inside i b d m q)
 
   pub settle-miss : (ps : List Pointer) (w : List ℕ) (i : ℕ) → (Hits i ps → ⊥) → getD (settle table ps w) i 0 ≡ getD w i 0
   unfolding settle
   settle-miss ps w i n =
-      bytes-are (first20 ps w) (first21 table ps w) (length ps) w (write table w w ps) (λ l. getD l i 0 ≡ getD w i 0) refl (write-miss table ps w w i n)
+      either (eqb (settled table ps w .number) 0) (write table w w ps) w (λ l. getD l i 0 ≡ getD w i 0) (write-miss table ps w w i n) refl
 
   -- 4: another order of the pairs
-  pub settle-perm : {ps qs : List Pointer} (w : List ℕ) → List·Permᴰ ps qs → Inside (length w) ps
-      → Alike (settled table ps w) (settled table qs w) × (settle table ps w ≡ settle table qs w)
-  unfolding settle settled
-  settle-perm {ps} {qs} w p inside = (
-    answers-alike (first20 ps w) (first21 table ps w) (length ps) (first20 qs w) (first21 table qs w) (length qs) f g (perm-length p),
-    bytes-same (first20 ps w) (first21 table ps w) (length ps) (first20 qs w) (first21 table qs w) (length qs) w (write table w w ps) (write table w w qs) f g
-        (λ e. write-perm w p (first20-agree ps w e) (first20-agree qs w (f .0 e)) inside),
-  )
-    where
-      f : length ps ≤ first20 ps w ↔ length qs ≤ first20 qs w
-      f = (first20-perm w p, first20-perm w (Permᴰ·symm p))
+  module _ {ps qs : List Pointer} (w : List ℕ) (p : List·Permᴰ ps qs) where
+    settled-perm : Alike (settled table ps w) (settled table qs w)
+    unfolding settled
+    settled-perm =
+        answers-alike (first20 ps w) (first21 table ps w) (length ps) (first20 qs w) (first21 table qs w) (length qs)
+        (first20-perm w p, first20-perm w (Permᴰ·symm p)) (first21-perm w p, first21-perm w (Permᴰ·symm p)) (perm-length p)
 
-      g : length ps ≤ first21 table ps w ↔ length qs ≤ first21 table qs w
-      g = (first21-perm w p, first21-perm w (Permᴰ·symm p))
+    pub settle-perm : Inside (length w) ps → Alike (settled table ps w) (settled table qs w) × (settle table ps w ≡ settle table qs w)
+    settle-perm inside = (settled-perm, go (ℕ-discrete (settled table ps w .number) 0))
+      where
+        go : Dec (settled table ps w .number ≡ 0) → settle table ps w ≡ settle table qs w
+        go (yes e) =
+            let e′ : settled table qs w .number ≡ 0 = settled-perm .number ∙ e in
+            settle-accepted ps w e
+            ∙ write-perm w p (first20-agree ps w (passed ps w e .0)) (first20-agree qs w (passed qs w e′ .0)) inside
+            ∙ sym (settle-accepted qs w e′)
+        go (no n) = settle-refused ps w n ∙ sym (settle-refused qs w (λ z. n (sym (settled-perm .number) ∙ z)))

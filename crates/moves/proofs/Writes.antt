@@ -63,7 +63,7 @@ Inside n ps = (b d : ℕ) → List·Memᴰ (slots b d) ps → d + 8 ≤ n
 module _ (table : ℕ → Option ℕ) where
   pub write1-length : (old cur : List ℕ) (p : Pointer) → length (write1 table old cur p) ≡ length cur
   write1-length old cur null = refl
-  write1-length old cur (slots b d) = put-length cur d (newContent table old b d)
+  write1-length old cur (slots b d) = put-length cur d _
 
   pub write-length : (ps : List Pointer) (old cur : List ℕ) → length (write table old cur ps) ≡ length cur
   write-length [] old cur = refl
@@ -73,8 +73,8 @@ module _ (table : ℕ → Option ℕ) where
   write-miss [] old cur i n = refl
   write-miss (null ∷ ps) old cur i n = write-miss ps old cur i (λ h. n (h .0, h .1, List·Memᴰ·tail (h .2), h .3))
   write-miss (slots b d ∷ ps) old cur i n =
-      write-miss ps old (put cur d (newContent table old b d)) i (λ h. n (h .0, h .1, List·Memᴰ·tail (h .2), h .3))
-      ∙ put-out cur d (newContent table old b d) i (λ q. n (b, d, List·Memᴰ·head refl, q))
+      write-miss ps old (write1 table old cur (slots b d)) i (λ h. n (h .0, h .1, List·Memᴰ·tail (h .2), h .3))
+      ∙ put-out cur d _ i (λ q. n (b, d, List·Memᴰ·head refl, q))
 
   same-content : (old : List ℕ) (b d b′ d′ : ℕ) → (d ≡ d′) × (word 8 old b ≡ word 8 old b′) → newContent table old b d ≡ newContent table old b′ d′
   unfolding newContent

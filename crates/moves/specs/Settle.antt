@@ -1,10 +1,10 @@
 -- What a move answers and leaves, by the bytes of the frame's window.
 use Prim.Native.Nat.{ℕ}
 use mathlib.Core.Path.{_≡_}
-use mathlib.Core.Bool.{Bool, true, false}
+use mathlib.Core.Bool.{Bool, true, false, cond}
 use mathlib.Core.Option.{Option}
 use mathlib.Core.List.{List, [], _∷_}
-use lib.Dec.{ltb}
+use lib.Dec.{eqb, ltb}
 use lib.ListN.{length, getD}
 use lib.Seq.{sets}
 use Rattle.wire.specs.Word.{bytes}
@@ -21,24 +21,9 @@ refusedMove n p = record { number = n; place = p; count = 0 }
 abbrev pub acceptedMove : ℕ → Move
 acceptedMove n = record { number = 0; place = 0; count = n }
 
--- 20 over all pairs before 21, each at the lowest pair with the fault: of n pairs, c is the first that collides and u the first
--- whose base is unknown, and n stands for none
-abbrev pub answerBy : Bool → Bool → ℕ → ℕ → ℕ → Move
-answerBy true t c u n = refusedMove 20 c
-answerBy false true c u n = refusedMove 21 u
-answerBy false false c u n = acceptedMove n
-
-unfoldable pub answerFor : ℕ → ℕ → ℕ → Move
-answerFor c u n = answerBy (ltb c n) (ltb u n) c u n
-
--- a refused move leaves the old bytes, and an accepted one the new ones
-abbrev pub bytesBy : Bool → Bool → List ℕ → List ℕ → List ℕ
-bytesBy true t old new = old
-bytesBy false true old new = old
-bytesBy false false old new = new
-
-unfoldable pub bytesFor : ℕ → ℕ → ℕ → List ℕ → List ℕ → List ℕ
-bytesFor c u n old new = bytesBy (ltb c n) (ltb u n) old new
+-- a refusal at the lowest pair with a fault, of n pairs; p is n where no pair has it, and then go on
+unfoldable pub atLowest : ℕ → ℕ → ℕ → Move → Move
+atLowest number p n k = cond (ltb p n) (refusedMove number p) k
 
 -- the lowest pair that collides
 unfoldable pub first20 : List Pointer → List ℕ → ℕ
@@ -62,12 +47,16 @@ module _ (table : ℕ → Option ℕ) where
   write old cur [] = cur
   write old cur (p ∷ ps) = write old (write1 old cur p) ps
 
-  -- the answer, and the window's bytes after the move
+  -- the answer: 20 over all pairs, then 21, then accepted
   unfoldable pub settled : List Pointer → List ℕ → Move
-  settled ps w = answerFor (first20 ps w) (first21 ps w) (length ps)
+  settled ps w =
+      atLowest 20 (first20 ps w) (length ps)
+      (atLowest 21 (first21 ps w) (length ps)
+      (acceptedMove (length ps)))
 
+  -- the window's bytes after the move: the new ones, or the old ones where it is refused
   unfoldable pub settle : List Pointer → List ℕ → List ℕ
-  settle ps w = bytesFor (first20 ps w) (first21 ps w) (length ps) w (write w w ps)
+  settle ps w = cond (eqb (settled ps w .number) 0) (write w w ps) w
 
   -- the window's bytes after the frame is moved, or is only judged
   abbrev pub settleIf : Bool → List Pointer → List ℕ → List ℕ

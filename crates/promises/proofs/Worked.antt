@@ -18,10 +18,10 @@ use Rattle.moves.specs.Window.{splice}
 use Rattle.moves.specs.Search.{lowest}
 use Rattle.moves.specs.Table.{rising, noZero, tableRight, lookUp}
 use Rattle.moves.specs.Pointers
-use Rattle.moves.specs.Settle.{answerFor, bytesFor, first20, put, first21, settled, settle}
+use Rattle.moves.specs.Settle.{atLowest, first20, put, first21, settled, settle}
 use Rattle.relocate.specs.Statepoint.{deoptCount, constantHead, pairedRest, isStatepoint, pairUp, pairs, isZero, isNull, sizeRight, isSlot, rightForm}
-use Rattle.relocate.specs.Statepoint.{registerOf, excess, slotAt, slotInside, inside, pointerOf}
-use Rattle.relocate.specs.Plan.{recordsOf, need, only, every, imageRight, extentRight, planPairs, planRecord, plan}
+use Rattle.relocate.specs.Statepoint.{registerOf, asOffset, slotAddress, slotInside, slotAt, inside, pointerOf}
+use Rattle.relocate.specs.Plan.{recordsOf, only, every, imageRight, extentRight, planPairs, planRecord, plan}
 use Rattle.relocate.specs.Relocation.{answer, moved}
 use Rattle.promises.specs.Worked.{got, header, sectionH, listingH, sectionOldH, listingOldH, image, table, WorkedTable}
 
@@ -34,8 +34,8 @@ unfolding word bytes must chain bind pick shift bytesOf size all many functionFi
     listedLocation listedLiveOut listedRecord recordStop listedRecords recordsStop readItems listedOld readListing itemsStop notTooMany
     noCounts smallSizes allSmallSizes oldRight itemsCheck listingCheck toListing toSection result address entriesFrom entriesOf entries ask
     withAddress ownedBy namedIn sought constantOf splice lowest rising noZero tableRight lookUp Pointers.overlap Pointers.anyOverlap
-    Pointers.slotsClash Pointers.clash Pointers.newDerived Pointers.newContent answerFor bytesFor first20 put first21 settled settle
-    deoptCount constantHead pairedRest isStatepoint pairUp pairs isZero isNull sizeRight isSlot rightForm registerOf excess slotAt
-    slotInside inside pointerOf recordsOf need only every imageRight extentRight planPairs planRecord plan answer moved got header sectionH
+    Pointers.slotsClash Pointers.clash Pointers.newDerived Pointers.newContent atLowest first20 put first21 settled settle
+    deoptCount constantHead pairedRest isStatepoint pairUp pairs isZero isNull sizeRight isSlot rightForm registerOf asOffset
+    slotAddress slotInside slotAt inside pointerOf recordsOf only every imageRight extentRight planPairs planRecord plan answer moved got header sectionH
     listingH sectionOldH listingOldH image table
 worked = refl

@@ -1,21 +1,26 @@
 -- Demand 3, from the list theorem of the crate below.
-use Prim.Native.Nat.{ℕ, _+_, _-_, _≤_}
+use Prim.Native.Nat.{ℕ, _+_, _-_, _≤_, _<_}
 use mathlib.Core.Path.{_≡_, refl, sym, ap, _∙_, subst, fun-ext}
 use mathlib.Core.Logic.{_⊎_, inl, inr, ⊎-elim}
 use mathlib.Core.Option.{Option}
 use mathlib.Core.List.{List, [], _∷_, map, List·Memᴰ, Memᴰ·map, List·Memᴰ·head, List·Memᴰ·tail, List·Memᴰ·cases-cons, List·Permᴰ, List·Permᴰ·nil, List·Permᴰ·cons, List·Permᴰ·swap, List·Permᴰ·trans, Permᴰ·symm}
 use native.Mathlib.Omega.{arith}
+use borrow.Author.Tests.{ne-eqb}
 use lib.ListN.{length, getD}
 use lib.Seq.{ext-getD}
 use Rattle.wire.specs.Word.{bytes}
-use Rattle.stackmap.specs.declared.Verdict.the-variants.{Valid}
-use Rattle.stackmap.specs.Section.{readSection}
-use Rattle.stackmap.specs.Check.{sectionCheck}
+use Rattle.stackmap.specs.declared.Verdict.{Verdict}
+use Rattle.stackmap.specs.declared.Verdict.the-variants.{Valid, Refused}
+use Rattle.stackmap.specs.Layout.{stackSizeUnknown}
+use Rattle.stackmap.specs.Section.{Entry, readSection}
+use Rattle.stackmap.specs.Check.{sectionCheck, Accepted}
+use Rattle.stackmap.proofs.Numbers.{section-numbered}
+use Rattle.stackmap.proofs.Forth.{accepted-length}
+use Rattle.questions.specs.Questions.{ask}
 use Rattle.moves.specs.declared.Move.{Move}
 use Rattle.moves.specs.Window.{In, part}
 use Rattle.moves.specs.Table.{lookUp}
-use Rattle.moves.specs.Pointers.{Pointer, slots, newDerived}
-use Rattle.moves.specs.Pointers.{newContent as windowContent}
+use Rattle.moves.specs.Pointers.{Pointer, slots, newContent}
 use Rattle.moves.specs.Settle.{settled}
 use Rattle.moves.specs.Plan.{Plan, refuse, window, says, leaves}
 use Rattle.moves.proofs.Searches.{perm-mem}
@@ -27,20 +32,37 @@ use Rattle.moves.proofs.Lists.{Disjoint as WindowsApart, answers as list-answer
 use Rattle.relocate.specs.declared.Frame.{Frame}
 use Rattle.relocate.specs.Statepoint.{pairs, slotAt, pointerOf}
 use Rattle.relocate.specs.Plan.{plan, stackSize}
-use Rattle.relocate.specs.Relocation.{answer, moved, InExtent, newStart, newContent}
-use Rattle.relocate.specs.Lists.{answers, final, Disjoint, Written, Demand3, OrderFree}
-use Rattle.relocate.proofs.Planned.{Above, planned, plan-above, window-pair, sound, from-slots, pair-slots}
+use Rattle.relocate.specs.Relocation.{answer, moved, OneRecord, InExtent, extentOf, newContentAt}
+use Rattle.relocate.specs.Lists.{answers, final, Disjoint, Written, Holds, Demand3, OrderFree}
+use Rattle.relocate.proofs.Planned.{Above, planned, plan-above, window-lists, sound, from-slots, pair-slots, one-address}
 
 -- a new content in the image, and in a window of it
-pub content-is : (olds news : List ℕ) (first : ℕ) (im : List ℕ) (b d : ℕ)
-    → windowContent (lookUp olds news) im (b - first) (d - first) ≡ newContent olds news first im b d
-unfolding windowContent newDerived newContent newStart
-content-is olds news first im b d = refl
-
 content-part : (table : ℕ → Option ℕ) (im : List ℕ) (off n b d : ℕ) → b + 8 ≤ n → d + 8 ≤ n
-    → windowContent table (part im off n) b d ≡ windowContent table im (off + b) (off + d)
-unfolding windowContent
+    → newContent table (part im off n) b d ≡ newContent table im (off + b) (off + d)
+unfolding newContent
 content-part table im off n b d h k = rw (word-part 8 im off n b h, word-part 8 im off n d k)
+
+-- a refused section's number and place are the plan's, and an answer with the number 0 is of an accepted section
+pub plan-refused : (s olds news : List ℕ) (first n : ℕ) (f : Frame) (m p : ℕ) → sectionCheck s ≡ Refused m p → plan s olds news first n f ≡ refuse m p
+unfolding plan ask
+plan-refused s olds news first n f m p h = rw h
+
+pub accepted-section : (s olds news : List ℕ) (first : ℕ) (im : List ℕ) (f : Frame) → answer s olds news first im f .number ≡ 0 → Accepted s
+unfolding answer
+accepted-section s olds news first im f h = go (sectionCheck s) refl
+  where
+    go : (v : Verdict) → sectionCheck s ≡ v → Accepted s
+    go (Valid e) q = q ∙ ap Valid (accepted-length s e q .0)
+    go (Refused m p) q =
+        let a = (rw q at (section-numbered s)) .above in
+        let z : m ≡ 0 = rw (plan-refused s olds news first (length im) f m p q) at h in
+        absurd (omega arith)
+
+-- the extent of a frame that has one
+extent-is : (s : List ℕ) (f : Frame) (e : Entry) → OneRecord s f e → (stackSize e ≡ stackSizeUnknown → ⊥)
+    → extentOf s f ≡ record { start = f .rsp; end = f .rsp + stackSize e }
+unfolding extentOf
+extent-is s f e one k = rw (one, ne-eqb (stackSize e) stackSizeUnknown k)
 
 -- a plan as a task of moves
 says-task : (table : ℕ → Option ℕ) (im : List ℕ) (p : Plan) → says table im p ≡ answerIn im (taskOf table p)
@@ -71,7 +93,10 @@ module _ (s olds news : List ℕ) (first : ℕ) (e : ℕ) (k : sectionCheck s �
       go (refuse m p) h q = absurd q
       go (window off size ws) h q =
           let w = planned s olds news first n f e k off size ws h in
-          record { entry = w .entry; one = w .one; known = w .known; low = omega arith; high = omega arith }
+          let x = extent-is s f (w .entry) (w .one) (w .known) in
+          let a : f .rsp ≤ first + i = omega arith in
+          let b : first + i < f .rsp + stackSize (w .entry) = omega arith in
+          record { low = rw x a; high = rw x b }
 
   disjoint : (n : ℕ) (fs : List Frame) → Disjoint s fs → WindowsApart P n fs
   disjoint n [] d = tt
@@ -130,7 +155,7 @@ module _ (s olds news : List ℕ) (first : ℕ) (e : ℕ) (k : sectionCheck s �
   yes-answer f off size ps im g z = rw g z
 
   slot : (fs : List Frame) (im : List ℕ) → Disjoint s fs → (b d i : ℕ) → Written s olds news first im fs b d i
-      → getD (final s olds news first fs im) i 0 ≡ getD (bytes 8 (newContent olds news first im b d)) (first + i - d) 0
+      → getD (final s olds news first fs im) i 0 ≡ getD (bytes 8 (newContentAt olds news first im b d)) (first + i - d) 0
   slot fs im dis b d i w =
       let f = w .frame in
       let a = accepts im f (w .accepted) in
@@ -141,14 +166,14 @@ module _ (s olds news : List ℕ) (first : ℕ) (e : ℕ) (k : sectionCheck s �
       let v = from-slots (readSection s .constants) f (stackSize (q .entry)) (l .pair) (q .insides (l .pair) m) (l .not-null) in
       let b′ = slotAt f (l .pair .base) in
       let d′ = slotAt f (l .pair .derived) in
-      let eb : b ≡ f .rsp + b′ = omega (arith, v .base-at, l .base-at) in
-      let ed : d ≡ f .rsp + d′ = omega (arith, v .derived-at, l .derived-at) in
+      let eb : b ≡ f .rsp + b′ = one-address (l .base-at) (v .base-at) in
+      let ed : d ≡ f .rsp + d′ = one-address (l .derived-at) (v .derived-at) in
       let mem : List·Memᴰ (slots b′ d′) (a .pairs) =
       rw (q .pairs-are, ← pair-slots (readSection s .constants) f (l .pair) (l .not-null)) (Memᴰ·map (pointerOf (readSection s .constants) f) m) in
       let ob : b - first ≡ a .off + b′ = omega (arith, q .off-is, q .low) in
       let od : d - first ≡ a .off + d′ = omega (arith, q .off-is, q .low) in
       let p : first + i - d ≡ i - (a .off + d′) = omega (arith, q .off-is, q .low) in
-      rw (← content-is olds news first im b d, final-run fs im, ob, od, p, ← content-part table im (a .off) (a .size) b′ d′ (rw (q .size-is) (v .base-in)) (rw (q .size-is) (v .derived-in)))
+      rw (final-run fs im, ob, od, p, ← content-part table im (a .off) (a .size) b′ d′ (rw (q .size-is) (v .base-in)) (rw (q .size-is) (v .derived-in)))
       (final-slot table P snd fs im (disjoint (length im) fs dis) f (w .in-list) (a .off) (a .size) (a .pairs) b′ d′ i
       (record {
         planned = a .is-window;
@@ -163,13 +188,12 @@ module _ (s olds news : List ℕ) (first : ℕ) (e : ℕ) (k : sectionCheck s �
       rw (final-run fs im)
       (final-rest table P snd fs im (disjoint (length im) fs dis) i (λ f m off size ps b d h.
       let q = planned s olds news first (length im) f e k off size ps (h .planned) in
-      let v = window-pair s olds news first (length im) f e k off size ps q b d (h .listed) in
       none (f .rsp + b) (f .rsp + d)
       (record {
         frame = f;
         in-list = m;
         accepted = yes-answer f off size ps im (h .planned) (h .accepted);
-        lists = record { entry = q .entry; one = q .one; pair = v .0; listed = v .1; not-null = v .2 .not-null; base-at = v .2 .base-at; derived-at = v .2 .derived-at };
+        lists = window-lists s olds news first (length im) f e k off size ps q b d (h .listed);
         inside = record { low = omega (arith, h .inside .low, q .off-is, q .low); high = omega (arith, h .inside .high, q .off-is, q .low) };
       })))
 
@@ -204,14 +228,53 @@ disjoint-perm s (List·Permᴰ·swap {a = f} {b = g} {a′ = g′} {b′ = f′}
     )
 disjoint-perm s (List·Permᴰ·trans p q) d = disjoint-perm s q (disjoint-perm s p d)
 
-pub order-free : OrderFree
-order-free s olds news first im k fs gs p d = one-image s olds news first (length s) k fs gs im p d (disjoint-perm s p d)
+-- On a refused section nothing moves.
+module _ (s olds news : List ℕ) (first : ℕ) (m p : ℕ) (k : sectionCheck s ≡ Refused m p) where
+  refused-moved : (im : List ℕ) (f : Frame) → moved s olds news first im f ≡ im
+  unfolding moved
+  refused-moved im f = rw (plan-refused s olds news first (length im) f m p k)
+
+  refused-final : (fs : List Frame) (im : List ℕ) → final s olds news first fs im ≡ im
+  refused-final [] im = refl
+  refused-final (f ∷ fs) im = rw (refused-moved im f) (refused-final fs im)
+
+  refused-plain : (fs : List Frame) (im : List ℕ) → answers s olds news first fs im ≡ map (answer s olds news first im) fs
+  refused-plain [] im = refl
+  refused-plain (f ∷ fs) im = rw (refused-moved im f, refused-plain fs im)
+
+  refused-slot : (im : List ℕ) (f : Frame) → answer s olds news first im f .number ≡ 0 → ⊥
+  refused-slot im f h =
+      let z : Valid (length s) ≡ Refused m p = sym (accepted-section s olds news first im f h) ∙ k in
+      let y : _≡_ {A = ℕ} 0 1 = cc in
+      omega arith
+
+  refused-holds : (im : List ℕ) (fs : List Frame) → Holds s olds news first im fs
+  refused-holds im fs =
+      record {
+        plain = refused-plain fs im;
+        same-length = ap length (refused-final fs im);
+        slot = λ b d i w. absurd (refused-slot im (w .frame) (w .accepted));
+        rest = λ i n. ap (λ (l : List ℕ). getD l i 0) (refused-final fs im);
+      }
 
 pub demand3 : Demand3
-demand3 s olds news first im k fs d =
-    record {
-      plain = plain s olds news first (length s) k fs im d;
-      same-length = final-length s olds news first (length s) k fs im;
-      slot = slot s olds news first (length s) k fs im d;
-      rest = rest s olds news first (length s) k fs im d;
-    }
+demand3 s olds news first im fs d = go (sectionCheck s) refl
+  where
+    go : (v : Verdict) → sectionCheck s ≡ v → Holds s olds news first im fs
+    go (Refused m p) k = refused-holds s olds news first m p k im fs
+    go (Valid e) k =
+        record {
+          plain = plain s olds news first e k fs im d;
+          same-length = final-length s olds news first e k fs im;
+          slot = slot s olds news first e k fs im d;
+          rest = rest s olds news first e k fs im d;
+        }
+
+pub order-free : OrderFree
+order-free s olds news first im fs gs p d =
+    let d′ = disjoint-perm s p d in
+    record { disjoint = d′; holds = demand3 s olds news first im gs d′; same-image = go d′ (sectionCheck s) refl }
+  where
+    go : Disjoint s gs → (v : Verdict) → sectionCheck s ≡ v → final s olds news first fs im ≡ final s olds news first gs im
+    go d′ (Refused m q) k = refused-final s olds news first m q k fs im ∙ sym (refused-final s olds news first m q k gs im)
+    go d′ (Valid e) k = one-image s olds news first e k fs gs im p d d′

@@ -1,31 +1,36 @@
 -- What a plan that is a window tells.
 use Prim.Native.Nat.{ℕ, suc, _+_, _-_, _≤_, _<_}
-use mathlib.Core.Path.{_≡_, refl, sym, _∙_}
-use mathlib.Core.Bool.{Bool, true, false}
+use mathlib.Core.Path.{_≡_, refl, sym, ap, _∙_}
+use mathlib.Core.Bool.{Bool, true, false, true≢false}
 use mathlib.Core.Logic.{_⊎_, inl, inr}
+use mathlib.Core.Option.{Option, none, some}
 use mathlib.Core.List.{List, [], _∷_, map, List·Memᴰ, Memᴰ·of-map, List·Memᴰ·not-nil, List·Memᴰ·cases-cons}
 use native.Mathlib.Omega.{arith}
 use borrow.Author.Tests.{eqb-false, leb-true}
+use lib.Dec.{leb}
+use lib.ListN.{length}
 use Rattle.stackmap.specs.declared.Verdict.the-variants.{Valid}
 use Rattle.stackmap.specs.Layout.{stackSizeUnknown}
-use Rattle.stackmap.specs.Section.{Location, Entry, readSection}
+use Rattle.stackmap.specs.Verdict.{need}
+use Rattle.stackmap.specs.Section.{Location, Entry, isOld, readSection}
 use Rattle.stackmap.specs.Check.{sectionCheck}
 use Rattle.stackmap.proofs.Tests.{and-true, not-true}
-use Rattle.moves.specs.Pointers.{Pointer, null, slots}
+use Rattle.moves.specs.Pointers.{Pointer, null, slots, orZero}
+use Rattle.moves.specs.Table.{tableRight}
 use Rattle.moves.specs.Plan.{Plan, refuse, window}
 use Rattle.moves.proofs.Lists.{Sound}
 use Rattle.relocate.specs.declared.Frame.{Frame}
 use Rattle.questions.specs.Questions.{ask}
-use Rattle.relocate.specs.Statepoint.{Pair, pairs, isNull, slotInside, slotAt, registerOf, excess, inside, pointerOf}
-use Rattle.relocate.specs.Plan.{recordsOf, need, only, every, stackSize, extentRight, planPairs, planRecord, plan}
+use Rattle.relocate.specs.Statepoint.{isStatepoint, Pair, pairs, isNull, isSlot, rightForm, slotAddress, slotInside, slotAt, inside, pointerOf}
+use Rattle.relocate.specs.Plan.{recordsOf, only, every, stackSize, imageRight, extentRight, planPairs, planRecord, plan}
+use Rattle.relocate.specs.Relocation.{Lists}
 
 -- the refusal numbers of a plan are above 0
 abbrev pub Above : Plan → Type 0
 Above (refuse n p) = 0 < n
 Above (window off size ps) = Unit {0}
 
-need-above : (b : Bool) (n : ℕ) (k : Plan) → Above k → Above (need b (suc n) k)
-unfolding need
+need-above : (b : Bool) (n : ℕ) (k : Plan) → Above k → Above (need b (refuse (suc n) 0) k)
 need-above true n k a = a
 need-above false n k a = omega arith
 
@@ -54,8 +59,7 @@ every-above good n i (p ∷ ps) k a = go (every-above good n (suc i) ps k a) (go
 -- a window stands where every test held
 
 module _ {off size : ℕ} {ws : List Pointer} where
-  need-held : (b : Bool) (n : ℕ) (k : Plan) → need b n k ≡ window off size ws → (b ≡ true) × (k ≡ window off size ws)
-  unfolding need
+  need-held : (b : Bool) (n : ℕ) (k : Plan) → need b (refuse n 0) k ≡ window off size ws → (b ≡ true) × (k ≡ window off size ws)
   need-held true n k h = (refl, h)
   need-held false n k h = absurd (let z : _≡_ {A = ℕ} 0 1 = cc in omega arith)
 
@@ -83,21 +87,26 @@ module _ {off size : ℕ} {ws : List Pointer} where
 
 -- the slots of a pair that is not null, and inside
 slot-inside : (f : Frame) (n : ℕ) (l : Location) → slotInside f n l ≡ true
-    → (f .rsp + slotAt f l + excess l ≡ registerOf f l + l .offset) × (slotAt f l + 8 ≤ n)
+    → (slotAddress f l ≡ some (f .rsp + slotAt f l)) × (slotAt f l + 8 ≤ n)
 unfolding slotInside slotAt
-slot-inside f n l h =
-    let a = and-true _ _ h in
-    let x : f .rsp + excess l ≤ registerOf f l + l .offset = leb-true _ _ (a .0) in
-    let y : registerOf f l + l .offset + 8 ≤ f .rsp + n + excess l = leb-true _ _ (a .1) in
-    (omega arith, omega arith)
+slot-inside f n l h = go (slotAddress f l) refl
+  where
+    go : (x : Option ℕ) → slotAddress f l ≡ x
+        → (slotAddress f l ≡ some (f .rsp + (orZero (slotAddress f l) - f .rsp))) × (orZero (slotAddress f l) - f .rsp + 8 ≤ n)
+    go none e = absurd (true≢false (sym (rw e at h)))
+    go (some a) e =
+        let t = and-true (leb (f .rsp) a) (leb (a + 8) (f .rsp + n)) (rw e at h) in
+        let x : f .rsp ≤ a = leb-true _ _ (t .0) in
+        let y : a + 8 ≤ f .rsp + n = leb-true _ _ (t .1) in
+        rw e (ap some (omega arith), omega arith)
 
 -- a pair of the window, and the pair that it comes from
 pub record From (pool : List ℕ) (f : Frame) (n b d : ℕ) (p : Pair) : Type 0 where
   pub not-null : isNull pool p ≡ false
   pub base-is : b ≡ slotAt f (p .base)
   pub derived-is : d ≡ slotAt f (p .derived)
-  pub base-at : f .rsp + b + excess (p .base) ≡ registerOf f (p .base) + p .base .offset
-  pub derived-at : f .rsp + d + excess (p .derived) ≡ registerOf f (p .derived) + p .derived .offset
+  pub base-at : slotAddress f (p .base) ≡ some (f .rsp + b)
+  pub derived-at : slotAddress f (p .derived) ≡ some (f .rsp + d)
   pub base-in : b + 8 ≤ n
   pub derived-in : d + 8 ≤ n
 
@@ -126,6 +135,16 @@ pub pair-slots : (pool : List ℕ) (f : Frame) (p : Pair) → isNull pool p ≡ 
 unfolding pointerOf
 pair-slots pool f p e = rw e
 
+-- a slot has one address
+pub one-address : {x : Option ℕ} {a b : ℕ} → x ≡ some a → x ≡ some b → a ≡ b
+one-address {a = a} {b = b} h k = let e : some a ≡ some b = sym h ∙ k in cc
+
+-- a pair of the right form that is not null has two slots
+form-slots : (old : Bool) (pool : List ℕ) (p : Pair) → rightForm old pool p ≡ true → isNull pool p ≡ false
+    → (isSlot old (p .base) ≡ true) × (isSlot old (p .derived) ≡ true)
+unfolding rightForm
+form-slots old pool p h e = and-true _ _ (rw e at h)
+
 module _ (s olds news : List ℕ) (first n : ℕ) (f : Frame) where
   abbrev pool : List ℕ
   pool = readSection s .constants
@@ -139,16 +158,18 @@ module _ (s olds news : List ℕ) (first n : ℕ) (f : Frame) where
     pub off-is : off ≡ f .rsp - first
     pub size-is : size ≡ stackSize entry
     pub pairs-are : ws ≡ map (pointerOf pool f) (pairs (entry .body))
+    pub statepoint : isStatepoint (entry .body) ≡ true
+    pub forms : (p : Pair) → List·Memᴰ p (pairs (entry .body)) → rightForm (isOld s) pool p ≡ true
     pub insides : (p : Pair) → List·Memᴰ p (pairs (entry .body)) → inside pool f (stackSize entry) p ≡ true
 
   pub planned : (e : ℕ) → sectionCheck s ≡ Valid e → (off size : ℕ) (ws : List Pointer) → plan s olds news first n f ≡ window off size ws → Planned off size ws
   unfolding plan planRecord planPairs extentRight ask
   planned e k off size ws h =
-      let h₀ = need-held _ _ _ (need-held _ _ _ (rw k at h) .1) in
+      let h₀ = need-held (tableRight olds news) 14 _ (need-held (imageRight first n) 13 _ (rw k at h) .1) in
       let o = only-held _ _ (h₀ .1) in
-      let h₁ = need-held _ _ _ (o .2) in
-      let h₂ = need-held _ _ _ (h₁ .1) in
-      let h₃ = need-held _ _ _ (h₂ .1) in
+      let h₁ = need-held (isStatepoint (o .0 .body)) 12 _ (o .2) in
+      let h₂ = need-held (extentRight first n (f .rsp) (stackSize (o .0))) 16 _ (h₁ .1) in
+      let h₃ = need-held (leb (length (pairs (o .0 .body))) 256) 17 _ (h₂ .1) in
       let h₄ = every-held _ _ _ _ _ (h₃ .1) in
       let h₅ = every-held _ _ _ _ _ (h₄ .1) in
       let x = and-true _ _ (h₂ .0) in
@@ -163,6 +184,8 @@ module _ (s olds news : List ℕ) (first n : ℕ) (f : Frame) where
         off-is = cc;
         size-is = cc;
         pairs-are = cc;
+        statepoint = h₁ .0;
+        forms = h₄ .0;
         insides = h₅ .0;
       }
 
@@ -170,14 +193,34 @@ module _ (s olds news : List ℕ) (first n : ℕ) (f : Frame) where
   unfolding plan planRecord planPairs ask
   plan-above e k =
       rw k
-      (need-above _ 12 _ (need-above _ 13 _ (only-above _ _ (λ x.
-      need-above _ 11 _ (need-above _ 15 _ (need-above _ 16 _ (every-above _ 17 0 _ _ (every-above _ 18 0 _ _ tt))))))))
+      (need-above (imageRight first n) 12 _ (need-above (tableRight olds news) 13 _ (only-above _ _ (λ x.
+      need-above (isStatepoint (x .body)) 11 _ (need-above (extentRight first n (f .rsp) (stackSize x)) 15 _
+      (need-above (leb (length (pairs (x .body))) 256) 16 _ (every-above _ 17 0 _ _ (every-above _ 18 0 _ _ tt))))))))
 
   pub window-pair : (e : ℕ) → sectionCheck s ≡ Valid e → (off size : ℕ) (ws : List Pointer) (q : Planned off size ws)
       → (b d : ℕ) → List·Memᴰ (slots b d) ws → (p : Pair) × List·Memᴰ p (pairs (q .entry .body)) × From pool f size b d p
   window-pair e k off size ws q b d m =
       let o = Memᴰ·of-map (pointerOf pool f) (pairs (q .entry .body)) (rw (q .pairs-are) at m) in
       (o .0, o .1, rw (q .size-is) (pair-from pool f (stackSize (q .entry)) (o .0) b d (q .insides (o .0) (o .1)) (o .2)))
+
+  -- and is listed
+  pub window-lists : (e : ℕ) → sectionCheck s ≡ Valid e → (off size : ℕ) (ws : List Pointer) (q : Planned off size ws)
+      → (b d : ℕ) → List·Memᴰ (slots b d) ws → Lists s f (f .rsp + b) (f .rsp + d)
+  window-lists e k off size ws q b d m =
+      let v = window-pair e k off size ws q b d m in
+      let t = form-slots (isOld s) pool (v .0) (q .forms (v .0) (v .1)) (v .2 .not-null) in
+      record {
+        entry = q .entry;
+        one = q .one;
+        statepoint = q .statepoint;
+        pair = v .0;
+        listed = v .1;
+        not-null = v .2 .not-null;
+        base-slot = t .0;
+        derived-slot = t .1;
+        base-at = v .2 .base-at;
+        derived-at = v .2 .derived-at;
+      }
 
   pub sound : (e : ℕ) → sectionCheck s ≡ Valid e → Sound n (plan s olds news first n f)
   sound e k = go (plan s olds news first n f) refl

@@ -6,17 +6,18 @@ use mathlib.Core.Logic.{⊎-elim}
 use mathlib.Core.Option.{Option, none, some}
 use mathlib.Core.List.{List, [], _∷_, List·Memᴰ, List·Memᴰ·head, List·Memᴰ·tail, List·Memᴰ·not-nil, List·Memᴰ·cases-cons, List·Permᴰ, Permᴰ·symm, Permᴰ·map}
 use native.Mathlib.Omega.{arith}
-use lib.Dec.{eqb}
+use lib.Dec.{eqb, leb}
 use lib.ListN.{length, getElem?}
 use Rattle.wire.specs.Word.{Bytes}
 use Rattle.stackmap.specs.declared.Verdict.the-variants.{Valid}
+use Rattle.stackmap.specs.Verdict.{need}
 use Rattle.stackmap.specs.Section.{Function, Section, isOld, readSection, Owner, Entry, address, entries}
 use Rattle.stackmap.specs.Check.{sectionCheck}
 use Rattle.stackmap.specs.Fault.{WellFormed}
 use Rattle.stackmap.proofs.Entries.{old-of}
 use Rattle.stackmap.proofs.WellFormed.{well-formed-accepted, accepted-well-formed}
 use Rattle.moves.specs.Window.{part, splice}
-use Rattle.moves.specs.Table.{lookUp}
+use Rattle.moves.specs.Table.{tableRight, lookUp}
 use Rattle.moves.specs.Pointers.{Pointer}
 use Rattle.moves.specs.Plan.{Plan, refuse, window, says, leaves}
 use Rattle.moves.proofs.Searches.{perm-mem, perm-length}
@@ -25,8 +26,8 @@ use Rattle.moves.proofs.Order.{Alike, settle-perm}
 use Rattle.moves.proofs.Lists.{Sound}
 use Rattle.relocate.specs.declared.Frame.{Frame}
 use Rattle.questions.specs.Questions.{ask, among, withAddress, ownedBy, namedIn, sought}
-use Rattle.relocate.specs.Statepoint.{Pair, pairs, rightForm, inside, pointerOf}
-use Rattle.relocate.specs.Plan.{recordsOf, need, only, every, stackSize, planPairs, planRecord, planEntry, plan}
+use Rattle.relocate.specs.Statepoint.{isStatepoint, Pair, pairs, rightForm, inside, pointerOf}
+use Rattle.relocate.specs.Plan.{recordsOf, only, every, stackSize, imageRight, extentRight, planPairs, planRecord, planEntry, plan}
 use Rattle.relocate.specs.Relocation.{answer, moved}
 use Rattle.relocate.specs.Reorder.{OtherOrder, PairOrder}
 use Rattle.relocate.proofs.Planned.{every-yes, every-no, sound}
@@ -37,8 +38,7 @@ data SamePlan : Plan → Plan → Type 0 where
   refusals : {n i j : ℕ} → (n < 18 → i ≡ j) → SamePlan (refuse n i) (refuse n j)
   windows : {off size : ℕ} {ps qs : List Pointer} → List·Permᴰ ps qs → SamePlan (window off size ps) (window off size qs)
 
-same-need : (b : Bool) (n : ℕ) (k k′ : Plan) → SamePlan k k′ → SamePlan (need b n k) (need b n k′)
-unfolding need
+same-need : (b : Bool) (n : ℕ) (k k′ : Plan) → SamePlan k k′ → SamePlan (need b (refuse n 0) k) (need b (refuse n 0) k′)
 same-need true n k k′ h = h
 same-need false n k k′ h = refusals (λ l. refl)
 
@@ -76,7 +76,7 @@ same-entry old pool first n f e e′ l =
     let o = l .owner-same in
     let c : length (pairs (e′ .body)) ≡ length (pairs (e .body)) = sym (perm-length p) in
     rw (l .body-like .statepoint-same, o, c)
-    (same-need _ 12 _ _ (same-need _ 16 _ _ (same-need _ 17 _ _
+    (same-need (isStatepoint (e .body)) 12 _ _ (same-need (extentRight first n (f .rsp) (stackSize e)) 16 _ _ (same-need (leb (length (pairs (e .body))) 256) 17 _ _
     (same-every (rightForm old pool) 18 0 _ _ _ _ (omega arith) p (same-every (inside pool f (stackSize e)) 19 0 _ _ _ _ (omega arith) p (windows (Permᴰ·map (pointerOf pool f) p)))))))
 
 with-like : (a : ℕ) (es es′ : List Entry) → EntriesLike es es′ → EntriesLike (withAddress a es) (withAddress a es′)
@@ -151,7 +151,7 @@ module _ (s s′ : List ℕ) (w : Bytes s) (o : OtherOrder s s′) where
     unfolding plan recordsOf sought entries ask
     same-plan =
         rw (o .accepted, now-accepted, old-same, now-read)
-        (same-need _ 13 _ _ (same-need _ 14 _ _
+        (same-need (imageRight first (length im)) 13 _ _ (same-need (tableRight olds news) 14 _ _
         (same-only _ _ _ (named-like (isOld s) (t .functions) (f .function) _ _ (with-like (f .address) _ _ (section-like t (o .records) (o .reordered))))
         (same-entry (isOld s) (t .constants) first (length im) f))))
 

@@ -1,5 +1,5 @@
 -- The stages of a plan, each by the tests that lead to it.
-use Prim.Native.Nat.{ℕ, _+_, _*_, _-_, _^_, _≤_, _<_}
+use Prim.Native.Nat.{ℕ, _+_, _-_, _^_, _≤_, _<_}
 use mathlib.Core.Path.{_≡_, refl, _∙_}
 use mathlib.Core.Bool.{Bool, true, false, not, _&&_}
 use mathlib.Core.Option.{Option}
@@ -25,7 +25,7 @@ use Rattle.moves.specs.Arrays.{pointersOf}
 use Rattle.relocate.specs.declared.Frame.{Frame}
 use Rattle.relocate.specs.Limits.{imageMost}
 use Rattle.relocate.specs.Statepoint.{isStatepoint, pairs, rightForm, inside, pointerOf}
-use Rattle.relocate.specs.Plan.{recordsOf, need, only, stackSize, imageRight, extentRight, planPairs, planRecord, planEntry, plan}
+use Rattle.relocate.specs.Plan.{recordsOf, only, stackSize, imageRight, extentRight, planPairs, planRecord, planEntry, plan}
 use Rattle.relocate.specs.Relocation.{answer, moved, Relocates}
 use Rattle.relocate.specs.Code.{recordOf, poolOf, pairNumber}
 use Rattle.relocate.proofs.Following.{every-refused, every-passed}
@@ -107,21 +107,21 @@ module _ (old : Bool) (pool : List ℕ) (f : Frame) (off size : ℕ) (r : Record
 
 module _ (old : Bool) (pool : List ℕ) (first n : ℕ) (f : Frame) (size : ℕ) (r : Record) where
   pub record-12 : isStatepoint r ≡ false → planRecord old pool first n f size r ≡ refuse 12 0
-  unfolding planRecord need
+  unfolding planRecord
   record-12 h = rw h
 
   module _ (s : isStatepoint r ≡ true) where
     pub record-16 : extentRight first n (f .rsp) size ≡ false → planRecord old pool first n f size r ≡ refuse 16 0
-    unfolding planRecord need
+    unfolding planRecord
     record-16 h = rw (s, h)
 
     module _ (e : extentRight first n (f .rsp) size ≡ true) (count : ℕ) (c : count ≡ length (pairs r)) where
       pub record-17 : 256 < count → planRecord old pool first n f size r ≡ refuse 17 0
-      unfolding planRecord need
+      unfolding planRecord
       record-17 h = rw (s, e, ← c, lt-leb count 256 h)
 
       pub record-on : count ≤ 256 → planRecord old pool first n f size r ≡ planPairs old pool f (f .rsp - first) size (pairs r)
-      unfolding planRecord need
+      unfolding planRecord
       record-on h = let q : leb (length (pairs r)) 256 ≡ true = le-leb (length (pairs r)) 256 (rw c at h) in rw (s, e, q)
 
 -- 10, 15
@@ -155,15 +155,15 @@ module _ (s olds news : List ℕ) (first : ℕ) (im : List ℕ) (f : Frame) wher
 
   module _ (k : Accepted s) where
     pub plan-13 : imageRight first (length im) ≡ false → plan s olds news first (length im) f ≡ refuse 13 0
-    unfolding plan ask need
+    unfolding plan ask
     plan-13 h = rw (k, h)
 
     module _ (i : imageRight first (length im) ≡ true) where
       pub plan-14 : tableRight olds news ≡ false → plan s olds news first (length im) f ≡ refuse 14 0
-      unfolding plan ask need
+      unfolding plan ask
       plan-14 h = rw (k, i, h)
 
       pub plan-on : tableRight olds news ≡ true
           → plan s olds news first (length im) f ≡ only (recordsOf s f) (planEntry (isOld s) (poolOf s) first (length im) f)
-      unfolding plan ask need
+      unfolding plan ask
       plan-on h = rw (k, i, h)

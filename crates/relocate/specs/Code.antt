@@ -4,17 +4,18 @@ use mathlib.Core.Path.{_≡_}
 use mathlib.Core.Bool.{Bool, cond, _&&_, _||_}
 use mathlib.Core.Option.{Option, none, some}
 use mathlib.Core.List.{List}
-use lib.Dec.{eqb, leb, ltb}
+use lib.Dec.{eqb, leb}
 use lib.ListN.{length, getD, drop}
-use Rattle.stackmap.specs.Layout.{kindConstIndex, negativeFrom}
+use Rattle.stackmap.specs.Layout.{kindConstIndex}
 use Rattle.stackmap.specs.Section.{Location, Record, isOld, recordsAt, numLocations, recordLength, readRecord, readSection}
 use Rattle.questions.specs.declared.LocationAnswer.{LocationAnswer}
 use Rattle.moves.specs.Limits.{pointerSize}
+use Rattle.moves.specs.Pointers.{orZero}
 use Rattle.relocate.specs.declared.Frame.{Frame}
 use Rattle.relocate.specs.declared.slots.Spot.{Spot}
 use Rattle.relocate.specs.declared.slots.Spot.the-variants.{At, Outside}
 use Rattle.relocate.specs.Limits.{kindConstant}
-use Rattle.relocate.specs.Statepoint.{locationAt, pairsAt, Pair, pairs, isNull, slotAt, slotInside}
+use Rattle.relocate.specs.Statepoint.{locationAt, pairsAt, Pair, pairs, isNull, asOffset, plusOffset, wholly, slotAt, slotInside}
 
 -- The record at a place of the section, and the section's constants.
 
@@ -60,15 +61,11 @@ spotOf Outside = none
 unfoldable pub slotIn : Frame → ℕ → Location → Option ℕ
 slotIn f n l = cond (slotInside f n l) (some (slotAt f l)) none
 
--- the same by numbers: the register, RSP and the offset's 32 bits, of which those of a negative one are x too much
-unfoldable pub positionIn : ℕ → ℕ → ℕ → ℕ → ℕ → Option ℕ
-positionIn register rsp offset x n =
-    cond (leb (rsp + x) (register + offset) && leb (register + offset + pointerSize) (rsp + n + x))
-    (some (register + offset - (rsp + x)))
-    none
-
-abbrev pub excessOf : ℕ → ℕ
-excessOf offset = cond (ltb offset negativeFrom) 0 (2 * negativeFrom)
+-- the same by numbers: the register, RSP and the offset's 32 bits
+unfoldable pub positionIn : ℕ → ℕ → ℕ → ℕ → Option ℕ
+positionIn register rsp offset n =
+    let a = plusOffset register (asOffset offset) in
+    cond (wholly rsp n a) (some (orZero a - rsp)) none
 
 unfoldable pub placeIn : ℕ → ℕ → Option ℕ
 placeIn p n = cond (leb (p + pointerSize) n) (some p) none

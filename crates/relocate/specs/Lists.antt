@@ -4,12 +4,11 @@ use mathlib.Core.Path.{_≡_}
 use mathlib.Core.List.{List, [], _∷_, map, List·Memᴰ, List·Permᴰ}
 use lib.ListN.{length, getD}
 use Rattle.wire.specs.Word.{bytes}
-use Rattle.stackmap.specs.Check.{Accepted}
 use Rattle.moves.specs.declared.Move.{Move}
 use Rattle.moves.specs.Limits.{pointerSize}
 use Rattle.moves.specs.Window.{In}
 use Rattle.relocate.specs.declared.Frame.{Frame}
-use Rattle.relocate.specs.Relocation.{answer, moved, InExtent, Lists, newContent}
+use Rattle.relocate.specs.Relocation.{answer, moved, InExtent, Lists, newContentAt}
 
 -- the moves run one after another, each on the image as the last one left it
 module _ (s olds news : List ℕ) (first : ℕ) where
@@ -41,18 +40,23 @@ module _ (s olds news : List ℕ) (first : ℕ) (im : List ℕ) where
     pub plain : answers s olds news first fs im ≡ map (answer s olds news first im) fs
     pub same-length : length (final s olds news first fs im) ≡ length im
     pub slot : (b d i : ℕ) → Written fs b d i
-        → getD (final s olds news first fs im) i 0 ≡ getD (bytes pointerSize (newContent olds news first im b d)) (first + i - d) 0
+        → getD (final s olds news first fs im) i 0 ≡ getD (bytes pointerSize (newContentAt olds news first im b d)) (first + i - d) 0
     pub rest : (i : ℕ) → ((b d : ℕ) → Written fs b d i → ⊥) → getD (final s olds news first fs im) i 0 ≡ getD im i 0
 
--- Demand 3, of lists of moves: on one accepted section, one table and one image, every list of frames of which no two have
--- extents that share a byte gives the plain answers and the final image that these fix.
+-- Demand 3, of lists of moves: on one section, one table and one image, every list of frames of which no two have extents that share
+-- a byte gives the plain answers and the final image that these fix. (On a refused section every move is refused.)
 abbrev pub Demand3 : Type 0
 Demand3 =
-    (s olds news : List ℕ) (first : ℕ) (im : List ℕ) → Accepted s
-    → (fs : List Frame) → Disjoint s fs → Holds s olds news first im fs
+    (s olds news : List ℕ) (first : ℕ) (im : List ℕ) (fs : List Frame) → Disjoint s fs → Holds s olds news first im fs
 
--- And so the order of the moves doesn't count: any other order of such a list leaves the same image.
+-- the moves of fs in another order, gs: no two extents share a byte, each answer is the plain one, and the image is the same
+pub record OtherOrderHolds (s olds news : List ℕ) (first : ℕ) (im : List ℕ) (fs gs : List Frame) : Type 0 where
+  pub disjoint : Disjoint s gs
+  pub holds : Holds s olds news first im gs
+  pub same-image : final s olds news first fs im ≡ final s olds news first gs im
+
+-- And so the order of the moves doesn't count, whatever it is.
 abbrev pub OrderFree : Type 0
 OrderFree =
-    (s olds news : List ℕ) (first : ℕ) (im : List ℕ) → Accepted s
-    → (fs gs : List Frame) → List·Permᴰ fs gs → Disjoint s fs → final s olds news first fs im ≡ final s olds news first gs im
+    (s olds news : List ℕ) (first : ℕ) (im : List ℕ) (fs gs : List Frame) → List·Permᴰ fs gs → Disjoint s fs
+    → OtherOrderHolds s olds news first im fs gs

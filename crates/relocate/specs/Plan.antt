@@ -6,6 +6,7 @@ use mathlib.Core.List.{List, [], _∷_, map}
 use lib.ListN.{length}
 use lib.Dec.{eqb, leb}
 use Rattle.stackmap.specs.Layout.{addressMost, stackSizeUnknown}
+use Rattle.stackmap.specs.Verdict.{need}
 use Rattle.stackmap.specs.Section.{Record, Entry, isOld, readSection}
 use Rattle.stackmap.specs.Check.{sectionCheck}
 use Rattle.moves.specs.Limits.{pairsMost}
@@ -15,11 +16,6 @@ use Rattle.relocate.specs.declared.Frame.{Frame}
 use Rattle.relocate.specs.Limits.{imageMost}
 use Rattle.questions.specs.Questions.{ask, sought}
 use Rattle.relocate.specs.Statepoint.{isStatepoint, Pair, pairs, rightForm, inside, pointerOf}
-
--- go on where the test holds, and else this refusal, at place 0
-unfoldable pub need : Bool → ℕ → Plan → Plan
-need true n k = k
-need false n k = refuse n 0
 
 -- the records that a frame names: those with its address; in version 1 those at its offset, of its function, if that is there
 unfoldable pub recordsOf : List ℕ → Frame → List Entry
@@ -58,9 +54,9 @@ planPairs old pool f off size ps =
 -- 12, 16, 17, 18, 19, of a frame whose one record is r, of a function with this stack size
 unfoldable pub planRecord : Bool → List ℕ → ℕ → ℕ → Frame → ℕ → Record → Plan
 planRecord old pool first n f size r =
-    need (isStatepoint r) 12
-    (need (extentRight first n (f .rsp) size) 16
-    (need (leb (length (pairs r)) pairsMost) 17
+    need (isStatepoint r) (refuse 12 0)
+    (need (extentRight first n (f .rsp) size) (refuse 16 0)
+    (need (leb (length (pairs r)) pairsMost) (refuse 17 0)
     (planPairs old pool f (f .rsp - first) size (pairs r))))
 
 abbrev pub planEntry : Bool → List ℕ → ℕ → ℕ → Frame → Entry → Plan
@@ -70,7 +66,7 @@ planEntry old pool first n f e = planRecord old pool first n f (stackSize e) (e 
 unfoldable pub plan : List ℕ → List ℕ → List ℕ → ℕ → ℕ → Frame → Plan
 plan s olds news first n f =
     ask refuse
-    (need (imageRight first n) 13
-    (need (tableRight olds news) 14
+    (need (imageRight first n) (refuse 13 0)
+    (need (tableRight olds news) (refuse 14 0)
     (only (recordsOf s f) (planEntry (isOld s) (readSection s .constants) first n f))))
     (sectionCheck s)

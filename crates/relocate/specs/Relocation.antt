@@ -1,19 +1,19 @@
 -- One move: a call that relocates one frame.
-use Prim.Native.Nat.{ℕ, _+_, _-_, _%_, _^_, _≤_, _<_}
+use Prim.Native.Nat.{ℕ, _+_, _-_, _≤_, _<_}
 use mathlib.Core.Path.{_≡_}
-use mathlib.Core.Bool.{false}
+use mathlib.Core.Bool.{true, false, cond}
+use mathlib.Core.Option.{some}
 use mathlib.Core.List.{List, [], _∷_, List·Memᴰ}
+use lib.Dec.{eqb}
 use lib.ListN.{length}
-use Rattle.wire.specs.Word.{word}
 use Rattle.stackmap.specs.Layout.{stackSizeUnknown}
-use Rattle.stackmap.specs.Section.{Entry, readSection}
+use Rattle.stackmap.specs.Section.{Entry, isOld, readSection}
 use Rattle.moves.specs.declared.Move.{Move}
-use Rattle.moves.specs.Limits.{pointerSize}
 use Rattle.moves.specs.Table.{lookUp}
-use Rattle.moves.specs.Pointers.{orZero}
+use Rattle.moves.specs.Pointers.{newContent}
 use Rattle.moves.specs.Plan.{says, leaves}
 use Rattle.relocate.specs.declared.Frame.{Frame}
-use Rattle.relocate.specs.Statepoint.{Pair, pairs, isNull, registerOf, excess}
+use Rattle.relocate.specs.Statepoint.{isStatepoint, Pair, pairs, isNull, isSlot, slotAddress}
 use Rattle.relocate.specs.Plan.{plan, recordsOf, stackSize}
 
 -- section, table and first address stay the same throughout
@@ -35,30 +35,40 @@ module _ (s olds news : List ℕ) (first : ℕ) where
 abbrev pub OneRecord : List ℕ → Frame → Entry → Type 0
 OneRecord s f e = recordsOf s f ≡ e ∷ []
 
--- Its extent is the bytes from RSP up to, not including, RSP plus its function's stack size, without wrapping. A frame without
--- exactly one record, or with stack size unknown, has no extent. The byte at the address a is in it:
-pub record InExtent (s : List ℕ) (f : Frame) (a : ℕ) : Type 0 where
-  pub entry : Entry
-  pub one : OneRecord s f entry
-  pub known : stackSize entry ≡ stackSizeUnknown → ⊥
-  pub low : f .rsp ≤ a
-  pub high : a < f .rsp + stackSize entry
+-- Its extent is the bytes from RSP up to, not including, RSP plus its function's stack size, without wrapping.
+pub record Extent : Type 0 where
+  pub start : ℕ
+  pub end : ℕ
 
--- The frame's statepoint lists a pair that is not null, whose base slot starts at the address b and whose derived slot at d.
+-- a frame without exactly one record, or with stack size unknown, has no extent: no byte is in it
+abbrev pub extentBy : ℕ → List Entry → Extent
+extentBy rsp [] = record { start = rsp; end = rsp }
+extentBy rsp (e ∷ []) =
+    record { start = rsp; end = cond (eqb (stackSize e) stackSizeUnknown) rsp (rsp + stackSize e) }
+extentBy rsp (e ∷ e′ ∷ es) = record { start = rsp; end = rsp }
+
+unfoldable pub extentOf : List ℕ → Frame → Extent
+extentOf s f = extentBy (f .rsp) (recordsOf s f)
+
+-- the byte at the address a is in it
+pub record InExtent (s : List ℕ) (f : Frame) (a : ℕ) : Type 0 where
+  pub low : extentOf s f .start ≤ a
+  pub high : a < extentOf s f .end
+
+-- The frame's one record is a statepoint, and lists a pair that is not null and whose locations are slots: its base slot starts at the
+-- address b, and its derived slot at d.
 pub record Lists (s : List ℕ) (f : Frame) (b d : ℕ) : Type 0 where
   pub entry : Entry
   pub one : OneRecord s f entry
+  pub statepoint : isStatepoint (entry .body) ≡ true
   pub pair : Pair
   pub listed : List·Memᴰ pair (pairs (entry .body))
   pub not-null : isNull (readSection s .constants) pair ≡ false
-  pub base-at : b + excess (pair .base) ≡ registerOf f (pair .base) + pair .base .offset
-  pub derived-at : d + excess (pair .derived) ≡ registerOf f (pair .derived) + pair .derived .offset
+  pub base-slot : isSlot (isOld s) (pair .base) ≡ true
+  pub derived-slot : isSlot (isOld s) (pair .derived) ≡ true
+  pub base-at : slotAddress f (pair .base) ≡ some b
+  pub derived-at : slotAddress f (pair .derived) ≡ some d
 
--- where an object is now: base content 0 moves to 0
-unfoldable pub newStart : List ℕ → List ℕ → ℕ → ℕ
-newStart olds news v = orZero (lookUp olds news v)
-
--- The new content of a derived slot at the address d with its base slot at b: old derived + new base - old base, modulo 2^64.
-unfoldable pub newContent : List ℕ → List ℕ → ℕ → List ℕ → ℕ → ℕ → ℕ
-newContent olds news first im b d =
-    (word pointerSize im (d - first) + newStart olds news (word pointerSize im (b - first)) + (2 ^ 64 - word pointerSize im (b - first))) % 2 ^ 64
+-- the new content of a derived slot at the address d with its base slot at b, by the image's bytes
+abbrev pub newContentAt : List ℕ → List ℕ → ℕ → List ℕ → ℕ → ℕ → ℕ
+newContentAt olds news first im b d = newContent (lookUp olds news) im (b - first) (d - first)

@@ -1,13 +1,14 @@
 -- Statepoints and their pairs, in the words and order of document 01, "Statepoints and relocation".
 use Prim.Native.Nat.{ℕ, _+_, _-_, _*_, _%_}
 use mathlib.Core.Bool.{Bool, true, false, cond, _&&_, _||_}
+use mathlib.Core.Option.{Option, none, some}
 use mathlib.Core.List.{List, [], _∷_}
 use lib.ListN.{length, getD, drop}
 use lib.Dec.{eqb, ltb, leb}
 use Rattle.stackmap.specs.Layout.{kindConstIndex, negativeFrom}
 use Rattle.stackmap.specs.Section.{Location, Record}
 use Rattle.moves.specs.Limits.{pointerSize}
-use Rattle.moves.specs.Pointers.{Pointer, null, slots}
+use Rattle.moves.specs.Pointers.{Pointer, null, slots, orZero}
 use Rattle.relocate.specs.declared.Frame.{Frame}
 use Rattle.relocate.specs.Limits.{RBP, RSP, kindIndirect, kindConstant, headLocations, deoptAt}
 use Rattle.questions.specs.Questions.{constantOf}
@@ -84,22 +85,38 @@ rightForm old pool p = isNull pool p || (isSlot old (p .base) && isSlot old (p .
 unfoldable pub registerOf : Frame → Location → ℕ
 registerOf f l = cond (eqb (l .register) RBP) (f .rbp) (f .rsp)
 
+-- an offset goes up or down
+pub data Offset : Type 0 where
+  up : ℕ → Offset
+  down : ℕ → Offset
+
 -- a signed offset is held as its 32 bits: those of a negative one are 2 ^ 32 too much
-unfoldable pub excess : Location → ℕ
-excess l = cond (ltb (l .offset) negativeFrom) 0 (2 * negativeFrom)
+unfoldable pub asOffset : ℕ → Offset
+asOffset bits = cond (ltb bits negativeFrom) (up bits) (down (2 * negativeFrom - bits))
 
--- A slot is 8 bytes at register plus offset, worked out as a whole number without wrapping. It starts so many bytes after RSP:
-unfoldable pub slotAt : Frame → Location → ℕ
-slotAt f l = registerOf f l + l .offset - (f .rsp + excess l)
+-- register plus offset, worked out as a whole number without wrapping: there is no address below 0
+abbrev pub plusOffset : ℕ → Offset → Option ℕ
+plusOffset register (up n) = some (register + n)
+plusOffset register (down n) = cond (leb n register) (some (register - n)) none
 
--- it lies wholly in the n bytes from RSP
+-- a slot is 8 bytes from this address on
+unfoldable pub slotAddress : Frame → Location → Option ℕ
+slotAddress f l = plusOffset (registerOf f l) (asOffset (l .offset))
+
+-- they lie wholly in the n bytes from RSP
+abbrev pub wholly : ℕ → ℕ → Option ℕ → Bool
+wholly rsp n none = false
+wholly rsp n (some a) = leb rsp a && leb (a + pointerSize) (rsp + n)
+
 unfoldable pub slotInside : Frame → ℕ → Location → Bool
-slotInside f n l =
-    leb (f .rsp + excess l) (registerOf f l + l .offset)
-    && leb (registerOf f l + l .offset + pointerSize) (f .rsp + n + excess l)
+slotInside f n l = wholly (f .rsp) n (slotAddress f l)
 
 unfoldable pub inside : List ℕ → Frame → ℕ → Pair → Bool
 inside pool f n p = isNull pool p || (slotInside f n (p .base) && slotInside f n (p .derived))
+
+-- a slot that is inside starts so many bytes after RSP
+unfoldable pub slotAt : Frame → Location → ℕ
+slotAt f l = orZero (slotAddress f l) - f .rsp
 
 -- each pair is one pointer: its slots, counted from RSP
 unfoldable pub pointerOf : List ℕ → Frame → Pair → Pointer

@@ -4,7 +4,7 @@ ghost use mathlib.Core.Path.{_≡_};
 ghost use Prim.Native.Nat.{_≤_};
 ghost use Rattle.relocate.specs.Limits.{imageMost};
 ghost use Rattle.relocate.specs.Statepoint.{sizeRight, isSlot};
-ghost use Rattle.relocate.specs.Code.{locationOf, zeroSaid, spotOf, slotIn, positionIn, excessOf, placeIn};
+ghost use Rattle.relocate.specs.Code.{locationOf, zeroSaid, spotOf, slotIn, positionIn, placeIn};
 use crate::Frame;
 use moves::POINTER_SIZE;
 use questions::LocationAnswer;
@@ -89,7 +89,7 @@ fn place(p: u64, size: usize) -> Spot
 // A slot at register plus offset, worked out as a whole number without wrapping.
 fn position(register: u64, rsp: u64, offset: u32, size: usize) -> Spot
     requires { ⌜ size ≤ imageMost ⌝ }
-    ensures { λ r. ⌜ spotOf r ≡ positionIn register rsp offset (excessOf offset) size ⌝ }
+    ensures { λ r. ⌜ spotOf r ≡ positionIn register rsp offset size ⌝ }
 {
     if offset < layout::NEGATIVE_FROM {
         let up = offset as u64;

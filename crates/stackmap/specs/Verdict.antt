@@ -14,10 +14,14 @@ abbrev pub placeOf : Verdict → ℕ
 placeOf (Valid e) = 0
 placeOf (Refused n p) = p
 
--- k where the test holds, and else the refusal n at p
+-- go on with k where the test holds, and else this refusal; of any type of answer
+abbrev pub need : {A : Type 0} → Bool → A → A → A
+need true refusal k = k
+need false refusal k = refusal
+
+-- go on with k where the test holds, and else the refusal n at p
 unfoldable pub must : Bool → ℕ → ℕ → Verdict → Verdict
-must true n p k = k
-must false n p k = Refused n p
+must b n p k = need b (Refused n p) k
 
 -- the first refusal of the two
 unfoldable pub chain : Verdict → Verdict → Verdict

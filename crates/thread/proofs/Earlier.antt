@@ -1,7 +1,7 @@
 -- Extents, each against those of the frames before it.
-use Prim.Native.Nat.{ℕ, zero, suc, _+_, _*_, _-_, _^_, _≤_, _<_}
-use mathlib.Core.Path.{_≡_, refl, sym, ap, _∙_}
-use mathlib.Core.Bool.{Bool, true, false, cond, _||_}
+use Prim.Native.Nat.{ℕ, zero, suc, _+_, _-_, _^_, _≤_, _<_}
+use mathlib.Core.Path.{_≡_, refl, sym, _∙_}
+use mathlib.Core.Bool.{true, false, cond, _||_}
 use mathlib.Core.List.{List, [], _∷_, map}
 use native.Mathlib.Omega.{arith}
 use borrow.Author.Tests.{lt-ltb, le-ltb, leb-true, ne-eqb}
@@ -16,13 +16,13 @@ use Rattle.moves.specs.declared.Move.{Move}
 use Rattle.moves.specs.Settle.{refusedMove}
 use Rattle.relocate.specs.declared.Frame.{Frame}
 use Rattle.relocate.specs.Plan.{recordsOf, imageRight, stackSize}
-use Rattle.relocate.specs.Relocation.{answer}
+use Rattle.relocate.specs.Relocation.{answer, Extent, extentOf}
 use Rattle.stackmap.proofs.Tests.{and-true}
 use Rattle.relocate.proofs.Planned.{planned}
 use Rattle.relocate.proofs.Asking.{functions-inside, owner-number, size-is}
 use Rattle.relocate.proofs.Demand.{accepts}
 use Rattle.thread.specs.Stretches.{share, sharesAny, Apart}
-use Rattle.thread.specs.Thread.{frameAt, framesFrom, Extent, extentOf, sharesOne, apart}
+use Rattle.thread.specs.Thread.{frameAt, framesFrom, sharesOne, apart}
 use Rattle.thread.specs.Code.{Sited}
 use Rattle.thread.proofs.StretchesApart.{share-empty-2, apart-none, none-shares}
 use Rattle.thread.proofs.Judging.{frames-step, frames-end, frames-start}

@@ -3,23 +3,24 @@ use Prim.Native.Nat.{ℕ, suc, _≤_}
 use mathlib.Core.Path.{_≡_, refl}
 use mathlib.Core.Bool.{Bool, true, false}
 use mathlib.Core.Option.{Option}
-use mathlib.Core.List.{List, [], _∷_, map}
+use mathlib.Core.List.{List, [], _∷_}
 use native.Mathlib.Omega.{arith}
 use borrow.Author.Tests.{leb-true}
-use lib.Dec.{leb, ltb}
+use lib.Dec.{leb}
 use lib.ListN.{length, length-map}
 use Rattle.stackmap.specs.declared.Verdict.{Verdict}
 use Rattle.stackmap.specs.declared.Verdict.the-variants.{Valid, Refused}
+use Rattle.stackmap.specs.Verdict.{need}
 use Rattle.stackmap.specs.Section.{isOld, Record, Entry, readSection}
 use Rattle.stackmap.specs.Check.{sectionCheck}
 use Rattle.questions.specs.Questions.{ask}
 use Rattle.moves.specs.Table.{tableRight, lookUp}
-use Rattle.moves.specs.Pointers.{Pointer}
-use Rattle.moves.specs.Settle.{answerBy, answerFor, first20, first21, settled}
+use Rattle.moves.specs.Window.{part}
 use Rattle.moves.specs.Plan.{Plan, refuse, window, says}
+use Rattle.moves.proofs.Order.{settled-most}
 use Rattle.relocate.specs.declared.Frame.{Frame}
 use Rattle.relocate.specs.Statepoint.{isStatepoint, Pair, pairs, rightForm, inside, pointerOf}
-use Rattle.relocate.specs.Plan.{recordsOf, need, only, every, imageRight, extentRight, stackSize, planPairs, planRecord, planEntry, plan}
+use Rattle.relocate.specs.Plan.{recordsOf, only, every, imageRight, extentRight, stackSize, planPairs, planRecord, plan}
 use Rattle.relocate.specs.Relocation.{answer}
 
 -- a plan with so few pointers
@@ -27,8 +28,7 @@ abbrev Few : Plan → Type 0
 Few (refuse n p) = Unit {0}
 Few (window off size ps) = length ps ≤ 256
 
-need-few : (b : Bool) (n : ℕ) (k : Plan) → (b ≡ true → Few k) → Few (need b n k)
-unfolding need
+need-few : (b : Bool) (n : ℕ) (k : Plan) → (b ≡ true → Few k) → Few (need b (refuse n 0) k)
 need-few true n k h = h refl
 need-few false n k h = tt
 
@@ -61,24 +61,19 @@ pairs-few old pool f off size ps h =
 record-few : (old : Bool) (pool : List ℕ) (first n : ℕ) (f : Frame) (size : ℕ) (r : Record) → Few (planRecord old pool first n f size r)
 unfolding planRecord
 record-few old pool first n f size r =
-    need-few _ 12 _ (λ a. need-few _ 16 _ (λ b. need-few _ 17 _ (λ c. pairs-few old pool f _ size (pairs r) (leb-true (length (pairs r)) 256 c))))
+    need-few (isStatepoint r) 12 _ (λ a. need-few (extentRight first n (f .rsp) size) 16 _ (λ b. need-few (leb (length (pairs r)) 256) 17 _ (λ c.
+    pairs-few old pool f _ size (pairs r) (leb-true (length (pairs r)) 256 c))))
 
 plan-few : (s olds news : List ℕ) (first n : ℕ) (f : Frame) → Few (plan s olds news first n f)
 unfolding plan
 plan-few s olds news first n f =
     ask-few (sectionCheck s) _
-    (need-few _ 13 _ (λ a. need-few _ 14 _ (λ b.
+    (need-few (imageRight first n) 13 _ (λ a. need-few (tableRight olds news) 14 _ (λ b.
     only-few (recordsOf s f) _ (λ e. record-few (isOld s) (readSection s .constants) first n f (stackSize e) (e .body)))))
 
 says-few : (table : ℕ → Option ℕ) (im : List ℕ) (p : Plan) → Few p → says table im p .count ≤ 256
-unfolding settled answerFor
 says-few table im (refuse n q) h = omega arith
-says-few table im (window off size ps) h = go (ltb (first20 ps _) (length ps)) (ltb (first21 table ps _) (length ps)) _ _
-  where
-    go : (b d : Bool) (x y : ℕ) → answerBy b d x y (length ps) .count ≤ 256
-    go true d x y = omega arith
-    go false true x y = omega arith
-    go false false x y = h
+says-few table im (window off size ps) h = omega (arith, settled-most table ps (part im off size))
 
 pub answer-few : (s olds news : List ℕ) (first : ℕ) (im : List ℕ) (f : Frame) → answer s olds news first im f .count ≤ 256
 unfolding answer

@@ -1,26 +1,30 @@
 -- A thread's call is one instant or none: from the definition of its answer, and from demand 3.
 use Prim.Native.Nat.{ℕ, suc}
 use mathlib.Core.Path.{_≡_, refl, sym, ap, _∙_}
-use mathlib.Core.Bool.{Bool, true, false, cond}
+use mathlib.Core.Bool.{Bool, true, false}
 use mathlib.Core.Logic.{⊎-elim}
 use mathlib.Core.List.{List, [], _∷_, map, List·Memᴰ, Memᴰ·of-map, List·Memᴰ·head, List·Memᴰ·tail, List·Memᴰ·not-nil, List·Memᴰ·cases-cons, List·Permᴰ, List·Permᴰ·nil, List·Permᴰ·cons, List·Permᴰ·swap, List·Permᴰ·trans, Permᴰ·symm}
 use native.Mathlib.Omega.{arith}
 use borrow.Author.Tests.{eqb-true, eqb-false, eq-eqb, ne-eqb}
 use lib.Dec.{eqb}
+use lib.ListN.{length}
 use Rattle.stackmap.specs.declared.Verdict.{Verdict}
 use Rattle.stackmap.specs.declared.Verdict.the-variants.{Valid, Refused}
+use Rattle.stackmap.specs.Verdict.{need}
 use Rattle.stackmap.specs.Check.{sectionCheck}
 use Rattle.stackmap.proofs.Numbers.{Numbered, section-numbered}
 use Rattle.stackmap.proofs.Forth.{accepted-length}
 use Rattle.questions.specs.Questions.{ask}
 use Rattle.moves.specs.declared.Move.{Move}
+use Rattle.moves.specs.Table.{tableRight}
 use Rattle.moves.specs.Settle.{refusedMove, acceptedMove}
 use Rattle.moves.proofs.Searches.{perm-mem}
 use Rattle.relocate.specs.declared.Frame.{Frame}
+use Rattle.relocate.specs.Plan.{imageRight}
 use Rattle.relocate.specs.Relocation.{answer}
 use Rattle.relocate.specs.Lists.{final, Holds}
 use Rattle.relocate.proofs.Demand.{demand3, order-free, disjoint-perm}
-use Rattle.thread.specs.Thread.{listRight, framesOf, demand, passes, judged, pairsIn, threadAnswer, threadImage}
+use Rattle.thread.specs.Thread.{listRight, framesOf, passes, judged, pairsIn, threadAnswer, threadImage}
 use Rattle.thread.specs.Theorems.{Movable, total, AcceptedOnly, ByFrames, FrameByFrame, OrNone, AnyOrder, OneInstant}
 use Rattle.thread.proofs.Overlaps.{apart-passes, apart-tells}
 
@@ -31,16 +35,15 @@ unfolding ask
 ask-tells (Refused n p) k a h = absurd (omega (arith, a .above))
 ask-tells (Valid e) k a h = ((e, refl), h)
 
-demand-tells : (b : Bool) (n : ℕ) (k : Move) → demand b (suc n) k .number ≡ 0 → (b ≡ true) × (k .number ≡ 0)
-unfolding demand
-demand-tells true n k h = (refl, h)
-demand-tells false n k h = absurd (omega arith)
+need-tells : (b : Bool) (n : ℕ) (k : Move) → need b (refusedMove (suc n) 0) k .number ≡ 0 → (b ≡ true) × (k .number ≡ 0)
+need-tells true n k h = (refl, h)
+need-tells false n k h = absurd (omega arith)
 
 passes-tells : (m : Move) (i : ℕ) (k : Move) → passes m i k .number ≡ 0 → (m .number ≡ 0) × (k .number ≡ 0)
 unfolding passes
 passes-tells m i k h = go (eqb (m .number) 0) refl h
   where
-    go : (t : Bool) → eqb (m .number) 0 ≡ t → cond t k (refusedMove (m .number) i) .number ≡ 0 → (m .number ≡ 0) × (k .number ≡ 0)
+    go : (t : Bool) → eqb (m .number) 0 ≡ t → need t (refusedMove (m .number) i) k .number ≡ 0 → (m .number ≡ 0) × (k .number ≡ 0)
     go true e z = (eqb-true _ _ e, z)
     go false e z = absurd (eqb-false _ _ e z)
 
@@ -84,9 +87,9 @@ module _ (s olds news : List ℕ) (first : ℕ) (im : List ℕ) where
     unfolding threadAnswer
     accepted-tells h =
         let v = ask-tells (sectionCheck s) _ (section-numbered s) h in
-        let i = demand-tells _ 12 _ (v .1) in
-        let t = demand-tells _ 13 _ (i .1) in
-        let l = demand-tells _ 24 _ (t .1) in
+        let i = need-tells (imageRight first (length im)) 12 _ (v .1) in
+        let t = need-tells (tableRight olds news) 13 _ (i .1) in
+        let l = need-tells (listRight ns) 24 _ (t .1) in
         let j = judged-tells 0 (framesOf ns) _ (l .1) in
         let d = apart-tells s (framesOf ns) _ (j .1) in
         record {
@@ -100,7 +103,7 @@ module _ (s olds news : List ℕ) (first : ℕ) (im : List ℕ) where
 
     module _ (m : Movable s olds news first im ns) where
       movable-answer : threadAnswer s olds news first im ns ≡ acceptedMove (pairsIn s olds news first im (framesOf ns))
-      unfolding threadAnswer ask demand
+      unfolding threadAnswer ask
       movable-answer =
           rw (m .section-right, m .image-right, m .table-right, m .list-right)
           (judged-passes 0 (framesOf ns) _ (m .each) ∙ apart-passes s (framesOf ns) _ (m .disjoint))
@@ -110,7 +113,7 @@ module _ (s olds news : List ℕ) (first : ℕ) (im : List ℕ) where
       movable-image = rw movable-answer
 
       holds : Holds s olds news first im (framesOf ns)
-      holds = demand3 s olds news first im (m .section-right) (framesOf ns) (m .disjoint)
+      holds = demand3 s olds news first im (framesOf ns) (m .disjoint)
 
       by-frames : ByFrames s olds news first im ns
       by-frames =
@@ -156,7 +159,7 @@ any-order s olds news first im ns ns′ h l p =
           ∙ sym (movable-answer s olds news first im ns′ m′);
       same-image =
           movable-image s olds news first im ns m
-          ∙ order-free s olds news first im (m .section-right) (framesOf ns) (framesOf ns′) p (m .disjoint)
+          ∙ order-free s olds news first im (framesOf ns) (framesOf ns′) p (m .disjoint) .same-image
           ∙ sym (movable-image s olds news first im ns′ m′);
     }
 

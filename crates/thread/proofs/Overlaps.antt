@@ -1,24 +1,18 @@
 -- Stretches that share a byte, extents as stretches, and what the test of a list's extents tells: that they share none.
-use Prim.Native.Nat.{ℕ, suc, _+_, max, _≤_, _<_}
+use Prim.Native.Nat.{ℕ, suc, max, _≤_, _<_}
 use mathlib.Core.Path.{_≡_, refl, sym, _∙_}
-use mathlib.Core.Bool.{Bool, true, false, cond, true≢false}
+use mathlib.Core.Bool.{Bool, true, false, true≢false}
 use mathlib.Core.Logic.{_⊎_, inl, inr, ⊎-elim}
 use mathlib.Core.List.{List, [], _∷_, map, List·Memᴰ, List·Memᴰ·head, List·Memᴰ·tail, List·Memᴰ·not-nil, List·Memᴰ·cases-cons}
 use native.Mathlib.Omega.{arith}
-use borrow.Author.Tests.{ltb-true, eqb-false, lt-ltb, ne-eqb}
-use lib.Dec.{eqb}
-use Rattle.stackmap.specs.Layout.{stackSizeUnknown}
-use Rattle.stackmap.specs.Section.{Entry}
 use Rattle.moves.specs.declared.Move.{Move}
 use Rattle.moves.specs.Settle.{refusedMove}
 use Rattle.moves.proofs.Searches.{or-no}
 use Rattle.relocate.specs.declared.Frame.{Frame}
-use Rattle.relocate.specs.Plan.{recordsOf, stackSize}
-use Rattle.relocate.specs.Relocation.{InExtent}
+use Rattle.relocate.specs.Relocation.{Extent, extentOf, InExtent}
 use Rattle.relocate.specs.Lists.{Disjoint}
-use Rattle.stackmap.proofs.Tests.{and-true}
 use Rattle.thread.specs.Stretches.{share}
-use Rattle.thread.specs.Thread.{Extent, extentBy, extentOf, sharesOne, apart}
+use Rattle.thread.specs.Thread.{sharesOne, apart}
 use Rattle.thread.proofs.StretchesApart.{share-yes, share-told}
 
 -- the byte x is in the stretch from a up to b
@@ -52,23 +46,10 @@ abbrev pub In : Extent → ℕ → Type 0
 In x a = Within (x .start) (x .end) a
 
 pub in-stretch : (s : List ℕ) (f : Frame) (a : ℕ) → InExtent s f a → In (extentOf s f) a
-unfolding extentOf
-in-stretch s f a i =
-    rw (i .one, ne-eqb (stackSize (i .entry)) stackSizeUnknown (i .known)) (record { low = i .low; high = i .high })
+in-stretch s f a i = record { low = i .low; high = i .high }
 
 pub of-stretch : (s : List ℕ) (f : Frame) (a : ℕ) → In (extentOf s f) a → InExtent s f a
-unfolding extentOf
-of-stretch s f a i = go (recordsOf s f) refl i
-  where
-    size : (e : Entry) → recordsOf s f ≡ e ∷ [] → (t : Bool) → eqb (stackSize e) stackSizeUnknown ≡ t
-        → Within (f .rsp) (cond t (f .rsp) (f .rsp + stackSize e)) a → InExtent s f a
-    size e q true h w = absurd (omega arith)
-    size e q false h w = record { entry = e; one = q; known = eqb-false _ _ h; low = w .low; high = w .high }
-
-    go : (es : List Entry) → recordsOf s f ≡ es → In (extentBy (f .rsp) es) a → InExtent s f a
-    go [] q w = absurd (omega arith)
-    go (e ∷ []) q w = size e q (eqb (stackSize e) stackSizeUnknown) refl w
-    go (e ∷ e′ ∷ es) q w = absurd (omega arith)
+of-stretch s f a i = record { low = i .low; high = i .high }
 
 module _ (s : List ℕ) where
   abbrev pub extents : List Frame → List Extent

@@ -1,19 +1,18 @@
 -- The whole call, from its stages.
-use Prim.Native.Nat.{ℕ, zero, suc, _+_, _*_, _-_, _/_, _≤_, _<_}
+use Prim.Native.Nat.{ℕ, zero, suc, _+_, _*_, _/_, _≤_, _<_}
 use mathlib.Core.Path.{_≡_, refl, sym, ap, _∙_}
 use mathlib.Core.Bool.{Bool, true, false, cond}
 use mathlib.Core.List.{List, [], _∷_, map, List·Memᴰ, List·Memᴰ·head, List·Memᴰ·tail}
 use native.Mathlib.Omega.{arith}
 use native.Mathlib.Decide.{ℕ-discrete}
-use borrow.Author.Tests.{eq-eqb, ne-eqb, lt-ltb, le-ltb, eqb-true, eqb-false}
+use borrow.Author.Tests.{ne-eqb, lt-ltb, le-ltb}
 use lib.Dec.{eqb, ltb}
 use lib.ListN.{length, getD, replicate}
-use Rattle.stackmap.specs.declared.Verdict.{Verdict}
 use Rattle.stackmap.specs.declared.Verdict.the-variants.{Valid, Refused}
+use Rattle.stackmap.specs.Verdict.{need}
 use Rattle.stackmap.specs.Check.{sectionCheck, Accepted}
 use Rattle.stackmap.proofs.Numbers.{section-numbered}
 use Rattle.stackmap.proofs.Forth.{accepted-length}
-use Rattle.questions.specs.declared.Hits.{Hits}
 use Rattle.questions.specs.Kept.{noHits}
 use Rattle.questions.specs.Questions.{ask}
 use Rattle.moves.specs.declared.Move.{Move}
@@ -21,10 +20,10 @@ use Rattle.moves.specs.Table.{tableRight}
 use Rattle.moves.specs.Settle.{refusedMove, acceptedMove}
 use Rattle.relocate.specs.declared.Frame.{Frame}
 use Rattle.relocate.specs.Plan.{imageRight}
-use Rattle.relocate.specs.Relocation.{answer}
+use Rattle.relocate.specs.Relocation.{answer, extentOf}
 use Rattle.relocate.specs.Lists.{final}
-use Rattle.thread.specs.Thread.{listRight, frameAt, framesFrom, framesOf, extentOf, demand, passes, apart, judged, pairsIn, threadAnswer, threadImage, Threads}
-use Rattle.thread.specs.Code.{hitsAt, Holding, Counted, EachSited, framesAnswer, framesImage}
+use Rattle.thread.specs.Thread.{listRight, frameAt, framesFrom, framesOf, passes, apart, judged, pairsIn, threadAnswer, threadImage, Threads}
+use Rattle.thread.specs.Code.{Holding, Counted, EachSited, framesAnswer, framesImage}
 use Rattle.thread.proofs.OneInstant.{judged-tells, judged-passes}
 use Rattle.thread.proofs.Earlier.{accepted-sited}
 
@@ -48,9 +47,9 @@ module _ (s olds news : List ℕ) (first : ℕ) (im : List ℕ) where
     where
       go : ((judged s olds news first im (suc i) fs k .number ≡ 0 → ⊥) → judged s olds news first im (suc i) fs k ≡ judged s olds news first im (suc i) fs k′)
           → (b : Bool) → eqb (answer s olds news first im f .number) 0 ≡ b
-          → (cond b (judged s olds news first im (suc i) fs k) (refusedMove (answer s olds news first im f .number) i) .number ≡ 0 → ⊥)
-          → cond b (judged s olds news first im (suc i) fs k) (refusedMove (answer s olds news first im f .number) i)
-          ≡ cond b (judged s olds news first im (suc i) fs k′) (refusedMove (answer s olds news first im f .number) i)
+          → (need b (refusedMove (answer s olds news first im f .number) i) (judged s olds news first im (suc i) fs k) .number ≡ 0 → ⊥)
+          → need b (refusedMove (answer s olds news first im f .number) i) (judged s olds news first im (suc i) fs k)
+          ≡ need b (refusedMove (answer s olds news first im f .number) i) (judged s olds news first im (suc i) fs k′)
       go rest true e g = rest g
       go rest false e g = refl
 
@@ -106,23 +105,23 @@ module _ (s olds news : List ℕ) (first : ℕ) (im : List ℕ) where
 
     module _ (k : Accepted s) where
       pub thread-13 : imageRight first (length im) ≡ false → Threads s olds news first im ns (refusedMove 13 0) im
-      unfolding threadAnswer ask demand
+      unfolding threadAnswer ask
       thread-13 h = refused-threads 13 0 (λ z. omega arith) (rw (k, h))
 
       module _ (i : imageRight first (length im) ≡ true) where
         pub thread-14 : tableRight olds news ≡ false → Threads s olds news first im ns (refusedMove 14 0) im
-        unfolding threadAnswer ask demand
+        unfolding threadAnswer ask
         thread-14 h = refused-threads 14 0 (λ z. omega arith) (rw (k, i, h))
 
         module _ (t : tableRight olds news ≡ true) where
           pub thread-25 : listRight ns ≡ false → Threads s olds news first im ns (refusedMove 25 0) im
-          unfolding threadAnswer ask demand
+          unfolding threadAnswer ask
           thread-25 h = refused-threads 25 0 (λ z. omega arith) (rw (k, i, t, h))
 
           pub thread-frames : (n : ℕ) (r : Move) (after : List ℕ) → listRight ns ≡ true → n ≡ length ns / 4
               → (r ≡ framesAnswer s olds news first im (framesFrom ns n 0)) × (after ≡ framesImage s olds news first im (framesFrom ns n 0))
               → Threads s olds news first im ns r after
-          unfolding threadAnswer threadImage framesAnswer framesImage framesOf ask demand
+          unfolding threadAnswer threadImage framesAnswer framesImage framesOf ask
           thread-frames n r after h e q =
               record { answer-is = q .0 ∙ rw (k, i, t, h, ← e); image-is = q .1 ∙ rw (k, i, t, h, ← e) }
 

@@ -18,9 +18,9 @@ use Rattle.moves.specs.Table.{tableRight}
 use Rattle.moves.specs.Settle.{acceptedMove}
 use Rattle.relocate.specs.declared.Frame.{Frame}
 use Rattle.relocate.specs.Plan.{imageRight, stackSize}
-use Rattle.relocate.specs.Relocation.{moved, OneRecord}
+use Rattle.relocate.specs.Relocation.{moved, OneRecord, extentOf}
 use Rattle.relocate.specs.Lists.{final}
-use Rattle.thread.specs.Thread.{framesMost, frameNumbers, frameAt, extentOf, apart, judged, pairsIn}
+use Rattle.thread.specs.Thread.{framesMost, frameNumbers, frameAt, apart, judged, pairsIn}
 
 -- The addresses of the first n frames, in order; equal ones stand side by side.
 pub record Gathered (ns keys : List ℕ) (n : ℕ) : Type 0 where

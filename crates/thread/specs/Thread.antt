@@ -5,16 +5,15 @@ use mathlib.Core.Bool.{Bool, cond, _&&_, _||_, false}
 use mathlib.Core.List.{List, [], _∷_, map}
 use lib.Dec.{eqb, leb}
 use lib.ListN.{length, getD}
-use Rattle.stackmap.specs.Layout.{stackSizeUnknown}
-use Rattle.stackmap.specs.Section.{Entry}
+use Rattle.stackmap.specs.Verdict.{need}
 use Rattle.stackmap.specs.Check.{sectionCheck}
 use Rattle.questions.specs.Questions.{ask}
 use Rattle.moves.specs.declared.Move.{Move}
 use Rattle.moves.specs.Table.{tableRight}
 use Rattle.moves.specs.Settle.{refusedMove, acceptedMove}
 use Rattle.relocate.specs.declared.Frame.{Frame}
-use Rattle.relocate.specs.Plan.{recordsOf, imageRight, stackSize}
-use Rattle.relocate.specs.Relocation.{answer}
+use Rattle.relocate.specs.Plan.{imageRight}
+use Rattle.relocate.specs.Relocation.{answer, Extent, extentOf}
 use Rattle.relocate.specs.Lists.{final}
 use Rattle.thread.specs.Stretches.{share}
 
@@ -49,36 +48,16 @@ framesFrom ns (suc n) k = frameAt ns k ∷ framesFrom ns n (suc k)
 unfoldable pub framesOf : List ℕ → List Frame
 framesOf ns = framesFrom ns (length ns / frameNumbers) 0
 
--- Extents, as stretches: from RSP up to, not including, RSP plus the stack size.
-
-pub record Extent : Type 0 where
-  pub start : ℕ
-  pub end : ℕ
-
--- a frame without exactly one record, or with stack size unknown, has no extent: no byte is in it
-abbrev pub extentBy : ℕ → List Entry → Extent
-extentBy rsp [] = record { start = rsp; end = rsp }
-extentBy rsp (e ∷ []) =
-    record { start = rsp; end = cond (eqb (stackSize e) stackSizeUnknown) rsp (rsp + stackSize e) }
-extentBy rsp (e ∷ e′ ∷ es) = record { start = rsp; end = rsp }
-
-unfoldable pub extentOf : List ℕ → Frame → Extent
-extentOf s f = extentBy (f .rsp) (recordsOf s f)
-
--- it shares a byte with one of these
+-- an extent shares a byte with one of these
 abbrev pub sharesOne : Extent → List Extent → Bool
 sharesOne x [] = false
 sharesOne x (y ∷ ys) = share (x .start) (x .end) (y .start) (y .end) || sharesOne x ys
 
 -- The call. Section, table, first address and image are those that were lent.
 
--- go on where the test holds, and else this refusal, at place 0
-unfoldable pub demand : Bool → ℕ → Move → Move
-demand b n k = cond b k (refusedMove n 0)
-
 -- go on after an accepted frame; the number of a refused one is given with its position
 unfoldable pub passes : Move → ℕ → Move → Move
-passes m i k = cond (eqb (m .number) 0) k (refusedMove (m .number) i)
+passes m i k = need (eqb (m .number) 0) (refusedMove (m .number) i) k
 
 -- 26 at the first frame whose extent shares a byte with an earlier one's; those of `earlier` are before the position i
 unfoldable pub apart : ℕ → List Extent → List Extent → Move → Move
@@ -102,9 +81,9 @@ module _ (s olds news : List ℕ) (first : ℕ) (im : List ℕ) where
   unfoldable pub threadAnswer : List ℕ → Move
   threadAnswer ns =
       ask refusedMove
-      (demand (imageRight first (length im)) 13
-      (demand (tableRight olds news) 14
-      (demand (listRight ns) 25
+      (need (imageRight first (length im)) (refusedMove 13 0)
+      (need (tableRight olds news) (refusedMove 14 0)
+      (need (listRight ns) (refusedMove 25 0)
       (judged 0 (framesOf ns)
       (apart 0 [] (map (extentOf s) (framesOf ns))
       (acceptedMove (pairsIn (framesOf ns))))))))

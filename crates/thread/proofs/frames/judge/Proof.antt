@@ -1,7 +1,7 @@
 use Prim.Native.Nat.{ℕ, _-_}
 use mathlib.Core.Path.{_≡_, refl, sym, ap, _∙_}
 use native.Mathlib.Omega.{arith}
-use Rattle.moves.specs.declared.Move.{Move}
+use lib.ListN.{length}
 use Rattle.moves.specs.Settle.{acceptedMove}
 use Rattle.thread.specs.Thread.{framesFrom, pairsIn}
 use Rattle.thread.proofs.Judging.{Judging, judging-start, judging-few, judging-on, judging-stop, judging-end}
@@ -32,7 +32,7 @@ refused-requires c κs = search needs
 
 same-length : tie.Need-same-length Inv-loop μ-loop
 same-length c =
-    rw (c .before .before .before .before .before .one .ensures .1, c .before .before .before .before .before .before .before .before .loop .inv .1)
+    c .before .before .before .before .before .one .kept .1 .0 ∙ ap length (c .before .before .before .before .before .before .before .before .loop .inv .1)
 
 returns : tie.Need-returns Inv-loop μ-loop
 returns c =
