@@ -58,7 +58,8 @@ place-requires-3 c κs = search needs
 returns-7 : tie.Need-returns-7
 returns-7 c =
     let a = c .before .before .before .before .args in
-    c .place3 .ensures ∙ position-there (a .register) (a .rsp) (a .offset) (a .size) (2 ^ 32) _ (inr (c .before .before .before .if1 .left, omega (arith, c .before .before .before .before .fits .offset), refl)) (omega (arith, c .before .before .before .before .fits .offset))
+    c .place3 .ensures ∙ position-there (a .register) (a .rsp) (a .offset) (a .size) (2 ^ 32) _
+    (inr (c .before .before .before .if1 .left, omega (arith, c .before .before .before .before .fits .offset), refl)) (omega (arith, c .before .before .before .before .fits .offset))
 
 pub position-spec : {M : Type 1} → statement M
 position-spec =
