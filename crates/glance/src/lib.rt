@@ -161,7 +161,7 @@ fn rest(s: &[u8], old: bool, at: usize, count: usize, limit: u32, begun: usize) 
 }
 
 // Whether the `count` locations from `at` are right: four at a time, by one test or two, and the rest one by one.
-pub fn by_fours(s: &[u8], old: bool, at: usize, count: usize, limit: u32) -> bool
+fn by_fours(s: &[u8], old: bool, at: usize, count: usize, limit: u32) -> bool
     requires { ⌜ at + look.size old * count ≤ length (now s) ⌝ }
     ensures { λ r. ⌜ (r ≡ true → Rights old (now (s .entry)) limit at count) ⌝ }
 {
@@ -197,6 +197,53 @@ pub fn locations(s: &[u8], at: usize, count: usize, limit: u32) -> bool
         return any_sixteen(s, at, count, limit);
     }
     by_fours(s, false, at, count, limit)
+}
+
+// One to three locations of version 1, as `few`.
+fn old_few(s: &[u8], at: usize, count: usize) -> bool
+    requires { ⌜ (at + look.size true * count ≤ length (now s)) × (0 < count) × (count < 4) ⌝ }
+    ensures { λ r. ⌜ (r ≡ true → (limit : ℕ) → Rights true (now (s .entry)) limit at count) ⌝ }
+{
+    let a = word_less(s, at);
+    let b = word_less(s, place(true, at, count / 2));
+    let c = word_less(s, place(true, at, count - 1));
+    low(true, a | b | c)
+}
+
+// Four to sixteen locations of version 1, as `sixteen`.
+fn old_sixteen(s: &[u8], at: usize, count: usize) -> bool
+    requires { ⌜ (at + look.size true * count ≤ length (now s)) × (4 ≤ count) × (count ≤ 16) ⌝ }
+    ensures { λ r. ⌜ (r ≡ true → (limit : ℕ) → Rights true (now (s .entry)) limit at count) ⌝ }
+{
+    let next = 4 - minus(8, count);
+    let back = minus(count, 8);
+    let w = four(s, true, at);
+    let x = four(s, true, place(true, at, next));
+    let y = four(s, true, place(true, at, back));
+    let z = four(s, true, place(true, at, count - 4));
+    low(true, w | x | (y | z))
+}
+
+// Whether the `count` locations of version 1 from `at` are right: up to sixteen by one test, and else four at a time.
+pub fn old_locations(s: &[u8], at: usize, count: usize, limit: u32) -> bool
+    requires { ⌜ at + look.size true * count ≤ length (now s) ⌝ }
+    ensures { λ r. ⌜ (r ≡ true → Rights true (now (s .entry)) limit at count) ⌝ }
+{
+    if count == 0 {
+        return true;
+    }
+    if count < 4 {
+        if old_few(s, at, count) {
+            return true;
+        }
+        return by_fours(s, true, at, count, limit);
+    }
+    if count <= 16 {
+        if old_sixteen(s, at, count) {
+            return true;
+        }
+    }
+    by_fours(s, true, at, count, limit)
 }
 
 // Whether the `count` live-outs from `at` have their zero byte.

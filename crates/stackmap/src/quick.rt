@@ -117,13 +117,7 @@ fn of_version_1(s: &[u8], constants: u32, address: u64) -> usize
         return 0;
     }
     if head_right(s, address) {
-        if glance::by_fours(
-            s,
-            true,
-            layout::RECORD_HEAD_SIZE,
-            count,
-            index_limit(constants),
-        ) {
+        if glance::old_locations(s, layout::RECORD_HEAD_SIZE, count, index_limit(constants)) {
             return ending(s, end);
         }
     }

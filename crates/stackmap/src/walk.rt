@@ -73,8 +73,8 @@ pub fn record_at(s: &[u8], old: bool, constants: u32, function: usize, at: usize
     exact_at(s, old, constants, address, at)
 }
 
-// The same for `all_records` alone. What calls `quick::record` twice keeps it a function of its own, whose arguments and answer are in
-// registers, and what is around it is compiled into each walk.
+// The same for `all_records` alone: with two callers `quick::record` stays a function of its own, and what is around it is compiled into
+// each walk, so that no place goes through memory.
 fn next_record(s: &[u8], old: bool, constants: u32, function: usize, at: usize) -> Verdict
     requires { ⌜ (old ≡ isOld (now s)) × (constantsAt (now s) ≤ length (now s)) × (isOld (now s) ≡ false → function < numFunctions (now s)) × (at ≤ length (now s)) ⌝ }
     ensures { λ r. ⌜ r ≡ shift at (recordCheck (isOld (now (s .entry))) (drop at (now (s .entry))) constants (ownerAt (now (s .entry)) function .function .address)) ⌝ }

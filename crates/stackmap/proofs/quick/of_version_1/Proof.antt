@@ -33,8 +33,8 @@ head-right-requires c κs = search needs
 index-limit-requires : tie.Need-index-limit-requires
 index-limit-requires c κs = search needs
 
-by-fours-requires : tie.Need-by-fours-requires
-by-fours-requires c κs = search needs
+old-locations-requires : tie.Need-old-locations-requires
+old-locations-requires c κs = search needs
 
 ending-requires : tie.Need-ending-requires
 ending-requires c κs = search needs
@@ -46,7 +46,7 @@ returns-3 c =
     let n = c .before .before .before .before .before .before .before .u16-at .ensures in
     let g = c .before .before .before .before .before .head-right .ensures (c .before .before .before .before .if3 .taken) in
     let k = c .before .before .before .index-limit in
-    let rights = rw n at (c .before .before .by-fours .ensures (c .before .if4 .taken)) in
+    let rights = rw n at (c .before .before .old-locations .ensures (c .before .if4 .taken)) in
     whole true (a .s .now) (a .constants) (a .address) (c .ending .result) (bare (a .s .now) (c .ending .result) (rw n at (c .ending .ensures h))) (g .0) (g .1)
     (all-right (a .constants) (k .result) (k .ensures .0) (k .ensures .1) true (numLocations (a .s .now)) (a .s .now) 16 rights)
     (no-padding _ _)
@@ -70,7 +70,7 @@ of-version-1-spec =
     returns-2
     head-right-requires
     index-limit-requires
-    by-fours-requires
+    old-locations-requires
     ending-requires
     returns-3
     returns-4
