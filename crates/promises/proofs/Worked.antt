@@ -5,10 +5,10 @@ use Rattle.stackmap.specs.Verdict.{must, chain, bind, pick, shift}
 use Rattle.stackmap.specs.Fields.{bytesOf, size, all, many}
 use Rattle.stackmap.specs.Section.{functionFields, constantFields, locationFields, liveOutFields, recordFields, sectionFields, encodeSection, readFunction, readConstant, readLocation, readLiveOut, recordLength, readRecord, readRecords, readFunctions, readSection, owners, recordOwners, counted, address, entriesFrom, entriesOf, entries}
 use Rattle.stackmap.specs.Record.{zeros, locationZeros, poolCheck, locationCheck, locations, liveOuts, recordInside, recordBytes, recordCheck}
-use Rattle.stackmap.specs.Check.{countsRight, headerCheck, tablesCheck, recordsCheck, walkCheck, sectionCheck}
+use Rattle.stackmap.specs.Check.{firstOutside, countsRight, headerCheck, tablesCheck, recordsCheck, walkCheck, sectionCheck}
 use Rattle.listing.specs.Listing.{functionItem, constantItem, recordItem, locationItem, liveOutItem, recordItems, versionItem, itemFields, listingFields, encodeListing, stands, run, listedFunction, listedConstant, listedLocation, listedLiveOut, listedRecord, recordStop, listedRecords, recordsStop, readItems, listedOld, readListing, itemsStop, notTooMany, noCounts, smallSizes, allSmallSizes, oldRight, itemsCheck, listingCheck, toListing, toSection}
 use Rattle.listing.specs.RoundTrip.{result}
-use Rattle.questions.specs.Questions.{ask, withAddress, ownedBy, namedIn, sought, constantOf}
+use Rattle.questions.specs.Questions.{ask, withAddress, atOffset, ofFunction, sought, constantOf}
 use Rattle.moves.specs.Window.{splice}
 use Rattle.moves.specs.Search.{lowest}
 use Rattle.moves.specs.Table.{rising, noZero, tableRight, lookUp}
@@ -20,5 +20,5 @@ use Rattle.relocate.specs.Relocation.{answer, moved}
 use Rattle.promises.specs.Worked.{got, header, listingH, image, table, WorkedTable}
 
 pub worked : WorkedTable
-unfolding word bytes must chain bind pick shift bytesOf size all many functionFields constantFields locationFields liveOutFields recordFields sectionFields encodeSection readFunction readConstant readLocation readLiveOut recordLength readRecord readRecords readFunctions readSection owners recordOwners counted zeros locationZeros poolCheck locationCheck locations liveOuts recordInside recordBytes recordCheck countsRight headerCheck tablesCheck recordsCheck walkCheck sectionCheck functionItem constantItem recordItem locationItem liveOutItem recordItems versionItem itemFields listingFields encodeListing stands run listedFunction listedConstant listedLocation listedLiveOut listedRecord recordStop listedRecords recordsStop readItems listedOld readListing itemsStop notTooMany noCounts smallSizes allSmallSizes oldRight itemsCheck listingCheck toListing toSection result address entriesFrom entriesOf entries ask withAddress ownedBy namedIn sought constantOf splice lowest rising noZero tableRight lookUp Pointers.overlap Pointers.anyOverlap Pointers.slotsClash Pointers.clash Pointers.newDerived Pointers.newContent answerFor bytesFor first20 put first21 settled settle deoptCount constantHead pairedRest isStatepoint pairUp pairs isZero isNull sizeRight isSlot rightForm registerOf excess slotAt slotInside inside pointerOf recordsOf need only every imageRight extentRight planPairs planRecord plan answer moved got header listingH image table
+unfolding word bytes must chain bind pick shift bytesOf size all many functionFields constantFields locationFields liveOutFields recordFields sectionFields encodeSection readFunction readConstant readLocation readLiveOut recordLength readRecord readRecords readFunctions readSection owners recordOwners counted zeros locationZeros poolCheck locationCheck locations liveOuts recordInside recordBytes recordCheck firstOutside countsRight headerCheck tablesCheck recordsCheck walkCheck sectionCheck functionItem constantItem recordItem locationItem liveOutItem recordItems versionItem itemFields listingFields encodeListing stands run listedFunction listedConstant listedLocation listedLiveOut listedRecord recordStop listedRecords recordsStop readItems listedOld readListing itemsStop notTooMany noCounts smallSizes allSmallSizes oldRight itemsCheck listingCheck toListing toSection result address entriesFrom entriesOf entries ask withAddress atOffset ofFunction sought constantOf splice lowest rising noZero tableRight lookUp Pointers.overlap Pointers.anyOverlap Pointers.slotsClash Pointers.clash Pointers.newDerived Pointers.newContent answerFor bytesFor first20 put first21 settled settle deoptCount constantHead pairedRest isStatepoint pairUp pairs isZero isNull sizeRight isSlot rightForm registerOf excess slotAt slotInside inside pointerOf recordsOf need only every imageRight extentRight planPairs planRecord plan answer moved got header listingH image table
 worked = refl
