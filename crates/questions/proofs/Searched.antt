@@ -146,6 +146,7 @@ from-offset a o (x ∷ es) e m = go (from-offset a o es e) (eqb (x .body .offset
   where
     later : OwnedFrom o e es → OwnedFrom o e (x ∷ es)
     later h = (h .0, List·Memᴰ·tail (h .1), h .2)
+
     go : (List·Memᴰ e (atOffset a o es) → OwnedFrom o e es) → (b : Bool) → eqb (x .body .offset) a ≡ b → OwnedFrom o e (x ∷ es)
     go rest true q = ⊎-elim (λ h. (x, List·Memᴰ·head refl, h)) (λ h. later (rest h)) (List·Memᴰ·cases-cons (rw q at m))
     go rest false q = later (rest (rw q at m))

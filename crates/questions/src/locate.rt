@@ -52,10 +52,7 @@ fn search(s: &[u8], at: usize, wanted: u64) -> Located
     let old = tables::is_old(s);
     let mut turn = walk::start(s, old);
     let mut p = at;
-    let mut kept = Stretch {
-        first: 0,
-        size: 0,
-    };
+    let mut kept = Stretch { first: 0, size: 0 };
     while remaining > 0 {
         let t = walk::owner(s, turn);
         let next = t.next;

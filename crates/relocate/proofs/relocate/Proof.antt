@@ -41,7 +41,7 @@ move-found-requires c κs =
     let h = sym (c .before .before .before .before .before .before .before .of-section .ensures) ∙ c .before .before .before .before .before .before .if1 .left in (
       section-accepted (a .section .now) (a .frame .address) (r .result) (r .ensures) h,
       c .before .named .ensures
-      ∙ named-sought (a .section .now) (a .frame .function) (a .frame .address) (r .result) (first-found (a .section .now) (a .frame .address) (r .result) (r .ensures) h),
+          ∙ named-sought (a .section .now) (a .frame .function) (a .frame .address) (r .result) (first-found (a .section .now) (a .frame .address) (r .result) (r .ensures) h),
       sym (c .before .before .before .before .before .image-right .ensures) ∙ c .before .before .before .before .if2 .taken,
       sym (c .before .before .before .table-right .ensures) ∙ c .before .before .if3 .taken,
     )
