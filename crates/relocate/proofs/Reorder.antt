@@ -100,12 +100,13 @@ unfolding atOffset
 offset-like a o [] [] l = tt
 offset-like a o [] (e′ ∷ es′) l = absurd l
 offset-like a o (e ∷ es) [] l = absurd l
-offset-like a o (e ∷ es) (e′ ∷ es′) l = rw (l .0 .body-like .offset-same) (go (eqb (e .body .offset) a) (offset-like a o es es′ (l .1)))
+offset-like a o (e ∷ es) (e′ ∷ es′) l =
+    go (eqb (e .body .offset) a) (eqb (e′ .body .offset) a) (ap (λ (x : ℕ). eqb x a) (l .0 .body-like .offset-same)) (offset-like a o es es′ (l .1))
   where
-    go : (b : Bool) → EntriesLike (atOffset a o es) (atOffset a o es′)
-        → EntriesLike (cond b (ofOwner o e ∷ atOffset a o es) (atOffset a o es)) (cond b (ofOwner o e′ ∷ atOffset a o es′) (atOffset a o es′))
-    go true h = (record { owner-same = refl; body-like = l .0 .body-like }, h)
-    go false h = h
+    go : (b b′ : Bool) → b′ ≡ b → EntriesLike (atOffset a o es) (atOffset a o es′)
+        → EntriesLike (cond b (ofOwner o e ∷ atOffset a o es) (atOffset a o es)) (cond b′ (ofOwner o e′ ∷ atOffset a o es′) (atOffset a o es′))
+    go true b′ q h = rw q (record { owner-same = refl; body-like = l .0 .body-like }, h)
+    go false b′ q h = rw q h
 
 -- what is sought, by its two versions
 sought-like : (old : Bool) (fs : List Function) (g a : ℕ) (es es′ : List Entry) → EntriesLike es es′
