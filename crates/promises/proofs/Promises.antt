@@ -1,5 +1,6 @@
 -- All promises hold.
 use Rattle.stackmap.proofs.WellFormed
+use Rattle.stackmap.proofs.Numbers
 use Rattle.listing.proofs.Bound
 use Rattle.listing.proofs.RoundTrip
 use Rattle.relocate.proofs.Demand
@@ -15,6 +16,8 @@ promises =
       image-untouched = Consequences.untouched;
       output-kept = RoundTrip.output-kept;
       one-to-one = WellFormed.one-to-one;
+      accepted-is-zero = Numbers.accepted-is-zero;
+      signed-offsets = Numbers.signed-offsets;
       listing-one-to-one = RoundTrip.listing-one-to-one;
       bound-suffices = Bound.bound-suffices;
       built-refusal = WellFormed.built;

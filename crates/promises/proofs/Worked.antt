@@ -7,13 +7,13 @@ use Rattle.stackmap.specs.Section.{functionFields, constantFields, locationFiel
 use Rattle.stackmap.specs.Section.{readFunction, readConstant, readLocation, readLiveOut, recordLength, readRecord, readRecords, readFunctions}
 use Rattle.stackmap.specs.Section.{readSection, owners, recordOwners, counted, address, entriesFrom, entriesOf, entries}
 use Rattle.stackmap.specs.Record.{zeros, locationZeros, poolCheck, locationCheck, locations, liveOuts, recordInside, recordBytes, recordCheck}
-use Rattle.stackmap.specs.Check.{countsRight, headerCheck, tablesCheck, recordsCheck, walkCheck, sectionCheck}
+use Rattle.stackmap.specs.Check.{firstOutside, countsRight, headerCheck, tablesCheck, recordsCheck, walkCheck, sectionCheck}
 use Rattle.listing.specs.Listing.{functionItem, constantItem, recordItem, locationItem, liveOutItem, recordItems, versionItem, itemFields}
 use Rattle.listing.specs.Listing.{listingFields, encodeListing, stands, run, listedFunction, listedConstant, listedLocation, listedLiveOut}
 use Rattle.listing.specs.Listing.{listedRecord, recordStop, listedRecords, recordsStop, readItems, listedOld, readListing, itemsStop, notTooMany}
 use Rattle.listing.specs.Listing.{noCounts, smallSizes, allSmallSizes, oldRight, itemsCheck, listingCheck, toListing, toSection}
 use Rattle.listing.specs.RoundTrip.{result}
-use Rattle.questions.specs.Questions.{ask, withAddress, ownedBy, namedIn, sought, constantOf}
+use Rattle.questions.specs.Questions.{ask, withAddress, atOffset, ofFunction, sought, constantOf}
 use Rattle.moves.specs.Window.{splice}
 use Rattle.moves.specs.Search.{lowest}
 use Rattle.moves.specs.Table.{rising, noZero, tableRight, lookUp}
@@ -29,13 +29,13 @@ pub worked : WorkedTable
 unfolding word bytes must chain bind pick shift bytesOf size all many functionFields constantFields locationFields liveOutFields
     recordFields sectionFields encodeSection readFunction readConstant readLocation readLiveOut recordLength readRecord readRecords
     readFunctions readSection owners recordOwners counted zeros locationZeros poolCheck locationCheck locations liveOuts recordInside
-    recordBytes recordCheck countsRight headerCheck tablesCheck recordsCheck walkCheck sectionCheck functionItem constantItem recordItem
+    recordBytes recordCheck firstOutside countsRight headerCheck tablesCheck recordsCheck walkCheck sectionCheck functionItem constantItem recordItem
     locationItem liveOutItem recordItems versionItem itemFields listingFields encodeListing stands run listedFunction listedConstant
     listedLocation listedLiveOut listedRecord recordStop listedRecords recordsStop readItems listedOld readListing itemsStop notTooMany
     noCounts smallSizes allSmallSizes oldRight itemsCheck listingCheck toListing toSection result address entriesFrom entriesOf entries ask
-    withAddress ownedBy namedIn sought constantOf splice lowest rising noZero tableRight lookUp Pointers.overlap Pointers.anyOverlap
+    withAddress atOffset ofFunction sought constantOf splice lowest rising noZero tableRight lookUp Pointers.overlap Pointers.anyOverlap
     Pointers.slotsClash Pointers.clash Pointers.newDerived Pointers.newContent atLowest first20 put first21 settled settle
     deoptCount constantHead pairedRest isStatepoint pairUp pairs isZero isNull sizeRight isSlot rightForm registerOf asOffset
-    slotAddress slotInside slotAt inside pointerOf recordsOf only every imageRight extentRight planPairs planRecord plan answer moved got header sectionH
-    listingH sectionOldH listingOldH image table
+    slotAddress slotInside slotAt inside pointerOf recordsOf only every imageRight extentRight planPairs planRecord plan answer moved got
+    header sectionH listingH sectionOldH listingOldH image table
 worked = refl

@@ -1,5 +1,5 @@
 -- All that is shown of the definitions, in the order of the demands.
-use Rattle.stackmap.specs.Laws.{OneToOne, BuiltRefusal}
+use Rattle.stackmap.specs.Laws.{OneToOne, BuiltRefusal, AcceptedIsZero, SignedOffsets}
 use Rattle.listing.specs.Bound.{BoundSuffices}
 use Rattle.listing.specs.RoundTrip.{ListingOneToOne, RoundTrips, OutputKept}
 use Rattle.relocate.specs.Lists.{Demand3, OrderFree}
@@ -14,6 +14,8 @@ pub record Promises : Type 0 where
   pub output-kept : OutputKept
   -- 2: accepted sections and listings are their data, both round trips give the same bytes, and a move counts its pairs
   pub one-to-one : OneToOne
+  pub accepted-is-zero : AcceptedIsZero
+  pub signed-offsets : SignedOffsets
   pub listing-one-to-one : ListingOneToOne
   pub bound-suffices : BoundSuffices
   pub built-refusal : BuiltRefusal

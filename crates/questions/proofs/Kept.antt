@@ -110,7 +110,7 @@ module _ (old : Bool) (k : ℕ) where
   unfolding picked
   picked-other e h n = rw (ne-eqb _ _ n)
 
-  pub picked-this : (e : Entry) (h : Stretch) → e .number ≡ k → picked old k e h ≡ record { first = e .first; length = size (recordFields old (e .body)) }
+  pub picked-this : (e : Entry) (h : Stretch) → e .number ≡ k → picked old k e h ≡ record { first = e .first; size = size (recordFields old (e .body)) }
   unfolding picked
   picked-this e h n = rw (eq-eqb _ _ n)
 
@@ -127,7 +127,7 @@ module _ (old : Bool) (k : ℕ) where
   -- the record number i + j
   abbrev stretchOf : Stretch → Option Entry → Stretch
   stretchOf h none = h
-  stretchOf h (some e) = record { first = e .first; length = size (recordFields old (e .body)) }
+  stretchOf h (some e) = record { first = e .first; size = size (recordFields old (e .body)) }
 
   reach : (rs : List Record) (os : List Owner) (i at j : ℕ) (h : Stretch) → i + j ≡ k
       → fold (picked old k) (entriesFrom old i at os rs) h ≡ stretchOf h (getElem? (entriesFrom old i at os rs) j)
@@ -137,7 +137,7 @@ module _ (old : Bool) (k : ℕ) where
   reach (r ∷ rs) (o ∷ os) i at zero h e =
       ap (λ (g : Stretch). fold (picked old k) (entriesFrom old (suc i) (at + size (recordFields old r)) os rs) g)
       (picked-this (record { number = i; first = at; owner = o; body = r }) h (omega arith))
-      ∙ past rs os (suc i) (at + size (recordFields old r)) (record { first = at; length = size (recordFields old r) }) (omega arith)
+      ∙ past rs os (suc i) (at + size (recordFields old r)) (record { first = at; size = size (recordFields old r) }) (omega arith)
   reach (r ∷ rs) (o ∷ os) i at (suc j) h e =
       ap (λ (g : Stretch). fold (picked old k) (entriesFrom old (suc i) (at + size (recordFields old r)) os rs) g)
       (picked-other (record { number = i; first = at; owner = o; body = r }) h (λ (z : i ≡ k). omega arith))
@@ -149,26 +149,26 @@ module _ (old : Bool) (k : ℕ) where
 
   abbrev pub stretchAnswer : Bool → Stretch → Located
   stretchAnswer true h = notLocated 10 0
-  stretchAnswer false h = record { number = 0; place = 0; first = h .first; length = h .length }
+  stretchAnswer false h = record { number = 0; place = 0; first = h .first; size = h .size }
 
-  answered : (x : Option Entry) → stretchAnswer (eqb (stretchOf noStretch x .length) 0) (stretchOf noStretch x) ≡ among (notLocated 10 0) (located old) x
+  answered : (x : Option Entry) → stretchAnswer (eqb (stretchOf noStretch x .size) 0) (stretchOf noStretch x) ≡ among (notLocated 10 0) (located old) x
   answered none = refl
   answered (some e) = let n = not-empty e in rw (ne-eqb (size (recordFields old (e .body))) 0 (λ z. omega arith))
 
   answer-from : (rs : List Record) (os : List Owner) (at : ℕ)
-      → stretchAnswer (eqb (fold (picked old k) (entriesFrom old 0 at os rs) noStretch .length) 0) (fold (picked old k) (entriesFrom old 0 at os rs) noStretch)
+      → stretchAnswer (eqb (fold (picked old k) (entriesFrom old 0 at os rs) noStretch .size) 0) (fold (picked old k) (entriesFrom old 0 at os rs) noStretch)
       ≡ among (notLocated 10 0) (located old) (getElem? (entriesFrom old 0 at os rs) k)
   answer-from rs os at = rw (reach rs os 0 at k noStretch (omega arith)) (answered (getElem? (entriesFrom old 0 at os rs) k))
 
 module _ (k : ℕ) (s : List ℕ) where
-  kept-answer : stretchAnswer (isOld s) k (eqb (fold (picked (isOld s) k) (entries s) noStretch .length) 0) (fold (picked (isOld s) k) (entries s) noStretch)
+  kept-answer : stretchAnswer (isOld s) k (eqb (fold (picked (isOld s) k) (entries s) noStretch .size) 0) (fold (picked (isOld s) k) (entries s) noStretch)
       ≡ among (notLocated 10 0) (located (isOld s)) (getElem? (entries s) k)
   kept-answer = rw (entries-are s) (answer-from (isOld s) k _ _ _)
 
-  pub located-none : (h : Stretch) → fold (picked (isOld s) k) (entries s) noStretch ≡ h → h .length ≡ 0
+  pub located-none : (h : Stretch) → fold (picked (isOld s) k) (entries s) noStretch ≡ h → h .size ≡ 0
       → among (notLocated 10 0) (located (isOld s)) (getElem? (entries s) k) ≡ notLocated 10 0
   located-none h e z = sym kept-answer ∙ rw (e, eq-eqb _ _ z)
 
-  pub located-some : (h : Stretch) → fold (picked (isOld s) k) (entries s) noStretch ≡ h → (h .length ≡ 0 → ⊥)
+  pub located-some : (h : Stretch) → fold (picked (isOld s) k) (entries s) noStretch ≡ h → (h .size ≡ 0 → ⊥)
       → among (notLocated 10 0) (located (isOld s)) (getElem? (entries s) k) ≡ stretchAnswer (isOld s) k false h
   located-some h e z = sym kept-answer ∙ rw (e, ne-eqb _ _ z)

@@ -1,12 +1,12 @@
 -- What a search tells of the section, and of the records that it was for.
-use Prim.Native.Nat.{ℕ, _<_}
+use Prim.Native.Nat.{ℕ, _+_, _<_}
 use mathlib.Core.Path.{_≡_, refl, sym, ap, _∙_}
-use mathlib.Core.Bool.{Bool, true, false, not, _&&_, true≢false}
+use mathlib.Core.Bool.{Bool, true, false, cond, not, _&&_, true≢false}
 use mathlib.Core.Logic.{⊎-elim}
-use mathlib.Core.List.{List, [], _∷_, List·Memᴰ, List·Memᴰ·head, List·Memᴰ·tail, List·Memᴰ·cases-cons}
+use mathlib.Core.List.{List, [], _∷_, List·Memᴰ, List·Memᴰ·head, List·Memᴰ·tail, List·Memᴰ·not-nil, List·Memᴰ·cases-cons}
 use native.Mathlib.Omega.{arith}
 use native.Mathlib.Decide.{decLt}
-use borrow.Author.Tests.{ne-eqb}
+use borrow.Author.Tests.{ne-eqb, le-leb, lt-leb}
 use lib.Dec.{eqb}
 use lib.ListN.{length}
 use Rattle.stackmap.specs.declared.Verdict.{Verdict}
@@ -17,10 +17,10 @@ use Rattle.stackmap.specs.Walk.{functionAt}
 use Rattle.stackmap.proofs.Parts.{function-there, function-absent, function-number}
 use Rattle.stackmap.proofs.Numbers.{Numbered, section-numbered}
 use Rattle.stackmap.proofs.Forth.{accepted-length}
-use Rattle.stackmap.proofs.Entries.{entry-owner}
+use Rattle.stackmap.proofs.Entries.{entry-owner, entry-nobody}
 use Rattle.questions.specs.declared.Found.{Found}
-use Rattle.questions.specs.Kept.{searched, ofSection}
-use Rattle.questions.specs.Questions.{ask, withAddress, notFound, firstOf, ownedBy, namedIn, sought}
+use Rattle.questions.specs.Kept.{searched, namedFound, ofSection}
+use Rattle.questions.specs.Questions.{ask, withAddress, notFound, firstOf, atOffset, ofFunction, sought}
 
 never : _≡_ {A = Bool} true false → ⊥
 never h = true≢false h
@@ -64,22 +64,57 @@ module _ (s : List ℕ) (a : ℕ) (r : Found) (e : r ≡ searched s a) where
   unfolding searched ask
   first-found h = let v = valid h in e ∙ rw (v .1)
 
--- what was found, of one owner
-pub owned-none : (o : Owner) (es : List Entry) (r : Found) → r ≡ firstOf es → (r .number ≡ 0 → ⊥) → r ≡ firstOf (ownedBy o es)
-unfolding ownedBy
-owned-none o [] r e h = e
-owned-none o (x ∷ es) r e h = absurd (h (ap (λ (f : Found). f .number) e))
+-- The function that is named beside it.
+
+-- records, as those of one owner
+unfoldable ownedBy : Owner → List Entry → List Entry
+ownedBy o [] = []
+ownedBy o (e ∷ es) = record { number = e .number; first = e .first; owner = o; body = e .body } ∷ ownedBy o es
 
 length-owned : (o : Owner) (es : List Entry) → length (ownedBy o es) ≡ length es
 unfolding ownedBy
 length-owned o [] = refl
 length-owned o (e ∷ es) = rw (length-owned o es)
 
-pub owned-some : (o : Owner) (es : List Entry) (r : Found) → r ≡ firstOf es → r .number ≡ 0
-    → record { number = 0; place = 0; index = r .index; function = o .number; sharing = r .sharing; first = r .first } ≡ firstOf (ownedBy o es)
+-- what was found, of one owner
+owned-found : (o : Owner) (es : List Entry) (r : Found) → r ≡ firstOf es
+    → cond (eqb (r .number) 0) (record { number = 0; place = 0; index = r .index; function = o .number; sharing = r .sharing; first = r .first }) r
+    ≡ firstOf (ownedBy o es)
 unfolding ownedBy
-owned-some o [] r e h = absurd (let z : r .number ≡ 10 = ap (λ (f : Found). f .number) e in omega arith)
-owned-some o (x ∷ es) r e h = rw (e, length-owned o es)
+owned-found o [] r e = rw e
+owned-found o (x ∷ es) r e = rw (e, length-owned o es)
+
+-- where every record's address is its offset, those at an offset are those with the address
+offset-owned : (a : ℕ) (o : Owner) (es : List Entry) → ((e : Entry) → List·Memᴰ e es → address e ≡ e .body .offset)
+    → atOffset a o es ≡ ownedBy o (withAddress a es)
+unfolding atOffset ownedBy withAddress
+offset-owned a o [] h = refl
+offset-owned a o (e ∷ es) h =
+    rw (h e (List·Memᴰ·head refl)) (go (eqb (e .body .offset) a) (offset-owned a o es (λ x m. h x (List·Memᴰ·tail m))))
+  where
+    go : (b : Bool) → atOffset a o es ≡ ownedBy o (withAddress a es)
+        → cond b (record { number = e .number; first = e .first; owner = o; body = e .body } ∷ atOffset a o es) (atOffset a o es)
+        ≡ ownedBy o (cond b (e ∷ withAddress a es) (withAddress a es))
+    go true i = rw i
+    go false i = i
+
+-- so it is in version 1
+old-address : (s : List ℕ) → isOld s ≡ true → (e : Entry) → List·Memᴰ e (entries s) → address e ≡ e .body .offset
+unfolding address
+old-address s old e m = rw (entry-nobody s old e m) (omega arith)
+
+-- one search, and the function that is named, give what is sought in either version
+pub named-sought : (s : List ℕ) (g a : ℕ) (r : Found) → r ≡ firstOf (withAddress a (entries s))
+    → namedFound (isOld s) (numFunctions s) g r ≡ firstOf (sought s g a)
+unfolding sought ofFunction namedFound
+named-sought s g a r e = go (isOld s) refl (decLt g (numFunctions s))
+  where
+    go : (old : Bool) → isOld s ≡ old → Dec (g < numFunctions s) → namedFound (isOld s) (numFunctions s) g r ≡ firstOf (sought s g a)
+    go false q d = rw q e
+    go true q (yes l) =
+        let f : Owner = record { number = g; function = readFunction (isOld s) s (functionAt (isOld s) g) } in
+        rw (function-there s g l, offset-owned a f (entries s) (old-address s q), q, lt-leb (numFunctions s) g l) (owned-found _ (withAddress a (entries s)) r e)
+    go true q (no l) = rw (function-absent s g (omega arith), q, le-leb (numFunctions s) g (omega arith))
 
 -- Where exactly one record is found: it is a record of the section, and its owner is a function of the section.
 
@@ -100,12 +135,21 @@ from-entries a (x ∷ es) e m = go (from-entries a es e) (eqb (address x) a) ref
     go rest true q = ⊎-elim (λ h. List·Memᴰ·head h) (λ h. List·Memᴰ·tail (rest h)) (List·Memᴰ·cases-cons (rw q at m))
     go rest false q = List·Memᴰ·tail (rest (rw q at m))
 
-owned-one : (o : Owner) (es : List Entry) (e : Entry) → ownedBy o es ≡ e ∷ []
-    → (x : Entry) × (es ≡ x ∷ []) × (e ≡ record { number = x .number; first = x .first; owner = o; body = x .body })
-unfolding ownedBy
-owned-one o [] e h = absurd (let z : _≡_ {A = ℕ} 0 1 = cc in omega arith)
-owned-one o (x ∷ []) e h = (x, refl, cc)
-owned-one o (x ∷ y ∷ es) e h = absurd (let z : _≡_ {A = ℕ} 0 1 = cc in omega arith)
+-- e is one of the entries, as one of the owner o
+abbrev OwnedFrom : Owner → Entry → List Entry → Type 0
+OwnedFrom o e es = (x : Entry) × List·Memᴰ x es × (e ≡ record { number = x .number; first = x .first; owner = o; body = x .body })
+
+from-offset : (a : ℕ) (o : Owner) (es : List Entry) (e : Entry) → List·Memᴰ e (atOffset a o es) → OwnedFrom o e es
+unfolding atOffset
+from-offset a o [] e m = absurd (List·Memᴰ·not-nil m)
+from-offset a o (x ∷ es) e m = go (from-offset a o es e) (eqb (x .body .offset) a) refl
+  where
+    later : OwnedFrom o e es → OwnedFrom o e (x ∷ es)
+    later h = (h .0, List·Memᴰ·tail (h .1), h .2)
+
+    go : (List·Memᴰ e (atOffset a o es) → OwnedFrom o e es) → (b : Bool) → eqb (x .body .offset) a ≡ b → OwnedFrom o e (x ∷ es)
+    go rest true q = ⊎-elim (λ h. (x, List·Memᴰ·head refl, h)) (λ h. later (rest h)) (List·Memᴰ·cases-cons (rw q at m))
+    go rest false q = later (rest (rw q at m))
 
 module _ (s : List ℕ) (g a : ℕ) (e : Entry) where
   alone : (x : Entry) → withAddress a (entries s) ≡ x ∷ [] → List·Memᴰ x (entries s)
@@ -119,16 +163,16 @@ module _ (s : List ℕ) (g a : ℕ) (e : Entry) where
       record { entry = e; member = m; first-is = refl; body-is = refl; owner-there = o .0; function-is = q ∙ sym (function-number s _ (o .0)) }
 
   one-old : (f : Function) → f ≡ readFunction (isOld s) s (functionAt (isOld s) g) → g < numFunctions s
-      → ownedBy (record { number = g; function = f }) (withAddress a (entries s)) ≡ e ∷ [] → One s e
+      → atOffset a (record { number = g; function = f }) (entries s) ≡ e ∷ [] → One s e
   one-old f q l h =
-      let o = owned-one _ (withAddress a (entries s)) e h in
-      rw (o .2) (record { entry = o .0; member = alone (o .0) (o .1); first-is = refl; body-is = refl; owner-there = l; function-is = q ∙ sym (function-number s g l) })
+      let o = from-offset a (record { number = g; function = f }) (entries s) e (rw h (List·Memᴰ·head refl)) in
+      rw (o .2) (record { entry = o .0; member = o .1; first-is = refl; body-is = refl; owner-there = l; function-is = q ∙ sym (function-number s g l) })
 
   pub sought-one : sought s g a ≡ e ∷ [] → One s e
-  unfolding sought namedIn
+  unfolding sought ofFunction
   sought-one h = go (isOld s) refl (decLt g (numFunctions s))
     where
       go : (old : Bool) → isOld s ≡ old → Dec (g < numFunctions s) → One s e
       go false q d = one-new q (rw q at h)
-      go true q (yes l) = one-old _ refl l (rw (q, function-there s g l) at h)
-      go true q (no l) = absurd (let w : [] ≡ e ∷ [] = rw (q, function-absent s g (omega arith)) at h in let z : _≡_ {A = ℕ} 0 1 = cc in omega arith)
+      go true q (yes l) = one-old _ refl l (rw (function-there s g l) at (rw q at h))
+      go true q (no l) = absurd (let w : [] ≡ e ∷ [] = rw (function-absent s g (omega arith)) at (rw q at h) in let z : _≡_ {A = ℕ} 0 1 = cc in omega arith)

@@ -47,15 +47,15 @@ module _ {A : Type 0} (refused : ℕ → ℕ → A) (found : Entry → A) (s : L
   asked-refused h = same-refusal (sectionCheck s) (getElem? (entries s) k) h
 
   -- a record stands there
-  pub record Here (first length : ℕ) : Type 0 where
+  pub record Here (first size : ℕ) : Type 0 where
     pub entry : Entry
     pub answer : ask refused (among (refused 10 0) found (getElem? (entries s) k)) (sectionCheck s) ≡ found entry
     pub body : entry .body ≡ readRecord (isOld s) (drop first s)
-    pub long : recordLength (isOld s) (drop first s) ≡ length
-    pub inside : recordsAt s ≤ lib.ListN.length s
+    pub long : recordLength (isOld s) (drop first s) ≡ size
+    pub inside : recordsAt s ≤ length s
 
   asked-here : (v : Verdict) → sectionCheck s ≡ v → (x : Option Entry) → getElem? (entries s) k ≡ x → Numbered 9 v → standing v x .number ≡ 0
-      → Here (standing v x .first) (standing v x .length)
+      → Here (standing v x .first) (standing v x .size)
   unfolding ask
   asked-here (Refused n p) e x m a h = absurd (let z = a .above in omega arith)
   asked-here (Valid n) e none m a h = absurd (omega arith)
@@ -69,7 +69,7 @@ module _ {A : Type 0} (refused : ℕ → ℕ → A) (found : Entry → A) (s : L
         inside = tables-inside s n e;
       }
 
-  asked-found : recordPlace s k .number ≡ 0 → Here (recordPlace s k .first) (recordPlace s k .length)
+  asked-found : recordPlace s k .number ≡ 0 → Here (recordPlace s k .first) (recordPlace s k .size)
   unfolding recordPlace
   asked-found h = asked-here (sectionCheck s) refl (getElem? (entries s) k) refl (section-numbered s) h
 
@@ -78,5 +78,5 @@ module _ {A : Type 0} (refused : ℕ → ℕ → A) (found : Entry → A) (s : L
       → ask refused (among (refused 10 0) found (getElem? (entries s) k)) (sectionCheck s) ≡ refused (l .number) (l .place)
   refused-at l e h = rw e (asked-refused (rw e at h))
 
-  pub found-at : (l : Located) → l ≡ recordPlace s k → l .number ≡ 0 → Here (l .first) (l .length)
+  pub found-at : (l : Located) → l ≡ recordPlace s k → l .number ≡ 0 → Here (l .first) (l .size)
   found-at l e h = rw e (asked-found (rw e at h))

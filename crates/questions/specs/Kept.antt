@@ -1,8 +1,8 @@
 -- What a walk keeps of the entries that it has passed, to answer a question in one pass; and what one search tells in both versions.
 use Prim.Native.Nat.{ℕ, suc}
-use mathlib.Core.Bool.{Bool, cond, not, _&&_}
+use mathlib.Core.Bool.{Bool, true, false, cond, not, _&&_}
 use mathlib.Core.List.{List}
-use lib.Dec.{eqb}
+use lib.Dec.{eqb, leb}
 use Rattle.stackmap.specs.Fields.{size}
 use Rattle.stackmap.specs.Section.{recordFields, Entry, address, entries}
 use Rattle.stackmap.specs.Check.{sectionCheck}
@@ -27,13 +27,21 @@ noted a e h = cond (eqb (address e) a) (hit e h) h
 unfoldable pub searched : List ℕ → ℕ → Found
 searched s a = ask notFound (firstOf (withAddress a (entries s))) (sectionCheck s)
 
+-- what was found, with the function number g named beside it, in a section of n functions: in version 1 that function owns the record, and
+-- nothing is found if there is no such function; in version 3 it isn't read
+unfoldable pub namedFound : Bool → ℕ → ℕ → Found → Found
+namedFound true n g r =
+    cond (leb n g) (notFound 10 0)
+    (cond (eqb (r .number) 0) (record { number = 0; place = 0; index = r .index; function = g; sharing = r .sharing; first = r .first }) r)
+namedFound false n g r = r
+
 -- it is the section's own refusal: neither found nor 10
 unfoldable pub ofSection : Found → Bool
 ofSection r = not (eqb (r .number) 0) && not (eqb (r .number) 10)
 
--- where the entry with the number stands; its length is 0 while it has not been passed, for no record is empty
+-- where the entry with the number stands; its size is 0 while it has not been passed, for no record is empty
 abbrev pub noStretch : Stretch
-noStretch = record { first = 0; length = 0 }
+noStretch = record { first = 0; size = 0 }
 
 unfoldable pub picked : Bool → ℕ → Entry → Stretch → Stretch
-picked old k e h = cond (eqb (e .number) k) (record { first = e .first; length = size (recordFields old (e .body)) }) h
+picked old k e h = cond (eqb (e .number) k) (record { first = e .first; size = size (recordFields old (e .body)) }) h

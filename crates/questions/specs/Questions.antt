@@ -1,6 +1,6 @@
 -- Questions on a section, in the words and order of document 01. Each is a short function of the list of entries.
 use Prim.Native.Nat.{ℕ, _+_, _-_, _^_}
-use mathlib.Core.Bool.{Bool, true, false, cond}
+use mathlib.Core.Bool.{Bool, cond}
 use mathlib.Core.Option.{Option, none, some}
 use mathlib.Core.List.{List, [], _∷_}
 use lib.ListN.{length, getD, take, drop, getElem?}
@@ -9,7 +9,7 @@ use Rattle.stackmap.specs.declared.Verdict.{Verdict}
 use Rattle.stackmap.specs.declared.Verdict.the-variants.{Valid, Refused}
 use Rattle.stackmap.specs.Layout.{negativeFrom}
 use Rattle.stackmap.specs.Fields.{size}
-use Rattle.stackmap.specs.Section.{Function, Location, LiveOut, Owner, recordFields, isOld, readSection, Entry, address, entries}
+use Rattle.stackmap.specs.Section.{Location, LiveOut, Owner, recordFields, isOld, readSection, Entry, address, entries}
 use Rattle.stackmap.specs.Check.{sectionCheck}
 use Rattle.questions.specs.declared.Found.{Found}
 use Rattle.questions.specs.declared.Located.{Located}
@@ -54,38 +54,41 @@ byAddress s a = ask notFound (cond (isOld s) (notFound 27 0) (firstOf (withAddre
 
 -- By function number and offset, of version 1: 10 if there is no such function or record; 27 on version 3.
 
--- records, as those of one owner
-unfoldable pub ownedBy : Owner → List Entry → List Entry
-ownedBy o [] = []
-ownedBy o (e ∷ es) = record { number = e .number; first = e .first; owner = o; body = e .body } ∷ ownedBy o es
+-- the records at the offset a, as those of the owner o
+unfoldable pub atOffset : ℕ → Owner → List Entry → List Entry
+atOffset a o [] = []
+atOffset a o (e ∷ es) =
+    cond (eqb (e .body .offset) a)
+    (record { number = e .number; first = e .first; owner = o; body = e .body } ∷ atOffset a o es)
+    (atOffset a o es)
 
--- Records that were found, with the function number g named beside them. In version 1 that function owns them, and there are none if
--- there is no such function. In version 3 it isn't read.
-unfoldable pub namedIn : Bool → List Function → ℕ → List Entry → List Entry
-namedIn true fs g es = among [] (λ f. ownedBy (record { number = g; function = f }) es) (getElem? fs g)
-namedIn false fs g es = es
-
--- the records with an address, or at an offset: a record of version 1 is nobody's, and its address is its offset
-unfoldable pub sought : List ℕ → ℕ → ℕ → List Entry
-sought s g a = namedIn (isOld s) (readSection s .functions) g (withAddress a (entries s))
+-- if there is a function number g, the records at the offset, as that function's
+unfoldable pub ofFunction : List ℕ → ℕ → ℕ → List Entry
+ofFunction s g a =
+    among [] (λ f. atOffset a (record { number = g; function = f }) (entries s)) (getElem? (readSection s .functions) g)
 
 unfoldable pub byFunction : List ℕ → ℕ → ℕ → Found
-byFunction s g a = ask notFound (cond (isOld s) (firstOf (sought s g a)) (notFound 27 0)) (sectionCheck s)
+byFunction s g a = ask notFound (cond (isOld s) (firstOf (ofFunction s g a)) (notFound 27 0)) (sectionCheck s)
+
+-- What a function number and an address name, for the layers above: in version 1 the records of that function at that offset, in
+-- version 3 the records with that address, where the function isn't read.
+unfoldable pub sought : List ℕ → ℕ → ℕ → List Entry
+sought s g a = cond (isOld s) (ofFunction s g a) (withAddress a (entries s))
 
 -- By record number: the record's bytes themselves, from the ID to the last padding byte; an empty part on any refusal, whose
 -- number and place are a question of their own.
 
 abbrev pub notLocated : ℕ → ℕ → Located
-notLocated n p = record { number = n; place = p; first = 0; length = 0 }
+notLocated n p = record { number = n; place = p; first = 0; size = 0 }
 
 abbrev pub located : Bool → Entry → Located
-located old e = record { number = 0; place = 0; first = e .first; length = size (recordFields old (e .body)) }
+located old e = record { number = 0; place = 0; first = e .first; size = size (recordFields old (e .body)) }
 
 unfoldable pub recordPlace : List ℕ → ℕ → Located
 recordPlace s k = ask notLocated (among (notLocated 10 0) (located (isOld s)) (getElem? (entries s) k)) (sectionCheck s)
 
 unfoldable pub recordPart : List ℕ → ℕ → List ℕ
-recordPart s k = take (recordPlace s k .length) (drop (recordPlace s k .first) s)
+recordPart s k = take (recordPlace s k .size) (drop (recordPlace s k .first) s)
 
 -- By record and location number: kind, size, register, offset, and the 64-bit constant, 0 for kinds 1 to 3. 10 before 11.
 

@@ -4,13 +4,12 @@
 ghost use mathlib.Core.Path.{_≡_};
 ghost use Prim.Native.Nat.{_+_, _^_, _≤_, _<_};
 ghost use lib.ListN.{length};
-ghost use Rattle.stackmap.specs.Section.{Entry, isOld, recordsAt, readSection, entries};
+ghost use Rattle.stackmap.specs.Section.{numFunctions, isOld, recordsAt, entries};
 ghost use Rattle.stackmap.specs.Check.{walkCheck};
 ghost use Rattle.stackmap.specs.Walk.{ownerAt, entryAt, Walkable};
-ghost use mathlib.Core.List.{List};
 ghost use Rattle.stackmap.specs.Layout.{headerSize};
-ghost use Rattle.questions.specs.Kept.{noted, searched, ofSection};
-ghost use Rattle.questions.specs.Questions.{ask, withAddress, notFound, firstOf, namedIn, byAddress, byFunction};
+ghost use Rattle.questions.specs.Kept.{noted, searched, namedFound, ofSection};
+ghost use Rattle.questions.specs.Questions.{ask, withAddress, notFound, firstOf, byAddress, byFunction};
 use crate::Found;
 use crate::Hits;
 use stackmap::Verdict;
@@ -152,7 +151,7 @@ pub fn of_section(found: Found) -> bool
 // What was found, where the function with this number is named beside it: version 1 does not say which function owns a record.
 pub fn named(s: &[u8], found: Found, function: u64) -> Found
     requires { ⌜ headerSize ≤ length (now s) ⌝ }
-    ensures { λ r. ⌜ ((es : List Entry) → found ≡ firstOf es → r ≡ firstOf (namedIn (isOld (now (s .entry))) (readSection (now (s .entry)) .functions) function es)) ⌝ }
+    ensures { λ r. ⌜ r ≡ namedFound (isOld (now (s .entry))) (numFunctions (now (s .entry))) function found ⌝ }
 {
     if tables::is_old(s) {
         let functions = wire::u32_at(s, layout::NUM_FUNCTIONS_AT) as u64;

@@ -26,13 +26,13 @@ pub struct Located {
     pub number: u8,
     pub place: usize,
     pub first: usize,
-    pub length: usize,
+    pub size: usize,
 }
 
-// Where a search by number has found the record, or length 0.
+// Where a search by number has found the record, or size 0.
 pub struct Stretch {
     pub first: usize,
-    pub length: usize,
+    pub size: usize,
 }
 
 // By record and location number. The offset is its 32 bits.

@@ -23,19 +23,19 @@ fn refused(number: u8, place: usize) -> Located
         number,
         place,
         first: 0,
-        length: 0,
+        size: 0,
     }
 }
 
 // Keeps where the record `index` stands, from `at` to `end`, if it is the wanted one.
 fn keep(s: &[u8], wanted: u64, index: u64, at: usize, end: usize, kept: Stretch) -> Stretch
-    requires { ⌜ (end ≡ at + recordLength (isOld (now s)) (drop at (now s))) × (kept .first + kept .length ≤ at) ⌝ }
-    ensures { λ r. ⌜ ((i : ℕ) → r ≡ picked (isOld (now (s .entry))) wanted (entryAt (now (s .entry)) index i at) kept) × (r .first + r .length ≤ end) ⌝ }
+    requires { ⌜ (end ≡ at + recordLength (isOld (now s)) (drop at (now s))) × (kept .first + kept .size ≤ at) ⌝ }
+    ensures { λ r. ⌜ ((i : ℕ) → r ≡ picked (isOld (now (s .entry))) wanted (entryAt (now (s .entry)) index i at) kept) × (r .first + r .size ≤ end) ⌝ }
 {
     if index == wanted {
         return Stretch {
             first: at,
-            length: end - at,
+            size: end - at,
         };
     }
     kept
@@ -44,7 +44,7 @@ fn keep(s: &[u8], wanted: u64, index: u64, at: usize, end: usize, kept: Stretch)
 // The walk from the first record's byte: all records, with where the wanted one stands; then 9, then 10.
 fn search(s: &[u8], at: usize, wanted: u64) -> Located
     requires { ⌜ Walkable (now s) × (at ≡ recordsAt (now s)) × (at ≤ length (now s)) ⌝ }
-    ensures { λ r. ⌜ (r ≡ ask notLocated (among (notLocated 10 0) (located (isOld (now (s .entry)))) (getElem? (entries (now (s .entry))) wanted)) (walkCheck (now (s .entry)))) × (r .first + r .length ≤ length (now (s .entry))) ⌝ }
+    ensures { λ r. ⌜ (r ≡ ask notLocated (among (notLocated 10 0) (located (isOld (now (s .entry)))) (getElem? (entries (now (s .entry))) wanted)) (walkCheck (now (s .entry)))) × (r .first + r .size ≤ length (now (s .entry))) ⌝ }
 {
     let constants = wire::u32_at(s, layout::NUM_CONSTANTS_AT);
     let mut remaining = wire::u32_at(s, layout::NUM_RECORDS_AT);
@@ -52,10 +52,7 @@ fn search(s: &[u8], at: usize, wanted: u64) -> Located
     let old = tables::is_old(s);
     let mut turn = walk::start(s, old);
     let mut p = at;
-    let mut kept = Stretch {
-        first: 0,
-        length: 0,
-    };
+    let mut kept = Stretch { first: 0, size: 0 };
     while remaining > 0 {
         let t = walk::owner(s, turn);
         let next = t.next;
@@ -76,20 +73,20 @@ fn search(s: &[u8], at: usize, wanted: u64) -> Located
     if p != s.len() {
         return refused(9, p);
     }
-    if kept.length == 0 {
+    if kept.size == 0 {
         return refused(10, 0);
     }
     Located {
         number: 0,
         place: 0,
         first: kept.first,
-        length: kept.length,
+        size: kept.size,
     }
 }
 
 // Where the record of that number stands, or 10 if there is none.
 pub fn locate(s: &[u8], wanted: u64) -> Located
-    ensures { λ r. ⌜ (r ≡ recordPlace (now (s .entry)) wanted) × (r .first + r .length ≤ length (now (s .entry))) ⌝ }
+    ensures { λ r. ⌜ (r ≡ recordPlace (now (s .entry)) wanted) × (r .first + r .size ≤ length (now (s .entry))) ⌝ }
 {
     match tables::begin(s) {
         Verdict::Refused(n, p) => refused(n, p),
@@ -97,12 +94,12 @@ pub fn locate(s: &[u8], wanted: u64) -> Located
     }
 }
 
-// The record's bytes themselves, a part of the section; the empty part on any refusal.
+// The record's bytes themselves, a part of the lent section from the record's first byte; the empty part on any refusal.
 pub fn record(s: &[u8], wanted: u64) -> &[u8]
-    ensures { λ r. ⌜ now r ≡ recordPart (now (s .entry)) wanted ⌝ }
+    ensures { λ r. ⌜ (now r ≡ recordPart (now (s .entry)) wanted) × (r .ptr .0 ≡ s .entry .ptr .0) × (r .ptr .1 ≡ s .entry .ptr .1 + recordPlace (now (s .entry)) wanted .first) ⌝ }
 {
     let l = locate(s, wanted);
     let first = l.first;
-    let end = first + l.length;
+    let end = first + l.size;
     &s[first..end]
 }

@@ -25,7 +25,7 @@ use Rattle.moves.proofs.Splice.{part-length}
 use Rattle.moves.proofs.Order.{Alike, settle-perm}
 use Rattle.moves.proofs.Lists.{Sound}
 use Rattle.relocate.specs.declared.Frame.{Frame}
-use Rattle.questions.specs.Questions.{ask, among, withAddress, ownedBy, namedIn, sought}
+use Rattle.questions.specs.Questions.{ask, among, withAddress, atOffset, ofFunction, sought}
 use Rattle.relocate.specs.Statepoint.{isStatepoint, Pair, pairs, rightForm, inside, pointerOf}
 use Rattle.relocate.specs.Plan.{recordsOf, only, every, stackSize, imageRight, extentRight, planPairs, planRecord, planEntry, plan}
 use Rattle.relocate.specs.Relocation.{answer, moved}
@@ -91,21 +91,34 @@ with-like a (e ∷ es) (e′ ∷ es′) l = rw (like-address e e′ (l .0)) (go 
     go true h = (l .0, h)
     go false h = h
 
-owned-like : (o : Owner) (es es′ : List Entry) → EntriesLike es es′ → EntriesLike (ownedBy o es) (ownedBy o es′)
-unfolding ownedBy
-owned-like o [] [] l = tt
-owned-like o [] (e′ ∷ es′) l = absurd l
-owned-like o (e ∷ es) [] l = absurd l
-owned-like o (e ∷ es) (e′ ∷ es′) l = (record { owner-same = refl; body-like = l .0 .body-like }, owned-like o es es′ (l .1))
+-- an entry, as one of the owner o
+abbrev ofOwner : Owner → Entry → Entry
+ofOwner o x = record { number = x .number; first = x .first; owner = o; body = x .body }
 
-named-like : (old : Bool) (fs : List Function) (g : ℕ) (es es′ : List Entry) → EntriesLike es es′ → EntriesLike (namedIn old fs g es) (namedIn old fs g es′)
-unfolding namedIn
-named-like true fs g es es′ l = go (getElem? fs g)
+offset-like : (a : ℕ) (o : Owner) (es es′ : List Entry) → EntriesLike es es′ → EntriesLike (atOffset a o es) (atOffset a o es′)
+unfolding atOffset
+offset-like a o [] [] l = tt
+offset-like a o [] (e′ ∷ es′) l = absurd l
+offset-like a o (e ∷ es) [] l = absurd l
+offset-like a o (e ∷ es) (e′ ∷ es′) l =
+    go (eqb (e .body .offset) a) (eqb (e′ .body .offset) a) (ap (λ (x : ℕ). eqb x a) (l .0 .body-like .offset-same)) (offset-like a o es es′ (l .1))
   where
-    go : (x : Option Function) → EntriesLike (among [] (λ f. ownedBy (record { number = g; function = f }) es) x) (among [] (λ f. ownedBy (record { number = g; function = f }) es′) x)
+    go : (b b′ : Bool) → b′ ≡ b → EntriesLike (atOffset a o es) (atOffset a o es′)
+        → EntriesLike (cond b (ofOwner o e ∷ atOffset a o es) (atOffset a o es)) (cond b′ (ofOwner o e′ ∷ atOffset a o es′) (atOffset a o es′))
+    go true b′ q h = rw q (record { owner-same = refl; body-like = l .0 .body-like }, h)
+    go false b′ q h = rw q h
+
+-- what is sought, by its two versions
+sought-like : (old : Bool) (fs : List Function) (g a : ℕ) (es es′ : List Entry) → EntriesLike es es′
+    → EntriesLike (cond old (among [] (λ f. atOffset a (record { number = g; function = f }) es) (getElem? fs g)) (withAddress a es))
+    (cond old (among [] (λ f. atOffset a (record { number = g; function = f }) es′) (getElem? fs g)) (withAddress a es′))
+sought-like true fs g a es es′ l = go (getElem? fs g)
+  where
+    go : (x : Option Function)
+        → EntriesLike (among [] (λ f. atOffset a (record { number = g; function = f }) es) x) (among [] (λ f. atOffset a (record { number = g; function = f }) es′) x)
     go none = tt
-    go (some f) = owned-like (record { number = g; function = f }) es es′ l
-named-like false fs g es es′ l = l
+    go (some f) = offset-like a (record { number = g; function = f }) es es′ l
+sought-like false fs g a es es′ l = with-like a es es′ l
 
 same-only : (es es′ : List Entry) (k : Entry → Plan) → EntriesLike es es′ → ((e e′ : Entry) → EntryLike e e′ → SamePlan (k e) (k e′)) → SamePlan (only es k) (only es′ k)
 unfolding only
@@ -148,11 +161,11 @@ module _ (s s′ : List ℕ) (w : Bytes s) (o : OtherOrder s s′) where
 
   module _ (olds news : List ℕ) (first : ℕ) (im : List ℕ) (f : Frame) where
     same-plan : SamePlan (plan s olds news first (length im) f) (plan s′ olds news first (length im) f)
-    unfolding plan recordsOf sought entries ask
+    unfolding plan recordsOf sought ofFunction entries ask
     same-plan =
         rw (o .accepted, now-accepted, old-same, now-read)
         (same-need (imageRight first (length im)) 13 _ _ (same-need (tableRight olds news) 14 _ _
-        (same-only _ _ _ (named-like (isOld s) (t .functions) (f .function) _ _ (with-like (f .address) _ _ (section-like t (o .records) (o .reordered))))
+        (same-only _ _ _ (sought-like (isOld s) (t .functions) (f .function) (f .address) _ _ (section-like t (o .records) (o .reordered)))
         (same-entry (isOld s) (t .constants) first (length im) f))))
 
     both : Alike (answer s olds news first im f) (answer s′ olds news first im f) × (moved s′ olds news first im f ≡ moved s olds news first im f)

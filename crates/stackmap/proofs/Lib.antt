@@ -1,6 +1,7 @@
 pub mod Verdicts
 pub mod Tests
 pub mod Steps
+pub mod Cut
 pub mod Fields
 pub mod Items
 pub mod Parts

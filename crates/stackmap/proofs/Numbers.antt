@@ -1,16 +1,21 @@
--- Which numbers refusals have: those of a section have 1 to 9.
-use Prim.Native.Nat.{ℕ, zero, suc, _+_, _≤_, _<_}
+-- Which numbers refusals have: those of a section have 1 to 9. What 0 means, and the bits of an offset.
+use Prim.Native.Nat.{ℕ, zero, suc, _+_, _*_, _-_, _^_, _≤_, _<_}
+use mathlib.Core.Path.{_≡_, refl, ap, _∙_}
 use mathlib.Core.List.{List, [], _∷_}
 use mathlib.Core.Bool.{Bool, true, false}
 use native.Mathlib.Omega.{arith}
+use native.Mathlib.Decide.{decLt}
+use borrow.Author.Tests.{lt-ltb, le-ltb}
 use lib.ListN.{drop}
 use Rattle.stackmap.specs.declared.Verdict.{Verdict}
 use Rattle.stackmap.specs.declared.Verdict.the-variants.{Valid, Refused}
 use Rattle.stackmap.specs.Layout.{locationSize}
 use Rattle.stackmap.specs.Verdict.{numberOf, must, chain, pick, shift, bind}
-use Rattle.stackmap.specs.Section.{Owner}
+use Rattle.stackmap.specs.Section.{asOffset, offsetBits, Owner}
 use Rattle.stackmap.specs.Record.{zeros, locationZeros, poolCheck, locationCheck, locations, liveOuts, recordInside, recordBytes, recordCheck}
-use Rattle.stackmap.specs.Check.{headerCheck, tablesCheck, recordsCheck, walkCheck, sectionCheck}
+use Rattle.stackmap.specs.Check.{headerCheck, tablesCheck, recordsCheck, walkCheck, sectionCheck, Accepted}
+use Rattle.stackmap.specs.Laws.{AcceptedIsZero, SignedOffsets}
+use Rattle.stackmap.proofs.Forth.{accepted-length}
 
 abbrev pub aboveOf : Verdict → ℕ
 aboveOf (Valid e) = 1
@@ -100,3 +105,20 @@ section-numbered s =
     n-chain _ _ (n-must _ 0 _ _ (omega arith) (n-must _ 0 _ _ (omega arith) (n-must _ 1 _ _ (omega arith) (n-zeros 3 s 1))))
     (n-chain _ _ (n-must _ 3 _ _ (omega arith) (n-must _ 3 _ _ (omega arith) (n-must _ 4 _ _ (omega arith) (n-valid _))))
     (n-bind _ _ (n-walk _ _ s _ _) (λ p. n-must _ 8 _ _ (omega arith) (n-valid p))))
+
+-- a section is accepted exactly when its refusal number is 0
+pub accepted-is-zero : AcceptedIsZero
+accepted-is-zero = record { accepted-zero = λ s h. rw h; zero-accepted = λ s h. go s (sectionCheck s) refl (section-numbered s) h }
+  where
+    go : (s : List ℕ) (v : Verdict) → sectionCheck s ≡ v → Numbered 9 v → numberOf v ≡ 0 → Accepted s
+    go s (Valid e) q a h = q ∙ ap Valid (accepted-length s e q .0)
+    go s (Refused n p) q a h = absurd (let z = a .above in omega arith)
+
+-- the 32 bits of an offset are one signed number
+pub signed-offsets : SignedOffsets
+unfolding asOffset
+signed-offsets = record { one-number = λ bits h. go bits h (decLt bits (2 ^ 31)); minus-eight = refl }
+  where
+    go : (bits : ℕ) → bits < 2 ^ 32 → Dec (bits < 2 ^ 31) → offsetBits (asOffset bits) ≡ bits
+    go bits h (yes l) = rw (lt-ltb bits (2 ^ 31) l)
+    go bits h (no l) = rw (le-ltb bits (2 ^ 31) (omega arith)) (omega arith)

@@ -7,14 +7,15 @@ use native.Mathlib.Omega.{arith}
 use native.Mathlib.Numerals.{add-one}
 use lib.ListN.{length, drop}
 use Rattle.stackmap.specs.declared.Verdict.the-variants.{Valid}
+use Rattle.stackmap.specs.declared.walk.Turn.{Turn}
 use Rattle.stackmap.specs.Verdict.{shift}
-use Rattle.stackmap.specs.Section.{numFunctions, numRecords, recordsAt, recordLength, readRecords, readFunctions, isOld, Owner, recordOwners, Entry, entriesFrom, entries}
+use Rattle.stackmap.specs.Section.{numFunctions, numRecords, recordsAt, recordLength, readRecords, isOld, Owner, Entry, entriesFrom, entries}
 use Rattle.stackmap.specs.Record.{recordCheck}
-use Rattle.stackmap.specs.Walk.{ownerAt, entryAt, ahead, Turning, Walkable}
+use Rattle.stackmap.specs.Walk.{ownerAt, entryAt, ahead, firstTurn, Walkable}
 use Rattle.stackmap.proofs.Verdicts.{shift-valid}
 use Rattle.stackmap.proofs.Forth.{ends}
 use Rattle.stackmap.proofs.Entries.{entries-step, entries-are}
-use Rattle.stackmap.proofs.Turns.{Walking, walk-start, walk-on, ahead-one}
+use Rattle.stackmap.proofs.Turns.{allOwners, Walking, first-ahead, walk-start, walk-on, ahead-one}
 
 -- a valid record that stands at p ends where its length says
 pub here-ends : (old : Bool) (s : List ℕ) (c a p q : ℕ) → shift p (recordCheck old (drop p s) c a) ≡ Valid q → q ≡ p + recordLength old (drop p s)
@@ -33,12 +34,11 @@ module _ {H : Type 0} (add : Entry → H → H) where
     pub walking : Walking s c (recordsAt s) next left remaining p
     pub kept : fold (entries s) h₀ ≡ fold (entriesFrom (isOld s) number p (ahead s next left) (readRecords (isOld s) remaining s p)) h
 
-  -- the turn before the first record is that of walk::start
-  pub fold-start : {s : List ℕ} {c at count next left : ℕ} (h : H) → Walkable s
-      → ahead s next left ≡ recordOwners (isOld s) (numRecords s) (readFunctions s) → Turning s next left
-      → at ≡ recordsAt s → at ≤ length s → count ≡ numRecords s → Folding s c h next left count 0 at h
-  fold-start {s} {c} {at} {count} {next} {left} h w a u e i n =
-      rw (n, e) (record { walking = walk-start w (rw e at i) a u; kept = rw a (ap (λ (es : List Entry). fold es h) (entries-are s)) })
+  pub fold-start : {s : List ℕ} {c at count : ℕ} {t : Turn} (h : H) → Walkable s → t ≡ firstTurn (isOld s) s
+      → at ≡ recordsAt s → at ≤ length s → count ≡ numRecords s → Folding s c h (t .next) (t .left) count 0 at h
+  fold-start {s} {c} {at} {count} {t} h w u e i n =
+      let a : ahead s (t .next) (t .left) ≡ allOwners s = rw u (first-ahead s (isOld s) refl) in
+      rw (n, e) (record { walking = walk-start w (rw e at i) u; kept = rw a (ap (λ (es : List Entry). fold es h) (entries-are s)) })
 
   pub fold-on : {s : List ℕ} {c next left remaining number p q : ℕ} {h₀ h : H} (next′ left′ : ℕ) → Folding s c h₀ next left remaining number p h
       → ahead s next′ left′ ≡ ahead s next left → 0 < left′ → 0 < next′ → (isOld s ≡ false → next′ ≤ numFunctions s) → 0 < remaining

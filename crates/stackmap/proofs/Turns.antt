@@ -1,15 +1,16 @@
 -- The owners ahead of a walk.
 use Prim.Native.Nat.{ℕ, suc, _+_, _-_, _≤_, _<_}
-use mathlib.Core.Path.{_≡_, refl, _∙_}
-use mathlib.Core.Bool.{Bool, true, false}
+use mathlib.Core.Path.{_≡_, refl, sym, _∙_}
+use mathlib.Core.Bool.{Bool, true, false, true≢false}
 use mathlib.Core.List.{List, [], _∷_, append-nil}
 use native.Mathlib.Omega.{arith}
 use lib.ListN.{length, drop, length-replicate}
 use Rattle.stackmap.specs.declared.Verdict.{Verdict}
 use Rattle.stackmap.specs.declared.Verdict.the-variants.{Valid, Refused}
+use Rattle.stackmap.specs.declared.walk.Turn.{Turn}
 use Rattle.stackmap.specs.Verdict.{bind, shift}
 use Rattle.stackmap.specs.Section.{Function, numFunctions, numRecords, isOld, readFunction, readFunctions, Owner, recordOwners, counted}
-use Rattle.stackmap.specs.Walk.{functionAt, ownerBy, ownerAt, laterOwners, ahead, Turning, Walkable}
+use Rattle.stackmap.specs.Walk.{functionAt, ownerBy, ownerAt, laterOwners, ahead, firstTurn, Turning, Walkable}
 use Rattle.stackmap.specs.Record.{recordCheck}
 use Rattle.stackmap.specs.Check.{recordsCheck}
 use Rattle.stackmap.proofs.Steps.{replicate-step, owners-step, owners-some}
@@ -27,14 +28,25 @@ length-recordOwners false n fs h = length-owners 0 fs ∙ h refl
 
 module _ (s : List ℕ) where
   -- version 3: the first function is next
-  pub ahead-start : isOld s ≡ false → ahead s 0 0 ≡ allOwners s
+  ahead-start : isOld s ≡ false → ahead s 0 0 ≡ allOwners s
   unfolding ahead laterOwners recordOwners readFunctions
   ahead-start e = let z : numFunctions s - 0 ≡ numFunctions s = omega arith in rw (e, z)
 
   -- version 1: all records are nobody's
-  pub ahead-old : isOld s ≡ true → ahead s 1 (numRecords s) ≡ allOwners s
+  ahead-old : isOld s ≡ true → ahead s 1 (numRecords s) ≡ allOwners s
   unfolding ahead laterOwners ownerBy recordOwners
   ahead-old e = rw (e, append-nil)
+
+  -- the turn before the first record has all of them ahead
+  pub first-ahead : (old : Bool) → isOld s ≡ old → ahead s (firstTurn old s .next) (firstTurn old s .left) ≡ allOwners s
+  unfolding firstTurn
+  first-ahead true e = ahead-old e
+  first-ahead false e = ahead-start e
+
+  first-turning : (old : Bool) → isOld s ≡ old → Turning s (firstTurn old s .next) (firstTurn old s .left)
+  unfolding firstTurn
+  first-turning true e = record { most = λ z. absurd (true≢false (sym e ∙ z)); begun = λ _. omega arith }
+  first-turning false e = record { most = λ _. omega arith; begun = λ z. absurd (omega arith) }
 
   pub start-length : Walkable s → length (allOwners s) ≡ numRecords s
   start-length w = length-recordOwners (isOld s) (numRecords s) (readFunctions s) (w .adds-up)
@@ -74,10 +86,11 @@ abbrev pub checkedAt : List ℕ → ℕ → ℕ → ℕ → Verdict
 checkedAt s c next p = shift p (recordCheck (isOld s) (drop p s) c (ownerAt s (next - 1) .function .address))
 
 module _ {s : List ℕ} {c at : ℕ} where
-  -- from any turn that has all records ahead
-  pub walk-start : {next left : ℕ} → Walkable s → at ≤ length s → ahead s next left ≡ allOwners s → Turning s next left
-      → Walking s c at next left (numRecords s) at
-  walk-start w h e t = record { turning = t; counted = rw e (start-length s w); inside = h; same = rw e }
+  -- from the first turn
+  pub walk-start : {t : Turn} → Walkable s → at ≤ length s → t ≡ firstTurn (isOld s) s → Walking s c at (t .next) (t .left) (numRecords s) at
+  walk-start w h e =
+      let a = first-ahead s (isOld s) refl in
+      rw e (record { turning = first-turning s (isOld s) refl; counted = rw a (start-length s w); inside = h; same = rw a })
 
   -- the turn has passed on to the next record's owner
   module _ (next′ left′ : ℕ) {next left remaining p : ℕ} (w : Walking s c at next left remaining p)

@@ -1,8 +1,8 @@
 -- The check of a whole section, in document 01's order: 1, 2, 3 in the header, 4 for functions then constants, 5, then each
 -- record, and 9 last.
-use Prim.Native.Nat.{ℕ, _+_, _*_, _-_, _/_}
+use Prim.Native.Nat.{ℕ, zero, suc, _+_}
 use mathlib.Core.Path.{_≡_}
-use mathlib.Core.Bool.{Bool, true, false, _||_}
+use mathlib.Core.Bool.{Bool, true, false, cond, _||_}
 use mathlib.Core.List.{List, [], _∷_}
 use lib.ListN.{length, getD, drop}
 use lib.Dec.{leb, eqb}
@@ -10,7 +10,7 @@ use Rattle.stackmap.specs.declared.Verdict.{Verdict}
 use Rattle.stackmap.specs.declared.Verdict.the-variants.{Valid}
 use Rattle.stackmap.specs.Layout.{headerSize, versionNumber, headerZerosAt, headerZeros, numRecordsAt, functionSize, constantSize, sectionMost}
 use Rattle.stackmap.specs.Verdict.{must, chain, bind, shift}
-use Rattle.stackmap.specs.Section.{Function, numConstants, numRecords, isOld, constantsAt, recordsAt, readFunctions, Owner, recordOwners, counted}
+use Rattle.stackmap.specs.Section.{Function, numFunctions, numConstants, numRecords, isOld, constantsAt, recordsAt, readFunctions, Owner, recordOwners, counted}
 use Rattle.stackmap.specs.Record.{zeros, recordCheck}
 
 -- 2: the version is 3 or 1
@@ -25,9 +25,10 @@ headerCheck s =
     (must (versionRight (getD s 0 0)) 2 0
     (zeros headerZeros s headerZerosAt)))
 
--- 4: the first item of n bytes from `at` that is not wholly inside
-abbrev pub firstOutside : ℕ → List ℕ → ℕ → ℕ
-firstOutside n s at = at + n * ((length s - at) / n)
+-- 4: of m items of n bytes each from `at`, the first byte of the first that is not wholly inside
+unfoldable pub firstOutside : ℕ → ℕ → List ℕ → ℕ → ℕ
+firstOutside n zero s at = at
+firstOutside n (suc m) s at = cond (leb (at + n) (length s)) (firstOutside n m s (at + n)) at
 
 -- the record counts add up; version 1 states none
 unfoldable pub countsRight : Bool → List Function → ℕ → Bool
@@ -37,8 +38,8 @@ countsRight false fs n = eqb (counted fs) n
 -- 4, 5: the functions and the constants are inside, and the record counts add up
 unfoldable pub tablesCheck : List ℕ → Verdict
 tablesCheck s =
-    must (leb (constantsAt s) (length s)) 4 (firstOutside (functionSize (isOld s)) s headerSize)
-    (must (leb (recordsAt s) (length s)) 4 (firstOutside constantSize s (constantsAt s))
+    must (leb (constantsAt s) (length s)) 4 (firstOutside (functionSize (isOld s)) (numFunctions s) s headerSize)
+    (must (leb (recordsAt s) (length s)) 4 (firstOutside constantSize (numConstants s) s (constantsAt s))
     (must (countsRight (isOld s) (readFunctions s) (numRecords s)) 5 numRecordsAt
     (Valid (recordsAt s))))
 

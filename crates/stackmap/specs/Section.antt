@@ -1,11 +1,11 @@
 -- A section as data, its bytes, and what bytes are read as, in the words and order of document 01, "Section bytes".
-use Prim.Native.Nat.{ℕ, zero, suc, _+_, _*_}
-use mathlib.Core.Bool.{Bool, true, false}
+use Prim.Native.Nat.{ℕ, zero, suc, _+_, _*_, _-_}
+use mathlib.Core.Bool.{Bool, true, false, cond}
 use mathlib.Core.List.{List, [], _∷_, _++_}
-use lib.Dec.{eqb}
+use lib.Dec.{eqb, ltb}
 use lib.ListN.{length, getD, drop, replicate}
 use Rattle.wire.specs.Word.{word}
-use Rattle.stackmap.specs.Layout.{headerSize, versionNumber, headerZeros, numFunctionsAt, numConstantsAt, numRecordsAt, functionSize, stackSizeAt, recordCountAt, constantSize, recordHeadSize, instructionOffsetAt, flagsSize, numLocationsAt, locationsPadding, liveOutsHeadZeros, liveOutsHeadSize, liveOutsPadding, locationSize, locationSizeAt, locationSizeWidth, locationRegisterAt, locationOffsetAt, liveOutSize, liveOutSizeAt}
+use Rattle.stackmap.specs.Layout.{headerSize, versionNumber, headerZeros, numFunctionsAt, numConstantsAt, numRecordsAt, functionSize, stackSizeAt, recordCountAt, constantSize, recordHeadSize, instructionOffsetAt, flagsSize, numLocationsAt, locationsPadding, liveOutsHeadZeros, liveOutsHeadSize, liveOutsPadding, locationSize, locationSizeAt, locationSizeWidth, locationRegisterAt, locationOffsetAt, negativeFrom, liveOutSize, liveOutSizeAt}
 use Rattle.stackmap.specs.Fields.{Field, _of_, bytesOf, size, Fit, all, many}
 
 pub record Function : Type 0 where
@@ -19,6 +19,19 @@ pub record Location : Type 0 where
   pub size : ℕ
   pub register : ℕ
   pub offset : ℕ
+
+-- the number that these bits stand for: so much up, or so much down; 4294967288 is 8 down
+pub data Offset : Type 0 where
+  up : ℕ → Offset
+  down : ℕ → Offset
+
+unfoldable pub asOffset : ℕ → Offset
+asOffset bits = cond (ltb bits negativeFrom) (up bits) (down (2 * negativeFrom - bits))
+
+-- and back
+abbrev pub offsetBits : Offset → ℕ
+offsetBits (up n) = n
+offsetBits (down n) = 2 * negativeFrom - n
 
 pub record LiveOut : Type 0 where
   pub register : ℕ

@@ -4,6 +4,7 @@ use mathlib.Core.Path.{_≡_}
 use mathlib.Core.Bool.{Bool, true, false}
 use mathlib.Core.List.{List, [], _++_}
 use lib.ListN.{length, drop, replicate}
+use Rattle.stackmap.specs.declared.walk.Turn.{Turn}
 use Rattle.stackmap.specs.Layout.{headerSize, functionSize}
 use Rattle.stackmap.specs.Fields.{many}
 use Rattle.stackmap.specs.Section.{numFunctions, numRecords, isOld, constantsAt, readFunction, readFunctions, readRecord, Owner, nobody, owners, counted, Entry}
@@ -31,6 +32,11 @@ laterOwners false s next = owners next (many (readFunction false) (functionSize 
 -- the owners of the records still ahead: `left` records of the function before `next`, and those of all functions from `next` on
 unfoldable pub ahead : List ℕ → ℕ → ℕ → List Owner
 ahead s next left = replicate left (ownerAt s (next - 1)) ++ laterOwners (isOld s) s next
+
+-- the turn before the first record: the first function is next; in version 1 all records are ahead, and nobody's
+unfoldable pub firstTurn : Bool → List ℕ → Turn
+firstTurn true s = record { next = 1; left = numRecords s }
+firstTurn false s = record { next = 0; left = 0 }
 
 -- `left` records of the function before `next` are ahead, so there is such a function where any is left
 pub record Turning (s : List ℕ) (next left : ℕ) : Type 0 where

@@ -25,7 +25,7 @@ pub fn check(s: &[u8]) -> Verdict
     match tables::begin(s) {
         Verdict::Refused(n, p) => Verdict::Refused(n, p),
         Verdict::Valid(at) => match walk::all_records(s, at) {
-            Verdict::Refused(n, p) => Verdict::Refused(n, p),
+            Verdict::Refused(n, q) => Verdict::Refused(n, q),
             Verdict::Valid(end) => {
                 if end == s.len() {
                     Verdict::Valid(end)

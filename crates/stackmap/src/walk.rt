@@ -8,7 +8,7 @@ ghost use Rattle.stackmap.specs.Verdict.{shift};
 ghost use Rattle.stackmap.specs.Section.{numFunctions, numConstants, numRecords, isOld, constantsAt, readFunctions, recordOwners};
 ghost use Rattle.stackmap.specs.Record.{recordCheck};
 ghost use Rattle.stackmap.specs.Check.{recordsCheck};
-ghost use Rattle.stackmap.specs.Walk.{ahead, ownerAt, Turning, Walkable};
+ghost use Rattle.stackmap.specs.Walk.{ahead, ownerAt, firstTurn, Turning, Walkable};
 use crate::Verdict;
 use crate::layout;
 use crate::quick;
@@ -90,7 +90,7 @@ fn next_record(s: &[u8], old: bool, constants: u32, function: usize, at: usize) 
 // The turn before the first record: the first function is next, or all records are nobody's.
 pub fn start(s: &[u8], old: bool) -> Turn
     requires { ⌜ (old ≡ isOld (now s)) × Walkable (now s) ⌝ }
-    ensures { λ r. ⌜ (ahead (now (s .entry)) (r .next) (r .left) ≡ recordOwners (isOld (now (s .entry))) (numRecords (now (s .entry))) (readFunctions (now (s .entry)))) × Turning (now (s .entry)) (r .next) (r .left) ⌝ }
+    ensures { λ r. ⌜ r ≡ firstTurn (isOld (now (s .entry))) (now (s .entry)) ⌝ }
 {
     if old {
         let records = wire::u32_at(s, layout::NUM_RECORDS_AT) as u64;

@@ -1,7 +1,6 @@
--- The answer that crosses the C boundary, for each case of a verdict: document 01's number and place, and a value.
-use Prim.Native.Nat.{ℕ}
+-- The answers that cross the C boundary: number, place, and what was asked for.
 use Rattle.stackmap.specs.declared.Verdict.{Verdict}
-use Rattle.stackmap.specs.declared.Verdict.the-variants.{Valid, Refused}
+use Rattle.stackmap.specs.Verdict.{numberOf, placeOf}
 use Rattle.questions.specs.declared.Found.{Found}
 use Rattle.questions.specs.declared.Located.{Located}
 use Rattle.questions.specs.declared.LocationAnswer.{LocationAnswer}
@@ -16,10 +15,9 @@ use Rattle.treskibben.specs.declared.Stands.{Stands}
 use Rattle.treskibben.specs.declared.Location.{Location}
 use Rattle.treskibben.specs.declared.LiveOut.{LiveOut}
 
--- accepted: number 0, place 0 and this value; refused: the number, its place and value 0
-abbrev pub answer : Verdict → ℕ → Answer
-answer (Valid e) v = record { number = 0; place = 0; value = v }
-answer (Refused n p) v = record { number = n; place = p; value = 0 }
+-- the answer of the check: document 01's number and place of the verdict, and the value 0
+abbrev pub answer : Verdict → Answer
+answer v = record { number = numberOf v; place = placeOf v; value = 0 }
 
 -- the answer of a conversion; its value is the length written
 abbrev pub converted : Converted → Answer
@@ -38,10 +36,11 @@ abbrev pub foundAt : Found → Found.Found
 foundAt f = record { number = f .number; place = f .place; index = f .index; function = f .function; sharing = f .sharing }
 
 abbrev pub standsAt : Located → Stands
-standsAt l = record { number = l .number; place = l .place; first = l .first; length = l .length }
+standsAt l = record { number = l .number; place = l .place; first = l .first; length = l .size }
 
-abbrev pub placed : LocationAnswer → Location
-placed l =
+-- the offset is its 32 bits: `asOffset` says which signed number they are
+abbrev pub locationOf : LocationAnswer → Location
+locationOf l =
     record {
       number = l .number;
       place = l .place;
@@ -52,5 +51,5 @@ placed l =
       kind = l .kind;
     }
 
-abbrev pub passed : LiveOutAnswer → LiveOut
-passed l = record { number = l .number; place = l .place; register = l .register; size = l .size }
+abbrev pub liveOutOf : LiveOutAnswer → LiveOut
+liveOutOf l = record { number = l .number; place = l .place; register = l .register; size = l .size }

@@ -5,7 +5,7 @@ ghost use Rattle.questions.specs.Questions.{byAddress, byFunction, recordPlace,
 ghost use Rattle.listing.specs.Listing.{toListing, toSection};
 ghost use Rattle.relocate.specs.Relocation;
 ghost use Rattle.thread.specs.Thread.{threadAnswer, threadImage};
-ghost use Rattle.treskibben.specs.Answer.{answer, converted, moveAnswer, frameOf, foundAt, standsAt, placed, passed};
+ghost use Rattle.treskibben.specs.Answer.{answer, converted, moveAnswer, frameOf, foundAt, standsAt, locationOf, liveOutOf};
 ghost use Rattle.treskibben.specs.Version.{version};
 use stackmap::Verdict;
 
@@ -38,7 +38,7 @@ pub struct Answer {
 // The check of a section: refusals 1 to 9, or accepted with the value 0.
 #[no_mangle]
 pub extern "C" fn treskibben_check(section: &[u8]) -> Answer
-    ensures { λ r. ⌜ r ≡ answer (sectionCheck (now (section .entry))) 0 ⌝ }
+    ensures { λ r. ⌜ r ≡ answer (sectionCheck (now (section .entry))) ⌝ }
 {
     match stackmap::check(section) {
         Verdict::Valid(_) => Answer {
@@ -113,7 +113,7 @@ pub extern "C" fn treskibben_record(section: &[u8], record: u64) -> Stands
         number: l.number as u64,
         place: l.place as u64,
         first: l.first as u64,
-        length: l.length as u64,
+        length: l.size as u64,
     }
 }
 
@@ -132,7 +132,7 @@ pub struct Location {
 // The question by record and location number: the section's refusal, 10, 11, or the location.
 #[no_mangle]
 pub extern "C" fn treskibben_location(section: &[u8], record: u64, location: u64) -> Location
-    ensures { λ r. ⌜ r ≡ placed (locationAnswer (now (section .entry)) «record» location) ⌝ }
+    ensures { λ r. ⌜ r ≡ locationOf (locationAnswer (now (section .entry)) «record» location) ⌝ }
 {
     let l = questions::read::location(section, record, location);
     Location {
@@ -158,14 +158,14 @@ pub struct LiveOut {
 // The question by record and live-out number: the section's refusal, 10, 11, or the live-out.
 #[no_mangle]
 pub extern "C" fn treskibben_live_out(section: &[u8], record: u64, live_out: u64) -> LiveOut
-    ensures { λ r. ⌜ r ≡ passed (liveOutAnswer (now (section .entry)) «record» «live_out») ⌝ }
+    ensures { λ r. ⌜ r ≡ liveOutOf (liveOutAnswer (now (section .entry)) «record» «live_out») ⌝ }
 {
-    let l = questions::read::live_out(section, record, live_out);
+    let o = questions::read::live_out(section, record, live_out);
     LiveOut {
-        number: l.number as u64,
-        place: l.place as u64,
-        register: l.register,
-        size: l.size,
+        number: o.number as u64,
+        place: o.place as u64,
+        register: o.register,
+        size: o.size,
     }
 }
 
@@ -188,11 +188,11 @@ pub extern "C" fn treskibben_to_listing(section: &[u8], output: &mut [u8]) -> An
 pub extern "C" fn treskibben_to_section(listing: &[u8], output: &mut [u8]) -> Answer
     ensures { λ r. ⌜ (r ≡ converted (toSection (now (listing .entry)) (now (output .entry)))) × (now (output .exit) ≡ toSection (now (listing .entry)) (now (output .entry)) .output) ⌝ }
 {
-    let c = builder::to_section(listing, output);
+    let b = builder::to_section(listing, output);
     Answer {
-        number: c.number as u64,
-        place: c.place as u64,
-        value: c.written as u64,
+        number: b.number as u64,
+        place: b.place as u64,
+        value: b.written as u64,
     }
 }
 

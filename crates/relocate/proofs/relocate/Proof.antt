@@ -1,10 +1,8 @@
 use mathlib.Core.Path.{sym, _∙_}
 use native.Mathlib.Omega.{arith}
 use lib.ListN.{length}
-use Rattle.stackmap.specs.Section.{entries}
-use Rattle.questions.specs.Questions.{withAddress, sought}
 use Rattle.questions.proofs.Standing.{tables-inside}
-use Rattle.questions.proofs.Searched.{section-accepted, first-found}
+use Rattle.questions.proofs.Searched.{section-accepted, first-found, named-sought}
 use Rattle.relocate.specs.Plan.{recordsOf}
 use Rattle.relocate.proofs.Stages.{refuses, relocates, plan-section, plan-13, plan-14, plan-on}
 use borrow.Author.Needs.{needs}
@@ -36,13 +34,17 @@ named-requires : tie.Need-named-requires
 named-requires c κs = let i = tables-inside (c .before .before .before .before .before .before .before .before .before .before .before .args .section .now) (length (c .before .before .before .before .before .before .before .before .before .before .before .args .section .now)) (section-accepted (c .before .before .before .before .before .before .before .before .before .before .before .args .section .now) (c .before .before .before .before .before .before .before .before .before .before .before .args .frame .address) (c .before .before .before .before .before .before .records .result) (c .before .before .before .before .before .before .records .ensures) (sym (c .before .before .before .before .before .of-section .ensures) ∙ c .before .before .before .before .if1 .left)) in omega arith
 
 move-found-requires : tie.Need-move-found-requires
-unfolding recordsOf sought
-move-found-requires c κs = (
-  (section-accepted (c .before .before .before .before .before .before .before .before .before .before .before .before .before .args .section .now) (c .before .before .before .before .before .before .before .before .before .before .before .before .before .args .frame .address) (c .before .before .before .before .before .before .before .before .records .result) (c .before .before .before .before .before .before .before .before .records .ensures) (sym (c .before .before .before .before .before .before .before .of-section .ensures) ∙ c .before .before .before .before .before .before .if1 .left)),
-  c .before .named .ensures (withAddress (c .before .before .before .before .before .before .before .before .before .before .before .before .before .args .frame .address) (entries (c .before .before .before .before .before .before .before .before .before .before .before .before .before .args .section .now))) (first-found (c .before .before .before .before .before .before .before .before .before .before .before .before .before .args .section .now) (c .before .before .before .before .before .before .before .before .before .before .before .before .before .args .frame .address) (c .before .before .before .before .before .before .before .before .records .result) (c .before .before .before .before .before .before .before .before .records .ensures) (sym (c .before .before .before .before .before .before .before .of-section .ensures) ∙ c .before .before .before .before .before .before .if1 .left)),
-  (sym (c .before .before .before .before .before .image-right .ensures) ∙ c .before .before .before .before .if2 .taken),
-  (sym (c .before .before .before .table-right .ensures) ∙ c .before .before .if3 .taken),
-)
+unfolding recordsOf
+move-found-requires c κs =
+    let a = c .before .before .before .before .before .before .before .before .before .before .before .before .before .args in
+    let r = c .before .before .before .before .before .before .before .before .records in
+    let h = sym (c .before .before .before .before .before .before .before .of-section .ensures) ∙ c .before .before .before .before .before .before .if1 .left in (
+      section-accepted (a .section .now) (a .frame .address) (r .result) (r .ensures) h,
+      c .before .named .ensures
+          ∙ named-sought (a .section .now) (a .frame .function) (a .frame .address) (r .result) (first-found (a .section .now) (a .frame .address) (r .result) (r .ensures) h),
+      sym (c .before .before .before .before .before .image-right .ensures) ∙ c .before .before .before .before .if2 .taken,
+      sym (c .before .before .before .table-right .ensures) ∙ c .before .before .if3 .taken,
+    )
 
 same-length : tie.Need-same-length
 same-length c = search needs

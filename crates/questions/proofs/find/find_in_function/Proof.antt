@@ -1,10 +1,11 @@
-use mathlib.Core.Path.{sym, _∙_}
+use mathlib.Core.Path.{_≡_, sym, _∙_}
+use mathlib.Core.Bool.{cond}
 use native.Mathlib.Omega.{arith}
 use lib.ListN.{length}
-use Rattle.stackmap.specs.Section.{entries}
-use Rattle.questions.specs.Questions.{notFound, withAddress, byFunction, sought}
+use Rattle.questions.specs.Questions.{notFound, firstOf, ofFunction, byFunction, sought}
+use Rattle.stackmap.specs.Section.{isOld}
 use Rattle.questions.proofs.Standing.{tables-inside}
-use Rattle.questions.proofs.Searched.{asked, section-refused, section-accepted, first-found}
+use Rattle.questions.proofs.Searched.{asked, section-refused, section-accepted, first-found, named-sought}
 use borrow.Author.Needs.{needs}
 use Rattle.questions.proofs.find.find_in_function.Statement.{statement}
 use Rattle.questions.proofs.find.find_in_function.Tie as tie
@@ -30,7 +31,16 @@ named-requires c κs = let k = tables-inside (c .before .before .before .before 
 
 returns-2 : tie.Need-returns-2
 unfolding byFunction sought
-returns-2 c = let h = sym (c .before .before .before .before .of-section .ensures) ∙ c .before .before .before .if1 .left in c .named .ensures (withAddress (c .before .before .before .before .before .before .before .args .offset) (entries (c .before .before .before .before .before .before .before .args .s .now))) (first-found (c .before .before .before .before .before .before .before .args .s .now) (c .before .before .before .before .before .before .before .args .offset) (c .before .before .before .before .before .records .result) (c .before .before .before .before .before .records .ensures) h) ∙ sym (asked notFound _ (c .before .before .before .before .before .before .before .args .s .now) (section-accepted (c .before .before .before .before .before .before .before .args .s .now) (c .before .before .before .before .before .before .before .args .offset) (c .before .before .before .before .before .records .result) (c .before .before .before .before .before .records .ensures) h) ∙ rw (sym (c .before .before .is-old .ensures) ∙ c .before .if2 .taken))
+returns-2 c =
+    let a = c .before .before .before .before .before .before .before .args in
+    let r = c .before .before .before .before .before .records in
+    let h = sym (c .before .before .before .before .of-section .ensures) ∙ c .before .before .before .if1 .left in
+    let v = sym (c .before .before .is-old .ensures) ∙ c .before .if2 .taken in
+    let w : firstOf (sought (a .s .now) (a .function) (a .offset)) ≡ cond (isOld (a .s .now)) (firstOf (ofFunction (a .s .now) (a .function) (a .offset))) (notFound 27 0) = rw v in
+    c .named .ensures
+    ∙ named-sought (a .s .now) (a .function) (a .offset) (r .result) (first-found (a .s .now) (a .offset) (r .result) (r .ensures) h)
+    ∙ w
+    ∙ sym (asked notFound _ (a .s .now) (section-accepted (a .s .now) (a .offset) (r .result) (r .ensures) h))
 
 refused-requires-2 : tie.Need-refused-requires-2
 refused-requires-2 c κs = search needs

@@ -33,7 +33,7 @@ start-requires c κs = (c .is-old .ensures, c .before .before .before .before .p
 loop-holds : tie.Need-loop-holds Inv-loop μ-loop
 loop-holds c =
     let q = c .before .before .before .before .before in
-    (fold-start (noted (q .args .address)) noHits (q .pre .0) (c .start .ensures .0) (c .start .ensures .1) (q .pre .1) (q .pre .2) (c .before .before .u32-at2 .ensures), omega arith, omega arith)
+    (fold-start (noted (q .args .address)) noHits (q .pre .0) (c .start .ensures) (q .pre .1) (q .pre .2) (c .before .before .u32-at2 .ensures), omega arith, omega arith)
 
 owner-requires : tie.Need-owner-requires Inv-loop μ-loop
 owner-requires c κs =

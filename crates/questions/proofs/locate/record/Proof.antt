@@ -1,7 +1,8 @@
 -- The part from the record's first byte, as long as the record.
 use Prim.Native.Nat.{_+_, _-_}
-use mathlib.Core.Path.{_≡_}
+use mathlib.Core.Path.{_≡_, refl, ap}
 use native.Mathlib.Omega.{arith}
+use Rattle.questions.specs.declared.Located.{Located}
 use Rattle.questions.specs.Questions.{recordPart}
 use borrow.Author.Needs.{needs}
 use Rattle.questions.proofs.locate.record.Statement.{statement}
@@ -26,8 +27,9 @@ returns : tie.Need-returns
 unfolding recordPart
 returns c =
     let l = c .before .before .locate .result in
-    let e : l .first + l .length - l .first ≡ l .length = omega arith in
-    rw (e, c .before .before .locate .ensures .0)
+    let e : l .first + l .size - l .first ≡ l .size = omega arith in
+    let z = ap (λ (x : Located). x .first) (c .before .before .locate .ensures .0) in
+    (rw (e, c .before .before .locate .ensures .0), refl, omega arith)
 
 pub record-spec : {M : Type 1} → statement M
 record-spec =

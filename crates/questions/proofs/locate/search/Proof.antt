@@ -12,7 +12,7 @@ use Rattle.questions.proofs.locate.search.Statement.{statement}
 use Rattle.questions.proofs.locate.search.Tie as tie
 
 abbrev Inv-loop : tie.InvT-loop
-Inv-loop s at wanted constants remaining₀ index₀ old turn₀ p₀ kept₀ remaining index turn p kept = Folding (picked (isOld s) wanted) s constants noStretch (turn .next) (turn .left) remaining index p kept × (kept .first + kept .length ≤ p) × (index + remaining < 2 ^ 32)
+Inv-loop s at wanted constants remaining₀ index₀ old turn₀ p₀ kept₀ remaining index turn p kept = Folding (picked (isOld s) wanted) s constants noStretch (turn .next) (turn .left) remaining index p kept × (kept .first + kept .size ≤ p) × (index + remaining < 2 ^ 32)
 
 abbrev μ-loop : tie.MeasureT-loop
 μ-loop s at wanted constants remaining₀ index₀ old turn₀ p₀ kept₀ remaining index turn p kept = remaining
@@ -32,7 +32,7 @@ start-requires c κs = (c .is-old .ensures, c .before .before .before .before .p
 loop-holds : tie.Need-loop-holds Inv-loop μ-loop
 loop-holds c =
     let q = c .before .before .before .before .before in
-    (fold-start (picked (isOld (q .args .s .now)) (q .args .wanted)) noStretch (q .pre .0) (c .start .ensures .0) (c .start .ensures .1) (q .pre .1) (q .pre .2) (c .before .before .u32-at2 .ensures), omega arith, omega arith)
+    (fold-start (picked (isOld (q .args .s .now)) (q .args .wanted)) noStretch (q .pre .0) (c .start .ensures) (q .pre .1) (q .pre .2) (c .before .before .u32-at2 .ensures), omega arith, omega arith)
 
 owner-requires : tie.Need-owner-requires Inv-loop μ-loop
 owner-requires c κs =

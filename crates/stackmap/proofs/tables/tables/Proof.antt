@@ -1,14 +1,15 @@
 use native.Mathlib.Omega.{arith}
-use Prim.Native.Nat.{_*_, _-_, _/_, _≤_}
+use Prim.Native.Nat.{_*_, _-_, _/_, _≤_, _<_}
 use lib.ListN.{length}
 use mathlib.Core.Path.{_≡_, sym, ap, _∙_}
 use mathlib.Core.Bool.{false}
 use Rattle.stackmap.specs.Layout.{functionSize}
 use Rattle.stackmap.specs.Check.{countsRight, tablesCheck}
-use Rattle.stackmap.specs.Section.{numRecords, isOld, readFunctions}
+use Rattle.stackmap.specs.Section.{numRecords, isOld, constantsAt, recordsAt, readFunctions}
 use Rattle.stackmap.specs.Verdict.{must}
 use Rattle.stackmap.proofs.Tests.{tests}
 use Rattle.stackmap.proofs.Steps.{times-most, function-least, functions-most}
+use Rattle.stackmap.proofs.Cut.{function-cut, constant-cut}
 use borrow.Author.Needs.{needs}
 use Rattle.stackmap.proofs.tables.tables.Statement.{statement}
 use Rattle.stackmap.proofs.tables.tables.Tie as tie
@@ -61,7 +62,11 @@ add-t15 c = let h = whole c in omega arith
 
 returns : tie.Need-returns
 unfolding tablesCheck must
-returns c = rw (← c .before .before .before .before .before .u32-at .ensures, ← c .before .before .is-old .ensures, ← c .before .function-size .ensures .0) (search tests)
+returns c =
+    let a = c .before .before .before .before .before .before .before in
+    let l : length (a .args .s .now) < constantsAt (a .args .s .now) =
+    rw (← c .before .before .before .before .before .u32-at .ensures, ← c .before .before .is-old .ensures, ← c .before .function-size .ensures .0) (omega arith) in
+    rw (function-cut (a .args .s .now) (a .pre) l, ← c .before .before .before .before .before .u32-at .ensures, ← c .before .before .is-old .ensures, ← c .before .function-size .ensures .0) (search tests)
 
 mul-end : tie.Need-mul-end
 mul-end c = search needs
@@ -80,7 +85,13 @@ add-t20 c = search needs
 
 returns-2 : tie.Need-returns-2
 unfolding tablesCheck must
-returns-2 c = rw (← c .before .before .before .before .before .before .u32-at .ensures, ← c .before .before .before .before .before .u32-at2 .ensures, ← c .before .before .before .is-old .ensures, ← c .before .before .function-size .ensures .0) (search tests)
+returns-2 c =
+    let a = c .before .before .before .before .before .before .before .before in
+    let l : constantsAt (a .args .s .now) ≤ length (a .args .s .now) =
+    rw (← c .before .before .before .before .before .before .u32-at .ensures, ← c .before .before .before .is-old .ensures, ← c .before .before .function-size .ensures .0) (omega arith) in
+    let h : length (a .args .s .now) < recordsAt (a .args .s .now) =
+    rw (← c .before .before .before .before .before .before .u32-at .ensures, ← c .before .before .before .before .before .u32-at2 .ensures, ← c .before .before .before .is-old .ensures, ← c .before .before .function-size .ensures .0) (omega arith) in
+    rw (constant-cut (a .args .s .now) l h, ← c .before .before .before .before .before .before .u32-at .ensures, ← c .before .before .before .before .before .u32-at2 .ensures, ← c .before .before .before .is-old .ensures, ← c .before .before .function-size .ensures .0) (search tests)
 
 is-old-requires-2 : tie.Need-is-old-requires-2
 is-old-requires-2 c κs = search needs

@@ -26,7 +26,7 @@ start-requires : tie.Need-start-requires Inv-loop μ-loop
 start-requires c κs = (c .is-old .ensures, c .before .before .before .before .pre .0)
 
 loop-holds : tie.Need-loop-holds Inv-loop μ-loop
-loop-holds c = rw (c .before .before .u32-at2 .ensures) (walk-start (c .before .before .before .before .before .pre .0) (c .before .before .before .before .before .pre .1) (c .start .ensures .0) (c .start .ensures .1))
+loop-holds c = rw (c .before .before .u32-at2 .ensures) (walk-start (c .before .before .before .before .before .pre .0) (c .before .before .before .before .before .pre .1) (c .start .ensures))
 
 owner-requires : tie.Need-owner-requires Inv-loop μ-loop
 owner-requires c κs =

@@ -29,7 +29,7 @@ lower-bound-requires : tie.Need-lower-bound-requires Inv-loop μ-loop
 lower-bound-requires c κs = (omega arith, c .before .before .before .before .loop .inv .0 .sorted)
 
 insert-requires : tie.Need-insert-requires Inv-loop μ-loop
-insert-requires c κs = let m = c .before .lower-bound .ensures .most in (omega arith, m)
+insert-requires c κs = let m = c .before .lower-bound .ensures .1 .most in (omega arith, m)
 
 add-k : tie.Need-add-k Inv-loop μ-loop
 add-k c = search needs
@@ -39,7 +39,7 @@ loop-less c = search needs
 
 loop-again : tie.Need-loop-again Inv-loop μ-loop
 loop-again c =
-    (gathered-on (c .before .before .before .before .before .before .before .before .before .args .frames .now) _ _ _ _ _ (c .before .before .before .before .before .before .before .loop .inv .0) (c .before .before .lower-bound .ensures) (c .insert .ensures) (first-number (c .before .before .before .before .before .before .before .before .before .args .frames .now) (c .before .before .before .before .before .before .before .loop .k)), omega arith)
+    (gathered-on (c .before .before .before .before .before .before .before .before .before .args .frames .now) _ _ _ _ _ (c .before .before .before .before .before .before .before .loop .inv .0) (c .before .before .lower-bound .ensures .1) (c .insert .ensures .1) (first-number (c .before .before .before .before .before .before .before .before .before .args .frames .now) (c .before .before .before .before .before .before .before .loop .k)), omega arith)
 
 returns : tie.Need-returns Inv-loop μ-loop
 returns c =

@@ -90,7 +90,7 @@ returns-4 c =
     let e = entryAt (a .s .now) (a .index) (a .function) (a .at) in
     let x : address e ≡ a .start + c .before .before .before .before .before .before .before .before .before .before .before .before .before .before .before .u32-at .result =
     here-address (a .s .now) (a .index) (a .function) (a .at) ∙ rw (s .pre .0, c .before .before .before .before .before .before .before .before .before .before .before .before .before .before .before .u32-at .ensures) in
-    let l : LowerBound (a .keys .now) (a .count) (address e) (c .before .before .before .before .before .before .before .before .lower-bound .result) = rw x (c .before .before .before .before .before .before .before .before .lower-bound .ensures) in (
+    let l : LowerBound (a .keys .now) (a .count) (address e) (c .before .before .before .before .before .before .before .before .lower-bound .result) = rw x (c .before .before .before .before .before .before .before .before .lower-bound .ensures .1) in (
       marked (a .keys .now) (a .count) e _ l _ _ (c .before .before .before .before .before .before .before .if4 .taken) (c .before .before .before .before .before .if5 .taken ∙ sym x)
           (rw (x, ← c .before .before .before .hits-at .ensures, ← c .before .before .note .ensures .0) (c .store .ensures)),
       counted-stored _ _ _ _ _ (c .store .ensures) (c .before .before .note .ensures .1) (s .pre .6),
@@ -103,7 +103,7 @@ returns-5 c =
     let e = entryAt (a .s .now) (a .index) (a .function) (a .at) in
     let x : address e ≡ a .start + c .before .before .before .before .before .before .before .before .before .before .u32-at .result =
     here-address (a .s .now) (a .index) (a .function) (a .at) ∙ rw (s .pre .0, c .before .before .before .before .before .before .before .before .before .before .u32-at .ensures) in
-    let l : LowerBound (a .keys .now) (a .count) (address e) (c .before .before .before .lower-bound .result) = rw x (c .before .before .before .lower-bound .ensures) in
+    let l : LowerBound (a .keys .now) (a .count) (address e) (c .before .before .before .lower-bound .result) = rw x (c .before .before .before .lower-bound .ensures .1) in
     (unmarked (a .keys .now) (a .count) e _ l _ (λ m q. c .if5 .left (q ∙ x)), counted-more _ _ _ (omega arith) (s .pre .6))
 
 returns-6 : tie.Need-returns-6
@@ -113,7 +113,7 @@ returns-6 c =
     let e = entryAt (a .s .now) (a .index) (a .function) (a .at) in
     let x : address e ≡ a .start + c .before .before .before .before .before .before .before .before .u32-at .result =
     here-address (a .s .now) (a .index) (a .function) (a .at) ∙ rw (s .pre .0, c .before .before .before .before .before .before .before .before .u32-at .ensures) in
-    let l : LowerBound (a .keys .now) (a .count) (address e) (c .before .lower-bound .result) = rw x (c .before .lower-bound .ensures) in
+    let l : LowerBound (a .keys .now) (a .count) (address e) (c .before .lower-bound .result) = rw x (c .before .lower-bound .ensures .1) in
     (unmarked (a .keys .now) (a .count) e _ l _ (λ m q. omega (arith, c .if4 .left)), counted-more _ _ _ (omega arith) (s .pre .6))
 
 pub mark-spec : {M : Type 1} → statement M

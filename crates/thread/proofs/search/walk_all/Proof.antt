@@ -37,7 +37,7 @@ start-requires c κs = (c .is-old .ensures, c .before .before .before .before .p
 loop-holds : tie.Need-loop-holds Inv-loop μ-loop
 loop-holds c =
     let q = c .before .before .before .before .before in
-    ((λ a. noHits), fold-start notedAll (λ a. noHits) (q .pre .0) (c .start .ensures .0) (c .start .ensures .1) (q .pre .1) (q .pre .2) (c .before .before .u32-at2 .ensures), q .pre .5, q .pre .6, omega arith)
+    ((λ a. noHits), fold-start notedAll (λ a. noHits) (q .pre .0) (c .start .ensures) (q .pre .1) (q .pre .2) (c .before .before .u32-at2 .ensures), q .pre .5, q .pre .6, omega arith)
 
 owner-requires : tie.Need-owner-requires Inv-loop μ-loop
 owner-requires c κs =
