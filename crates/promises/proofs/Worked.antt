@@ -20,7 +20,8 @@ use Rattle.moves.specs.Table.{rising, noZero, tableRight, lookUp}
 use Rattle.moves.specs.Pointers
 use Rattle.moves.specs.Settle.{atLowest, first20, put, first21, settled, settle}
 use Rattle.relocate.specs.Statepoint.{deoptCount, constantHead, pairedRest, isStatepoint, pairUp, pairs, isZero, isNull, sizeRight, isSlot, rightForm}
-use Rattle.relocate.specs.Statepoint.{registerOf, asOffset, slotAddress, slotInside, slotAt, inside, pointerOf}
+use Rattle.relocate.specs.Statepoint.{registerOf, slotAddress, slotInside, slotAt, inside, pointerOf}
+use Rattle.stackmap.specs.Section.{asOffset}
 use Rattle.relocate.specs.Plan.{recordsOf, only, every, imageRight, extentRight, planPairs, planRecord, plan}
 use Rattle.relocate.specs.Relocation.{answer, moved}
 use Rattle.promises.specs.Worked.{got, header, sectionH, listingH, sectionOldH, listingOldH, image, table, WorkedTable}

@@ -10,7 +10,8 @@ use lib.Dec.{leb}
 use Rattle.stackmap.specs.Section.{Location}
 use Rattle.moves.specs.Pointers.{orZero}
 use Rattle.relocate.specs.declared.Frame.{Frame}
-use Rattle.relocate.specs.Statepoint.{registerOf, asOffset, slotAddress, wholly, slotInside, slotAt}
+use Rattle.relocate.specs.Statepoint.{registerOf, slotAddress, wholly, slotInside, slotAt}
+use Rattle.stackmap.specs.Section.{asOffset}
 use Rattle.relocate.specs.Code.{slotIn, positionIn, placeIn}
 
 pub place-past : (p n : ℕ) → n < p + 8 → none ≡ placeIn p n

@@ -15,7 +15,8 @@ use Rattle.relocate.specs.declared.Frame.{Frame}
 use Rattle.relocate.specs.declared.slots.Spot.{Spot}
 use Rattle.relocate.specs.declared.slots.Spot.the-variants.{At, Outside}
 use Rattle.relocate.specs.Limits.{kindConstant}
-use Rattle.relocate.specs.Statepoint.{locationAt, pairsAt, Pair, pairs, isNull, asOffset, plusOffset, wholly, slotAt, slotInside}
+use Rattle.relocate.specs.Statepoint.{locationAt, pairsAt, Pair, pairs, isNull, plusOffset, wholly, slotAt, slotInside}
+use Rattle.stackmap.specs.Section.{asOffset}
 
 -- The record at a place of the section, and the section's constants.
 

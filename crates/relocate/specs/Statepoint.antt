@@ -6,7 +6,7 @@ use mathlib.Core.List.{List, [], _∷_}
 use lib.ListN.{length, getD, drop}
 use lib.Dec.{eqb, ltb, leb}
 use Rattle.stackmap.specs.Layout.{kindConstIndex, negativeFrom}
-use Rattle.stackmap.specs.Section.{Location, Record}
+use Rattle.stackmap.specs.Section.{Location, Record, Offset, up, down, asOffset}
 use Rattle.moves.specs.Limits.{pointerSize}
 use Rattle.moves.specs.Pointers.{Pointer, null, slots, orZero}
 use Rattle.relocate.specs.declared.Frame.{Frame}
@@ -84,15 +84,6 @@ rightForm old pool p = isNull pool p || (isSlot old (p .base) && isSlot old (p .
 -- the register that a slot names
 unfoldable pub registerOf : Frame → Location → ℕ
 registerOf f l = cond (eqb (l .register) RBP) (f .rbp) (f .rsp)
-
--- an offset goes up or down
-pub data Offset : Type 0 where
-  up : ℕ → Offset
-  down : ℕ → Offset
-
--- a signed offset is held as its 32 bits: those of a negative one are 2 ^ 32 too much
-unfoldable pub asOffset : ℕ → Offset
-asOffset bits = cond (ltb bits negativeFrom) (up bits) (down (2 * negativeFrom - bits))
 
 -- register plus offset, worked out as a whole number without wrapping: there is no address below 0
 abbrev pub plusOffset : ℕ → Offset → Option ℕ
