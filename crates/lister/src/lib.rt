@@ -34,7 +34,7 @@ fn section_tables(s: &[u8]) -> Tables
     requires { ⌜ headerSize ≤ length (now s) ⌝ }
     ensures { λ r. ⌜ Tabled (now (s .entry)) (r .old) (r .functions) (r .constants) (r .records) (r .pool) (r .first) ⌝ }
 {
-    let old = stackmap::tables::is_old(s);
+    let old = stackmap_tables::tables::is_old(s);
     let functions = wire::u32_at(s, layout::NUM_FUNCTIONS_AT) as usize;
     let constants = wire::u32_at(s, layout::NUM_CONSTANTS_AT) as usize;
     let records = wire::u32_at(s, layout::NUM_RECORDS_AT) as usize;
@@ -88,7 +88,7 @@ fn put_listing(s: &[u8], out: &mut [u8]) -> usize
 pub fn to_listing(section: &[u8], out: &mut [u8]) -> Conversion
     ensures { λ r. ⌜ Answers r (now (out .exit)) (toListing (now (section .entry)) (now (out .entry))) ⌝ }
 {
-    match stackmap::check(section) {
+    match stackmap_check::check(section) {
         Verdict::Refused(number, place) => Conversion {
             number,
             place,

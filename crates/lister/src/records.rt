@@ -11,7 +11,7 @@ use lister_items::items;
 use lister_items::runs;
 use listing::numbers;
 use stackmap::layout;
-use stackmap::shape;
+use stackmap_tables::shape;
 
 // How long the items of the `count` records from `at` are.
 pub fn records_length(s: &[u8], old: bool, at: usize, count: usize) -> usize

@@ -6,7 +6,4 @@ pub mod Order
 pub mod Tasks
 pub mod Lists
 pub mod Local
-pub mod Tables
-pub mod Clashes
 pub mod Fills
-pub mod Meets

@@ -6,8 +6,8 @@ use mathlib.Core.Option.{Option, none, some}
 use mathlib.Core.List.{List, [], _∷_}
 use lib.Dec.{eqb}
 use lib.ListN.{getD}
-use Rattle.moves.specs.declared.table.Found.{Found}
-use Rattle.moves.specs.declared.table.Found.the-variants.{At, Nothing}
+use Rattle.moves.specs.declared.Found.{Found}
+use Rattle.moves.specs.declared.Found.the-variants.{At, Nothing}
 use Rattle.moves.specs.Limits.{pointerSize}
 use Rattle.moves.specs.Search.{lowest, anyBelow}
 use Rattle.moves.specs.Pointers.{Pointer, null, slots, slotsClash, isNone}

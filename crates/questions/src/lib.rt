@@ -1,7 +1,4 @@
 // Questions on a section: by address, by record number, by location and live-out number. Each walks the section once.
-pub mod find;
-pub mod locate;
-pub mod read;
 
 // By address: the record's number, its function's number, how many records share the address, and its first byte.
 pub struct Found {

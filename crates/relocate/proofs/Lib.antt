@@ -1,12 +1,7 @@
 pub mod Pairing
-pub mod Places
 pub mod Records
-pub mod Forms
-pub mod Asking
 pub mod Planned
 pub mod Demand
 pub mod Like
 pub mod Reorder
 pub mod Consequences
-pub mod Following
-pub mod Stages

@@ -12,8 +12,8 @@ use Rattle.questions.specs.declared.LocationAnswer.{LocationAnswer}
 use Rattle.moves.specs.Limits.{pointerSize}
 use Rattle.moves.specs.Pointers.{orZero}
 use Rattle.relocate.specs.declared.Frame.{Frame}
-use Rattle.relocate.specs.declared.slots.Spot.{Spot}
-use Rattle.relocate.specs.declared.slots.Spot.the-variants.{At, Outside}
+use Rattle.relocate.specs.declared.Spot.{Spot}
+use Rattle.relocate.specs.declared.Spot.the-variants.{At, Outside}
 use Rattle.relocate.specs.Limits.{kindConstant}
 use Rattle.relocate.specs.Statepoint.{locationAt, pairsAt, Pair, pairs, isNull, plusOffset, wholly, slotAt, slotInside}
 use Rattle.stackmap.specs.Section.{asOffset}

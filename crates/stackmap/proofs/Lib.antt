@@ -13,4 +13,3 @@ pub mod Turns
 pub mod Entries
 pub mod OneWalk
 pub mod Numbers
-pub mod Looks

@@ -7,7 +7,7 @@ use native.Mathlib.Omega.{arith}
 use native.Mathlib.Numerals.{add-one}
 use lib.ListN.{length, drop}
 use Rattle.stackmap.specs.declared.Verdict.the-variants.{Valid}
-use Rattle.stackmap.specs.declared.walk.Turn.{Turn}
+use Rattle.stackmap.specs.declared.Turn.{Turn}
 use Rattle.stackmap.specs.Verdict.{shift}
 use Rattle.stackmap.specs.Section.{numFunctions, numRecords, recordsAt, recordLength, readRecords, isOld, Owner, Entry, entriesFrom, entries}
 use Rattle.stackmap.specs.Record.{recordCheck}

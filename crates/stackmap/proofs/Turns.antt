@@ -7,7 +7,7 @@ use native.Mathlib.Omega.{arith}
 use lib.ListN.{length, drop, length-replicate}
 use Rattle.stackmap.specs.declared.Verdict.{Verdict}
 use Rattle.stackmap.specs.declared.Verdict.the-variants.{Valid, Refused}
-use Rattle.stackmap.specs.declared.walk.Turn.{Turn}
+use Rattle.stackmap.specs.declared.Turn.{Turn}
 use Rattle.stackmap.specs.Verdict.{bind, shift}
 use Rattle.stackmap.specs.Section.{Function, numFunctions, numRecords, isOld, readFunction, readFunctions, Owner, recordOwners, counted}
 use Rattle.stackmap.specs.Walk.{functionAt, ownerBy, ownerAt, laterOwners, ahead, firstTurn, Turning, Walkable}

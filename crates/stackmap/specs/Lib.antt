@@ -8,4 +8,3 @@ pub mod Walk
 pub mod Shape
 pub mod Fault
 pub mod Laws
-pub mod Quick

@@ -4,7 +4,7 @@ use mathlib.Core.Path.{_≡_}
 use mathlib.Core.Bool.{Bool, true, false}
 use mathlib.Core.List.{List, [], _++_}
 use lib.ListN.{length, drop, replicate}
-use Rattle.stackmap.specs.declared.walk.Turn.{Turn}
+use Rattle.stackmap.specs.declared.Turn.{Turn}
 use Rattle.stackmap.specs.Layout.{headerSize, functionSize}
 use Rattle.stackmap.specs.Fields.{many}
 use Rattle.stackmap.specs.Section.{numFunctions, numRecords, isOld, constantsAt, readFunction, readFunctions, readRecord, Owner, nobody, owners, counted, Entry}

@@ -1,14 +1,11 @@
-// Stack map sections: the check of a whole section. The modules are for the crates above: their functions require what
-// the ones before them have shown, and no entry point hands a caller's bytes to them unchecked.
-ghost use mathlib.Core.Path.{_≡_};
-ghost use Rattle.stackmap.specs.Check.{sectionCheck};
-
+// Stack map sections: the definitions of the format and of its check, the laws of a section as data, and the numbers of the layout.
 pub mod layout;
-mod quick;
-mod record;
-pub mod shape;
-pub mod tables;
-pub mod walk;
+
+// Which function owns the next record: the one before `next`, while `left` of its records are ahead.
+pub struct Turn {
+    pub next: usize,
+    pub left: u64,
+}
 
 // A verdict on a section or a part of it.
 pub enum Verdict {
@@ -16,23 +13,4 @@ pub enum Verdict {
     Valid(usize),
     // The number of a refusal, and its place.
     Refused(u8, usize),
-}
-
-// The check of a whole section: refusals 1 to 9 in document 01's order, or valid up to its length.
-pub fn check(s: &[u8]) -> Verdict
-    ensures { λ r. ⌜ r ≡ sectionCheck (now (s .entry)) ⌝ }
-{
-    match tables::begin(s) {
-        Verdict::Refused(n, p) => Verdict::Refused(n, p),
-        Verdict::Valid(at) => match walk::all_records(s, at) {
-            Verdict::Refused(n, q) => Verdict::Refused(n, q),
-            Verdict::Valid(end) => {
-                if end == s.len() {
-                    Verdict::Valid(end)
-                } else {
-                    Verdict::Refused(9, end)
-                }
-            }
-        },
-    }
 }

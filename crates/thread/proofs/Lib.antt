@@ -1,9 +1,3 @@
 pub mod StretchesApart
 pub mod Overlaps
 pub mod OneInstant
-pub mod Gathering
-pub mod Marks
-pub mod Few
-pub mod Judging
-pub mod Earlier
-pub mod Whole

@@ -40,7 +40,7 @@ pub struct Answer {
 pub extern "C" fn treskibben_check(section: &[u8]) -> Answer
     ensures { λ r. ⌜ r ≡ answer (sectionCheck (now (section .entry))) ⌝ }
 {
-    match stackmap::check(section) {
+    match stackmap_check::check(section) {
         Verdict::Valid(_) => Answer {
             number: 0,
             place: 0,
@@ -82,7 +82,7 @@ fn search_answer(f: questions::Found) -> Found
 pub extern "C" fn treskibben_find(section: &[u8], address: u64) -> Found
     ensures { λ r. ⌜ r ≡ foundAt (byAddress (now (section .entry)) address) ⌝ }
 {
-    search_answer(questions::find::find(section, address))
+    search_answer(questions_find::find::find(section, address))
 }
 
 // The question by function number and offset, of version 1: the section's refusal, 27 on version 3, 10 exactly if there is no such
@@ -91,7 +91,7 @@ pub extern "C" fn treskibben_find(section: &[u8], address: u64) -> Found
 pub extern "C" fn treskibben_find_in_function(section: &[u8], function: u64, offset: u64) -> Found
     ensures { λ r. ⌜ r ≡ foundAt (byFunction (now (section .entry)) function offset) ⌝ }
 {
-    search_answer(questions::find::find_in_function(section, function, offset))
+    search_answer(questions_find::find::find_in_function(section, function, offset))
 }
 
 // By record number: the record's first byte in the section and its length.
@@ -108,7 +108,7 @@ pub struct Stands {
 pub extern "C" fn treskibben_record(section: &[u8], record: u64) -> Stands
     ensures { λ r. ⌜ r ≡ standsAt (recordPlace (now (section .entry)) «record») ⌝ }
 {
-    let l = questions::locate::locate(section, record);
+    let l = questions_read::locate::locate(section, record);
     Stands {
         number: l.number as u64,
         place: l.place as u64,
@@ -134,7 +134,7 @@ pub struct Location {
 pub extern "C" fn treskibben_location(section: &[u8], record: u64, location: u64) -> Location
     ensures { λ r. ⌜ r ≡ locationOf (locationAnswer (now (section .entry)) «record» location) ⌝ }
 {
-    let l = questions::read::location(section, record, location);
+    let l = questions_read::read::location(section, record, location);
     Location {
         number: l.number as u64,
         place: l.place as u64,
@@ -160,7 +160,7 @@ pub struct LiveOut {
 pub extern "C" fn treskibben_live_out(section: &[u8], record: u64, live_out: u64) -> LiveOut
     ensures { λ r. ⌜ r ≡ liveOutOf (liveOutAnswer (now (section .entry)) «record» «live_out») ⌝ }
 {
-    let o = questions::read::live_out(section, record, live_out);
+    let o = questions_read::read::live_out(section, record, live_out);
     LiveOut {
         number: o.number as u64,
         place: o.place as u64,
@@ -225,7 +225,7 @@ pub extern "C" fn treskibben_relocate(
         rsp: frame.rsp,
         function: frame.function,
     };
-    let m = relocate::relocate(section, image, first, olds, news, f);
+    let m = relocate_frame::relocate(section, image, first, olds, news, f);
     Answer {
         number: m.number as u64,
         place: m.place as u64,
@@ -246,7 +246,7 @@ pub extern "C" fn treskibben_thread(
 ) -> Answer
     ensures { λ r. ⌜ (r ≡ moveAnswer (threadAnswer (now (section .entry)) (now (olds .entry)) (now (news .entry)) first (now (image .entry)) (now (frames .entry)))) × (now (image .exit) ≡ threadImage (now (section .entry)) (now (olds .entry)) (now (news .entry)) first (now (image .entry)) (now (frames .entry))) ⌝ }
 {
-    let t = thread::relocate_thread(section, image, first, olds, news, frames);
+    let t = thread_call::relocate_thread(section, image, first, olds, news, frames);
     Answer {
         number: t.number as u64,
         place: t.place as u64,

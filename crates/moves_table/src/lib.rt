@@ -1,0 +1,2 @@
+// The move table: its form (refusal 14) and its search.
+pub mod table;

@@ -1,0 +1,127 @@
+-- What the arrays of the code make is what the pairs' list makes.
+use Prim.Native.Nat.{ℕ, zero, suc, _+_, _≤_, _<_}
+use mathlib.Core.Path.{_≡_, refl, sym, ap, _∙_}
+use mathlib.Core.Bool.{Bool, true, false, cond}
+use mathlib.Core.Option.{Option}
+use mathlib.Core.List.{List}
+use native.Mathlib.Omega.{arith}
+use native.Mathlib.Nat.{not-suc-le-zero}
+use borrow.Author.Tests.{eqb-false, lt-ltb, le-ltb}
+use lib.Dec.{eqb}
+use lib.ListN.{length, getD}
+use Rattle.wire.specs.Word.{word}
+use Rattle.moves.specs.Pointers.{Pointer, null, slots, slotsClash, clash, unknown, newDerived, newContent}
+use Rattle.moves.specs.Settle.{refusedMove, acceptedMove, put, first20, first21, write1, write, atLowest, settled, settle, settleIf, Settles}
+use Rattle.moves.specs.Arrays.{pointerAt, listFrom, pointersOf, clashAt, firstClash, Within, Filled, unknownAt, firstUnknown, putOne, puts}
+use Rattle.moves.proofs.Searches.{lowest-ext, any-ext}
+
+list-length : (f : ℕ → Pointer) (k i : ℕ) → length (listFrom f k i) ≡ k
+list-length f zero i = refl
+list-length f (suc k) i = ap suc (list-length f k (suc i))
+
+list-at : (f : ℕ → Pointer) (k i j : ℕ) → j < k → getD (listFrom f k i) j null ≡ f (i + j)
+list-at f zero i j h = absurd (not-suc-le-zero h)
+list-at f (suc k) i zero h = ap f (omega arith)
+list-at f (suc k) i (suc j) h = list-at f k (suc i) j (omega arith) ∙ ap f (omega arith)
+
+module _ (live bs ds : List ℕ) (n : ℕ) where
+  pub pointers-length : length (pointersOf n live bs ds) ≡ n
+  unfolding pointersOf
+  pointers-length = list-length (pointerAt live bs ds) n 0
+
+  pub pointers-at : (k : ℕ) → k < n → getD (pointersOf n live bs ds) k null ≡ pointerAt live bs ds k
+  unfolding pointersOf
+  pointers-at k h = list-at (pointerAt live bs ds) n 0 k h ∙ ap (pointerAt live bs ds) (omega arith)
+
+  module _ (table : ℕ → Option ℕ) (w vs : List ℕ) (fv : Filled (λ k. word 8 w (getD bs k 0)) live vs n) where
+    clash-meets : (p q : ℕ) → p < n → q < n → clash w (pointerAt live bs ds p) (pointerAt live bs ds q) ≡ clashAt live bs ds vs p q
+    unfolding clash pointerAt clashAt
+    clash-meets p q hp hq = go (eqb (getD live p 0) 0) refl (eqb (getD live q 0) 0) refl
+      where
+        P : Pointer
+        P = slots (getD bs p 0) (getD ds p 0)
+
+        Q : Pointer
+        Q = slots (getD bs q 0) (getD ds q 0)
+
+        go : (s : Bool) → eqb (getD live p 0) 0 ≡ s → (t : Bool) → eqb (getD live q 0) 0 ≡ t
+            → clash w (cond s null P) (cond t null Q)
+            ≡ cond s false (cond t false (slotsClash (getD bs p 0) (getD ds p 0) (getD vs p 0) (getD bs q 0) (getD ds q 0) (getD vs q 0)))
+        go true d t e = refl
+        go false d true e = refl
+        go false d false e = rw (fv .at p hp (eqb-false (getD live p 0) 0 d), fv .at q hq (eqb-false (getD live q 0) 0 e))
+
+    first20-meets : firstClash live bs ds vs n ≡ first20 (pointersOf n live bs ds) w
+    unfolding firstClash first20
+    first20-meets =
+        rw pointers-length
+        (lowest-ext _ _ n (λ p hp. any-ext (clashAt live bs ds vs p) (λ q. clash w (getD (pointersOf n live bs ds) p null) (getD (pointersOf n live bs ds) q null)) (suc p) (λ q hq.
+        rw (pointers-at p hp, pointers-at q (omega arith)) (sym (clash-meets p q hp (omega arith))))))
+
+    first21-meets : firstUnknown table live vs n ≡ first21 table (pointersOf n live bs ds) w
+    unfolding firstUnknown first21 unknownAt pointerAt
+    first21-meets = rw pointers-length (lowest-ext _ _ n (λ p hp. rw (pointers-at p hp) (one p hp (eqb (getD live p 0) 0) refl)))
+      where
+        one : (p : ℕ) → p < n → (s : Bool) → eqb (getD live p 0) 0 ≡ s → unknownAt table live vs p ≡ unknown table w (pointerAt live bs ds p)
+        one p hp true e = rw e
+        one p hp false e = rw (e, fv .at p hp (eqb-false (getD live p 0) 0 e))
+
+    module _ (ws cs : List ℕ) (fw : Filled (λ k. word 8 w (getD ds k 0)) live ws n)
+        (fc : Filled (λ k. newDerived table (getD ws k 0) (getD vs k 0)) live cs n) where
+      put-meets : (i : ℕ) (cur : List ℕ) → i < n → putOne live ds cs i cur ≡ write1 table w cur (pointerAt live bs ds i)
+      unfolding putOne pointerAt newContent
+      put-meets i cur h = go (eqb (getD live i 0) 0) refl
+        where
+          go : (s : Bool) → eqb (getD live i 0) 0 ≡ s
+              → cond s cur (put cur (getD ds i 0) (getD cs i 0)) ≡ write1 table w cur (cond s null (slots (getD bs i 0) (getD ds i 0)))
+          go true e = refl
+          go false e =
+              let l : getD live i 0 ≡ 0 → ⊥ = eqb-false (getD live i 0) 0 e in
+              rw (fc .at i h l, fw .at i h l, fv .at i h l)
+
+      puts-meet : (k i : ℕ) (cur : List ℕ) → i + k ≤ n → puts live ds cs k i cur ≡ write table w cur (listFrom (pointerAt live bs ds) k i)
+      puts-meet zero i cur h = refl
+      puts-meet (suc k) i cur h = rw (put-meets i cur (omega arith)) (puts-meet k (suc i) (write1 table w cur (pointerAt live bs ds i)) (omega arith))
+
+      pub done : (p u : ℕ) → p ≡ firstClash live bs ds vs n → n ≤ p → u ≡ firstUnknown table live vs n → n ≤ u
+          → Settles table true (acceptedMove n) (puts live ds cs n 0 w) (pointersOf n live bs ds) w
+      unfolding settled settle atLowest pointersOf
+      done p u a b d e =
+          record {
+            answer = rw (← first20-meets, ← first21-meets, ← a, ← d, pointers-length, le-ltb p n b, le-ltb u n e);
+            left =
+                rw (← first20-meets, ← first21-meets, ← a, ← d, pointers-length, le-ltb p n b, le-ltb u n e)
+                (puts-meet n 0 w (omega arith));
+          }
+
+    -- only judged: accepted, and nothing is written
+    pub fine : (p u : ℕ) → p ≡ firstClash live bs ds vs n → n ≤ p → u ≡ firstUnknown table live vs n → n ≤ u
+        → Settles table false (acceptedMove n) w (pointersOf n live bs ds) w
+    unfolding settled atLowest
+    fine p u a b d e =
+        record { answer = rw (← first20-meets, ← first21-meets, ← a, ← d, pointers-length, le-ltb p n b, le-ltb u n e); left = refl }
+
+    -- a refusal leaves the window, moved or judged
+    stays : (write : Bool) (ps : List Pointer) → w ≡ settle table ps w → w ≡ settleIf table write ps w
+    stays true ps h = h
+    stays false ps h = refl
+
+    pub stop20 : (write : Bool) (p : ℕ) → p ≡ firstClash live bs ds vs n → p < n → Settles table write (refusedMove 20 p) w (pointersOf n live bs ds) w
+    unfolding settled settle atLowest
+    stop20 write p a b =
+        record {
+          answer = rw (← first20-meets, ← a, pointers-length, lt-ltb p n b);
+          left = stays write (pointersOf n live bs ds) (rw (← first20-meets, ← a, pointers-length, lt-ltb p n b));
+        }
+
+    pub stop21 : (write : Bool) (p u : ℕ) → p ≡ firstClash live bs ds vs n → n ≤ p → u ≡ firstUnknown table live vs n → u < n
+        → Settles table write (refusedMove 21 u) w (pointersOf n live bs ds) w
+    unfolding settled settle atLowest
+    stop21 write p u a b d e =
+        record {
+          answer = rw (← first20-meets, ← first21-meets, ← a, ← d, pointers-length, le-ltb p n b, lt-ltb u n e);
+          left = stays write (pointersOf n live bs ds) (rw (← first20-meets, ← first21-meets, ← a, ← d, pointers-length, le-ltb p n b, lt-ltb u n e));
+        }
+
+pub within-more : (m m′ n : ℕ) (live bs ds : List ℕ) → m ≤ m′ → Within m n live bs ds → Within m′ n live bs ds
+within-more m m′ n live bs ds h r = record { base-in = λ k a l. omega (arith, r .base-in k a l); derived-in = λ k a l. omega (arith, r .derived-in k a l) }

@@ -1,0 +1,45 @@
+use Prim.Native.Nat.{_-_}
+use mathlib.Core.Path.{_≡_, sym, _∙_}
+use native.Mathlib.Omega.{arith}
+use lib.ListN.{length, take, drop}
+use Rattle.moves.proofs.Splice.{part-length, splice-mid, splice-if}
+use Rattle.moves_window.proofs.Meets.{within-more}
+use borrow.Author.Needs.{needs}
+use Rattle.moves_window.proofs.move_window.Statement.{statement}
+use Rattle.moves_window.proofs.move_window.Tie as tie
+
+sub-settle-pairs : tie.Need-sub-settle-pairs
+sub-settle-pairs c = search needs
+
+part-settle-pairs-start : tie.Need-part-settle-pairs-start
+part-settle-pairs-start c = search needs
+
+part-settle-pairs-end : tie.Need-part-settle-pairs-end
+part-settle-pairs-end c = search needs
+
+settle-pairs-requires : tie.Need-settle-pairs-requires
+settle-pairs-requires c κs =
+    let s = c .before .before .before .before in
+    let a = s .args in
+    let e : a .end - a .off ≡ length (take (a .end - a .off) (drop (a .off) (a .image .now))) = sym (part-length (a .image .now) (a .off) (a .end - a .off) (omega arith)) in
+    (s .pre .2, within-more _ _ _ _ _ _ (omega (arith, e)) (s .pre .3), s .pre .4)
+
+same-length : tie.Need-same-length
+same-length c = search needs
+
+returns : tie.Need-returns
+returns c =
+    let s = c .before .before .before .before .before .before .before in
+    let o = c .before .before .settle-pairs .ensures in
+    record { answer = o .answer; left = splice-mid (s .args .image .now) (s .args .off) (s .args .end - s .args .off) _ _ (o .left) ∙ splice-if (s .args .write) _ (s .args .image .now) (s .args .off) (s .args .end - s .args .off) _ }
+
+pub move-window-spec : {M : Type 1} → statement M
+move-window-spec =
+    tie.close
+    (tie.spec
+    sub-settle-pairs
+    part-settle-pairs-start
+    part-settle-pairs-end
+    settle-pairs-requires
+    same-length
+    returns)

@@ -1,0 +1,169 @@
+-- The stages of a plan, each by the tests that lead to it.
+use Prim.Native.Nat.{ℕ, _+_, _-_, _^_, _≤_, _<_}
+use mathlib.Core.Path.{_≡_, refl, _∙_}
+use mathlib.Core.Bool.{Bool, true, false, not, _&&_}
+use mathlib.Core.Option.{Option}
+use mathlib.Core.List.{List, map}
+use native.Mathlib.Omega.{arith}
+use borrow.Author.Tests.{leb-true, le-leb, lt-leb, eq-eqb, ne-eqb}
+use lib.Dec.{eqb, leb}
+use lib.ListN.{length}
+use Rattle.wire.specs.Word.{Bytes}
+use Rattle.stackmap.specs.Section.{Record, Entry, isOld, functionNumber}
+use Rattle.stackmap.specs.Check.{Accepted}
+use Rattle.questions.specs.declared.Found.{Found}
+use Rattle.questions.specs.Kept.{searched, ofSection}
+use Rattle.questions.specs.Questions.{ask, firstOf}
+use Rattle.questions.proofs.Searched.{section-refused}
+use Rattle.stackmap.proofs.Tests.{and-true}
+use Rattle.moves.specs.declared.Move.{Move}
+use Rattle.moves.specs.Search.{lowest}
+use Rattle.moves.specs.Table.{tableRight, lookUp}
+use Rattle.moves.specs.Settle.{refusedMove}
+use Rattle.moves.specs.Plan.{Plan, refuse, window, Follows}
+use Rattle.moves.specs.Arrays.{pointersOf}
+use Rattle.relocate.specs.declared.Frame.{Frame}
+use Rattle.relocate.specs.Limits.{imageMost}
+use Rattle.relocate.specs.Statepoint.{isStatepoint, pairs, rightForm, inside, pointerOf}
+use Rattle.relocate.specs.Plan.{recordsOf, only, stackSize, imageRight, extentRight, planPairs, planRecord, planEntry, plan}
+use Rattle.relocate.specs.Relocation.{answer, moved, Relocates}
+use Rattle.relocate.specs.Code.{recordOf, poolOf, pairNumber}
+use Rattle.relocate_frame.proofs.Following.{every-refused, every-passed}
+use Rattle.relocate_frame.proofs.Asking.{one-found, body-is, size-is}
+
+-- a refusal follows a plan that is one
+pub refuses : (write : Bool) (r : Move) (table : ℕ → Option ℕ) (im : List ℕ) (p : Plan) (n i : ℕ) → r ≡ refusedMove n i → p ≡ refuse n i
+    → Follows write r im table im p
+refuses true r table im p n i h e = rw (h, e) (record { answer = refl; left = refl })
+refuses false r table im p n i h e = rw (h, e) (record { answer = refl; left = refl })
+
+-- 13
+
+module _ (first n : ℕ) where
+  pub image-long : 1048576 < n → false ≡ imageRight first n
+  unfolding imageRight
+  image-long h = rw (lt-leb n 1048576 h)
+
+  pub image-past : n ≤ 1048576 → 2 ^ 64 - 1 < first + n → false ≡ imageRight first n
+  unfolding imageRight
+  image-past l h = rw (le-leb n 1048576 l, lt-leb (first + n) (2 ^ 64 - 1) h)
+
+  pub image-fine : n ≤ 1048576 → first + n ≤ 2 ^ 64 - 1 → true ≡ imageRight first n
+  unfolding imageRight
+  image-fine l h = rw (le-leb n 1048576 l, le-leb (first + n) (2 ^ 64 - 1) h)
+
+  pub image-most : imageRight first n ≡ true → n ≤ imageMost
+  unfolding imageRight
+  image-most h = leb-true _ _ (and-true (leb n 1048576) (leb (first + n) (2 ^ 64 - 1)) h .0)
+
+-- 16
+
+module _ (first n rsp size : ℕ) where
+  pub extent-unknown : size ≡ 2 ^ 64 - 1 → false ≡ extentRight first n rsp size
+  unfolding extentRight
+  extent-unknown h = rw (eq-eqb size (2 ^ 64 - 1) h)
+
+  module _ (known : size ≡ 2 ^ 64 - 1 → ⊥) where
+    pub extent-below : rsp < first → false ≡ extentRight first n rsp size
+    unfolding extentRight
+    extent-below h = rw (ne-eqb size (2 ^ 64 - 1) known, lt-leb first rsp h)
+
+    pub extent-past : first ≤ rsp → first + n < rsp + size → false ≡ extentRight first n rsp size
+    unfolding extentRight
+    extent-past l h = rw (ne-eqb size (2 ^ 64 - 1) known, le-leb first rsp l, lt-leb (rsp + size) (first + n) h)
+
+    pub extent-fine : first ≤ rsp → rsp + size ≤ first + n → true ≡ extentRight first n rsp size
+    unfolding extentRight
+    extent-fine l h = rw (ne-eqb size (2 ^ 64 - 1) known, le-leb first rsp l, le-leb (rsp + size) (first + n) h)
+
+  pub extent-tells : extentRight first n rsp size ≡ true → (first ≤ rsp) × (rsp + size ≤ first + n)
+  unfolding extentRight
+  extent-tells h =
+      let a = and-true (not (eqb size (2 ^ 64 - 1))) (leb first rsp && leb (rsp + size) (first + n)) h in
+      let b = and-true (leb first rsp) (leb (rsp + size) (first + n)) (a .1) in
+      (leb-true _ _ (b .0), leb-true _ _ (b .1))
+
+-- 18, 19
+
+module _ (old : Bool) (pool : List ℕ) (f : Frame) (off size : ℕ) (r : Record) (count : ℕ) (c : count ≡ length (pairs r))
+    (wrong : ℕ) (w : wrong ≡ lowest (λ p. not (rightForm old pool (pairNumber r p))) count) where
+  pub pairs-18 : wrong < count → planPairs old pool f off size (pairs r) ≡ refuse 18 wrong
+  unfolding planPairs
+  pairs-18 h = every-refused (rightForm old pool) 18 r _ count wrong c w h
+
+  module _ (right : count ≤ wrong) (out : ℕ) (o : out ≡ lowest (λ p. not (inside pool f size (pairNumber r p))) count) where
+    pub pairs-19 : out < count → planPairs old pool f off size (pairs r) ≡ refuse 19 out
+    unfolding planPairs
+    pairs-19 h = every-passed (rightForm old pool) 18 r _ count wrong c w right ∙ every-refused (inside pool f size) 19 r _ count out c o h
+
+    pub pairs-on : count ≤ out → (live bases derived : List ℕ) → pointersOf count live bases derived ≡ map (pointerOf pool f) (pairs r)
+        → planPairs old pool f off size (pairs r) ≡ window off (off + size - off) (pointersOf count live bases derived)
+    unfolding planPairs
+    pairs-on h live bases derived m =
+        let z : off + size - off ≡ size = omega arith in
+        every-passed (rightForm old pool) 18 r _ count wrong c w right ∙ every-passed (inside pool f size) 19 r _ count out c o h ∙ rw (m, z)
+
+-- 12, 16, 17
+
+module _ (old : Bool) (pool : List ℕ) (first n : ℕ) (f : Frame) (size : ℕ) (r : Record) where
+  pub record-12 : isStatepoint r ≡ false → planRecord old pool first n f size r ≡ refuse 12 0
+  unfolding planRecord
+  record-12 h = rw h
+
+  module _ (s : isStatepoint r ≡ true) where
+    pub record-16 : extentRight first n (f .rsp) size ≡ false → planRecord old pool first n f size r ≡ refuse 16 0
+    unfolding planRecord
+    record-16 h = rw (s, h)
+
+    module _ (e : extentRight first n (f .rsp) size ≡ true) (count : ℕ) (c : count ≡ length (pairs r)) where
+      pub record-17 : 256 < count → planRecord old pool first n f size r ≡ refuse 17 0
+      unfolding planRecord
+      record-17 h = rw (s, e, ← c, lt-leb count 256 h)
+
+      pub record-on : count ≤ 256 → planRecord old pool first n f size r ≡ planPairs old pool f (f .rsp - first) size (pairs r)
+      unfolding planRecord
+      record-on h = let q : leb (length (pairs r)) 256 ≡ true = le-leb (length (pairs r)) 256 (rw c at h) in rw (s, e, q)
+
+-- 10, 15
+
+same-record : (s pool : List ℕ) (first n : ℕ) (f : Frame) (size function at : ℕ) (x : Entry) → size ≡ functionNumber s function .stackSize
+    → function ≡ x .owner .number → at ≡ x .first → stackSize x ≡ functionNumber s (x .owner .number) .stackSize → x .body ≡ recordOf s (x .first)
+    → planEntry (isOld s) pool first n f x ≡ planRecord (isOld s) pool first n f size (recordOf s at)
+same-record s pool first n f size function at x q g h i b = rw (q, g, h, i, b)
+
+pub entry-plan : (s pool : List ℕ) (first n : ℕ) (f : Frame) (r : Found) (size : ℕ) → Accepted s → Bytes s
+    → r ≡ firstOf (recordsOf s f) → r .number ≡ 0 → r .sharing ≡ 1 → size ≡ functionNumber s (r .function) .stackSize
+    → only (recordsOf s f) (planEntry (isOld s) pool first n f) ≡ planRecord (isOld s) pool first n f size (recordOf s (r .first))
+entry-plan s pool first n f r size k w e z one q =
+    let o = one-found r (planEntry (isOld s) pool first n f) (recordsOf s f) e z one in
+    o .goes-on
+    ∙ same-record s pool first n f size (r .function) (r .first) (o .entry) q (o .function-is) (o .first-is)
+    (size-is s f k w (o .entry) (o .alone)) (body-is s f k w (o .entry) (o .alone))
+
+-- 1 to 9, 13, 14
+
+module _ (s olds news : List ℕ) (first : ℕ) (im : List ℕ) (f : Frame) where
+  pub relocates : (r : Move) (after : List ℕ) → Follows true r after (lookUp olds news) im (plan s olds news first (length im) f)
+      → Relocates s olds news first im f r after
+  unfolding answer moved
+  relocates r after h = record { answer-is = h .answer; image-is = h .left }
+
+  pub plan-section : (r : Found) → r ≡ searched s (f .address) → ofSection r ≡ true
+      → plan s olds news first (length im) f ≡ refuse (r .number) (r .place)
+  unfolding plan
+  plan-section r e h = section-refused s (f .address) r e refuse _ h
+
+  module _ (k : Accepted s) where
+    pub plan-13 : imageRight first (length im) ≡ false → plan s olds news first (length im) f ≡ refuse 13 0
+    unfolding plan ask
+    plan-13 h = rw (k, h)
+
+    module _ (i : imageRight first (length im) ≡ true) where
+      pub plan-14 : tableRight olds news ≡ false → plan s olds news first (length im) f ≡ refuse 14 0
+      unfolding plan ask
+      plan-14 h = rw (k, i, h)
+
+      pub plan-on : tableRight olds news ≡ true
+          → plan s olds news first (length im) f ≡ only (recordsOf s f) (planEntry (isOld s) (poolOf s) first (length im) f)
+      unfolding plan ask
+      plan-on h = rw (k, i, h)

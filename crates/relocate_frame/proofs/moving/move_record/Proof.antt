@@ -1,0 +1,89 @@
+use mathlib.Core.Path.{sym, _∙_}
+use native.Mathlib.Omega.{arith}
+use lib.ListN.{length}
+use Rattle.stackmap.specs.Section.{isOld}
+use Rattle.relocate.specs.Code.{recordOf, poolOf}
+use Rattle.relocate_frame.proofs.Stages.{refuses, image-most, extent-tells, record-12, record-16, record-17, record-on}
+use borrow.Author.Needs.{needs}
+use Rattle.relocate_frame.proofs.moving.move_record.Statement.{statement}
+use Rattle.relocate_frame.proofs.moving.move_record.Tie as tie
+
+is-statepoint-requires : tie.Need-is-statepoint-requires
+is-statepoint-requires c κs = search needs
+
+extent-right-requires : tie.Need-extent-right-requires
+extent-right-requires c κs = search needs
+
+pairs-of-requires : tie.Need-pairs-of-requires
+pairs-of-requires c κs = (c .before .before .before .before .before .before .before .before .pre .0, sym (c .before .before .before .is-statepoint .ensures) ∙ c .before .before .if1 .taken)
+
+refused-requires : tie.Need-refused-requires
+refused-requires c κs = search needs
+
+returns : tie.Need-returns
+returns c =
+    let s = c .before .before .before .before .before .before .before .before .before .before .before in
+    refuses _ _ _ _ _ 17 0 (c .refused .ensures)
+    (record-17 (isOld (s .args .s .now)) (poolOf (s .args .s .now)) (s .args .first) (length (s .args .image .now)) (s .args .frame) (s .args .size) (recordOf (s .args .s .now) (s .args .at))
+    (sym (c .before .before .before .before .before .before .is-statepoint .ensures) ∙ c .before .before .before .before .before .if1 .taken) (sym (c .before .before .before .before .extent-right .ensures) ∙ c .before .before .before .if2 .taken) _ (c .before .before .pairs-of .ensures .counted) (c .before .if3 .taken))
+
+sub-off : tie.Need-sub-off
+sub-off c =
+    let a = c .before .before .before .before .before .before .before .before .before .before .before .args in
+    omega (arith, extent-tells (a .first) (length (a .image .now)) (a .frame .rsp) (a .size) (sym (c .before .before .before .before .extent-right .ensures) ∙ c .before .before .before .if2 .taken))
+
+move-pairs-requires : tie.Need-move-pairs-requires
+move-pairs-requires c κs =
+    let s = c .before .before .before .before .before .before .before .before .before .before .before .before in
+    let a = s .args in
+    let t = extent-tells (a .first) (length (a .image .now)) (a .frame .rsp) (a .size) (sym (c .before .before .before .before .before .extent-right .ensures) ∙ c .before .before .before .before .if2 .taken) in
+    let m = image-most (a .first) (length (a .image .now)) (s .pre .1) in
+    (c .before .before .before .pairs-of .ensures, c .before .before .if3 .left, omega arith, omega arith, s .pre .2)
+
+same-length : tie.Need-same-length
+same-length c = search needs
+
+returns-2 : tie.Need-returns-2
+returns-2 c =
+    let s = c .before .before .before .before .before .before .before .before .before .before .before .before .before .before .before in
+    rw (record-on (isOld (s .args .s .now)) (poolOf (s .args .s .now)) (s .args .first) (length (s .args .image .now)) (s .args .frame) (s .args .size) (recordOf (s .args .s .now) (s .args .at))
+    (sym (c .before .before .before .before .before .before .before .before .before .before .is-statepoint .ensures) ∙ c .before .before .before .before .before .before .before .before .before .if1 .taken) (sym (c .before .before .before .before .before .before .before .before .extent-right .ensures) ∙ c .before .before .before .before .before .before .before .if2 .taken) _ (c .before .before .before .before .before .before .pairs-of .ensures .counted) (c .before .before .before .before .before .if3 .left))
+    (c .before .before .move-pairs .ensures)
+
+refused-requires-2 : tie.Need-refused-requires-2
+refused-requires-2 c κs = search needs
+
+returns-3 : tie.Need-returns-3
+returns-3 c =
+    let s = c .before .before .before .before .before .before .before .before .before in
+    refuses _ _ _ _ _ 16 0 (c .refused2 .ensures)
+    (record-16 (isOld (s .args .s .now)) (poolOf (s .args .s .now)) (s .args .first) (length (s .args .image .now)) (s .args .frame) (s .args .size) (recordOf (s .args .s .now) (s .args .at))
+    (sym (c .before .before .before .before .is-statepoint .ensures) ∙ c .before .before .before .if1 .taken) (sym (c .before .before .extent-right .ensures) ∙ c .before .if2 .left))
+
+refused-requires-3 : tie.Need-refused-requires-3
+refused-requires-3 c κs = search needs
+
+returns-4 : tie.Need-returns-4
+returns-4 c =
+    let s = c .before .before .before .before .before .before .before in
+    refuses _ _ _ _ _ 12 0 (c .refused3 .ensures)
+    (record-12 (isOld (s .args .s .now)) (poolOf (s .args .s .now)) (s .args .first) (length (s .args .image .now)) (s .args .frame) (s .args .size) (recordOf (s .args .s .now) (s .args .at))
+    (sym (c .before .before .is-statepoint .ensures) ∙ c .before .if1 .left))
+
+pub move-record-spec : {M : Type 1} → statement M
+move-record-spec =
+    tie.close
+    (tie.spec
+    is-statepoint-requires
+    extent-right-requires
+    pairs-of-requires
+    refused-requires
+    returns
+    sub-off
+    move-pairs-requires
+    same-length
+    returns-2
+    refused-requires-2
+    returns-3
+    refused-requires-3
+    returns-4)

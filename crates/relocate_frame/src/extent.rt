@@ -1,0 +1,42 @@
+// The image (refusal 13) and a frame's extent in it (refusal 16).
+ghost use mathlib.Core.Path.{_≡_};
+ghost use Rattle.relocate.specs.Plan.{imageRight, extentRight};
+use stackmap::layout;
+
+const IMAGE_MOST: usize = 1048576;
+
+// A stack size that is not known.
+const STACK_SIZE_UNKNOWN: u64 = 18446744073709551615;
+
+// The test of refusal 13, of an image of `length` bytes from the address `first`.
+pub fn image_right(first: u64, length: usize) -> bool
+    ensures { λ r. ⌜ r ≡ imageRight first length ⌝ }
+{
+    if length > IMAGE_MOST {
+        return false;
+    }
+    if length as u64 > layout::ADDRESS_MOST - first {
+        return false;
+    }
+    true
+}
+
+// The test of refusal 16, of an extent of `size` bytes from RSP.
+pub fn extent_right(first: u64, length: usize, rsp: u64, size: u64) -> bool
+    ensures { λ r. ⌜ r ≡ extentRight first length rsp size ⌝ }
+{
+    if size == STACK_SIZE_UNKNOWN {
+        return false;
+    }
+    if rsp < first {
+        return false;
+    }
+    let gap = rsp - first;
+    if gap > length as u64 {
+        return false;
+    }
+    if size > length as u64 - gap {
+        return false;
+    }
+    true
+}

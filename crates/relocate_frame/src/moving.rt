@@ -1,0 +1,144 @@
+// A move after the search for its record, one stage of the plan a function. Where `write` is false the frame is only judged.
+// No entry point: each stage requires what the stages before it have tested.
+ghost use mathlib.Core.Path.{_≡_};
+ghost use mathlib.Core.Bool.{true};
+ghost use Prim.Native.Nat.{_+_, _≤_};
+ghost use lib.ListN.{length};
+ghost use Rattle.stackmap.specs.Section.{isOld};
+ghost use Rattle.stackmap.specs.Check.{Accepted};
+ghost use Rattle.questions.specs.Questions.{firstOf};
+ghost use Rattle.moves.specs.Limits.{pairsMost};
+ghost use Rattle.moves.specs.Table.{tableRight, lookUp};
+ghost use Rattle.moves.specs.Settle.{refusedMove};
+ghost use Rattle.moves.specs.Plan.{Follows};
+ghost use Rattle.relocate.specs.Limits.{imageMost};
+ghost use Rattle.relocate.specs.Statepoint as spec;
+ghost use Rattle.relocate.specs.Plan.{recordsOf, imageRight, only, planPairs, planRecord, planEntry};
+ghost use Rattle.relocate.specs.Code.{recordOf, poolOf, Stands, Paired};
+use crate::extent;
+use moves::Move;
+use moves::PAIRS_MOST;
+use questions::Found;
+use relocate::Frame;
+use relocate_pairs::pairs;
+use relocate_pairs::statepoint;
+use stackmap_tables::tables;
+
+// A refusal, with count 0.
+pub fn refused(number: u8, place: usize) -> Move
+    ensures { λ r. ⌜ r ≡ refusedMove number place ⌝ }
+{
+    Move {
+        number,
+        place,
+        count: 0,
+    }
+}
+
+// 18, 19, and the move of the window of `size` bytes from `off`. The record at `at` has `count` pairs, from location `start` on.
+fn move_pairs(
+    s: &[u8],
+    at: usize,
+    start: usize,
+    count: usize,
+    image: &mut [u8],
+    off: usize,
+    size: usize,
+    olds: &[u64],
+    news: &[u64],
+    frame: Frame,
+    write: bool,
+) -> Move
+    requires { ⌜ Paired (now s) at start count × (count ≤ pairsMost) × (off + size ≤ length (now image)) × (size ≤ imageMost) × (tableRight (now olds) (now news) ≡ true) ⌝ }
+    ensures { λ r. ⌜ Follows write r (now (image .exit)) (lookUp (now (olds .entry)) (now (news .entry))) (now (image .entry)) (planPairs (isOld (now (s .entry))) (poolOf (now (s .entry))) frame off size (spec.pairs (recordOf (now (s .entry)) at))) ⌝ }
+{
+    let wrong = pairs::wrong_form(s, at, start, count);
+    if wrong < count {
+        return refused(18, wrong);
+    }
+    let out = pairs::outside(s, at, start, count, frame, size);
+    if out < count {
+        return refused(19, out);
+    }
+    let live = pairs::live_pairs(s, at, start, count);
+    let bases = pairs::slots_of(s, at, start, count, frame, size, &live);
+    let derived = pairs::slots_of(s, at, start + 1, count, frame, size, &live);
+    moves_window::move_window(
+        image,
+        off,
+        off + size,
+        &live,
+        &bases,
+        &derived,
+        count,
+        olds,
+        news,
+        write,
+    )
+}
+
+// 12, 16, 17 and what follows, of the record at `at`, of a function with this stack size.
+fn move_record(
+    s: &[u8],
+    at: usize,
+    size: u64,
+    image: &mut [u8],
+    first: u64,
+    olds: &[u64],
+    news: &[u64],
+    frame: Frame,
+    write: bool,
+) -> Move
+    requires { ⌜ Stands (now s) at × (imageRight first (length (now image)) ≡ true) × (tableRight (now olds) (now news) ≡ true) ⌝ }
+    ensures { λ r. ⌜ Follows write r (now (image .exit)) (lookUp (now (olds .entry)) (now (news .entry))) (now (image .entry)) (planRecord (isOld (now (s .entry))) (poolOf (now (s .entry))) first (length (now (image .entry))) frame size (recordOf (now (s .entry)) at)) ⌝ }
+{
+    if statepoint::is_statepoint(s, at) {
+        if extent::extent_right(first, image.len(), frame.rsp, size) {
+            let p = statepoint::pairs_of(s, at);
+            let count = p.count;
+            if count > PAIRS_MOST {
+                return refused(17, 0);
+            }
+            let off = (frame.rsp - first) as usize;
+            return move_pairs(
+                s,
+                at,
+                p.start,
+                count,
+                image,
+                off,
+                size as usize,
+                olds,
+                news,
+                frame,
+                write,
+            );
+        }
+        return refused(16, 0);
+    }
+    refused(12, 0)
+}
+
+// 10, 15 and what follows, of an accepted section.
+pub fn move_found(
+    s: &[u8],
+    found: Found,
+    image: &mut [u8],
+    first: u64,
+    olds: &[u64],
+    news: &[u64],
+    frame: Frame,
+    write: bool,
+) -> Move
+    requires { ⌜ Accepted (now s) × (found ≡ firstOf (recordsOf (now s) frame)) × (imageRight first (length (now image)) ≡ true) × (tableRight (now olds) (now news) ≡ true) ⌝ }
+    ensures { λ r. ⌜ Follows write r (now (image .exit)) (lookUp (now (olds .entry)) (now (news .entry))) (now (image .entry)) (only (recordsOf (now (s .entry)) frame) (planEntry (isOld (now (s .entry))) (poolOf (now (s .entry))) first (length (now (image .entry))) frame)) ⌝ }
+{
+    if found.number != 0 {
+        return refused(10, 0);
+    }
+    if found.sharing != 1 {
+        return refused(15, 0);
+    }
+    let size = tables::stack_size(s, found.function);
+    move_record(s, found.first, size, image, first, olds, news, frame, write)
+}

@@ -1,0 +1,106 @@
+-- The tests of one pair, as the code makes them one after the other.
+use Prim.Native.Nat.{ℕ, _+_, _*_, _-_, _≤_, _<_}
+use mathlib.Core.Path.{_≡_, refl, sym, ap, _∙_}
+use mathlib.Core.Bool.{Bool, true, false, not, _&&_, _||_}
+use mathlib.Core.Option.{none, some}
+use mathlib.Core.List.{List}
+use native.Mathlib.Omega.{arith}
+use native.Mathlib.Decide.{decLt}
+use lib.Dec.{eqb}
+use lib.ListN.{length, getD, set}
+use lib.Seq.{getD-set-same, getD-set-other}
+use Rattle.stackmap.specs.Section.{Location, Record}
+use Rattle.questions.specs.declared.LocationAnswer.{LocationAnswer}
+use Rattle.questions.specs.Questions.{thisLocation}
+use Rattle.moves.specs.Search.{lowestFrom, lowest}
+use Rattle.moves.proofs.Searches.{low-start, low-end, low-hit, low-step}
+use Rattle.relocate.specs.declared.Frame.{Frame}
+use Rattle.relocate.specs.Statepoint.{pairsAt, Pair, isZero, isNull, isSlot, slotAt, slotInside}
+use Rattle.relocate.specs.Code.{pairFrom, pairNumber, locationOf, zeroSaid, slotIn, Lives}
+
+-- what the reader says of a location is said of the location
+module _ (a : LocationAnswer) (pool : List ℕ) (l : Location) (e : a ≡ thisLocation pool l) where
+  pub zero-said : zeroSaid a ≡ isZero pool l
+  unfolding zeroSaid isZero
+  zero-said = ap zeroSaid e
+
+  pub slot-said : {old old′ : Bool} → old ≡ old′ → isSlot old (locationOf a) ≡ isSlot old′ l
+  slot-said h = rw (h, e)
+
+  pub place-said : (f : Frame) (n : ℕ) → slotIn f n (locationOf a) ≡ slotIn f n l
+  place-said f n = ap (λ (x : LocationAnswer). slotIn f n (locationOf x)) e
+
+-- a slot that is inside is where it is
+module _ (f : Frame) (n : ℕ) (l : Location) where
+  pub at-inside : (x : ℕ) → some x ≡ slotIn f n l → (true ≡ slotInside f n l) × (x ≡ slotAt f l)
+  unfolding slotIn
+  at-inside x h = go (slotInside f n l) refl
+    where
+      go : (b : Bool) → slotInside f n l ≡ b → (true ≡ slotInside f n l) × (x ≡ slotAt f l)
+      go true q = (sym q, let w : some x ≡ some (slotAt f l) = rw q at h in cc)
+      go false q = absurd (let w : some x ≡ none = rw q at h in let z : _≡_ {A = ℕ} 0 1 = cc in omega arith)
+
+  pub out-inside : none ≡ slotIn f n l → false ≡ slotInside f n l
+  unfolding slotIn
+  out-inside h = go (slotInside f n l) refl
+    where
+      go : (b : Bool) → slotInside f n l ≡ b → false ≡ slotInside f n l
+      go true q = absurd (let w : none ≡ some (slotAt f l) = rw q at h in let z : _≡_ {A = ℕ} 0 1 = cc in omega arith)
+      go false q = sym q
+
+-- two tests, by the first of them
+module _ (a k : Bool) where
+  pub and-no : a ≡ false → false ≡ (a && k)
+  and-no h = rw h
+
+  pub and-rest : a ≡ true → k ≡ (a && k)
+  and-rest h = rw h
+
+  pub or-yes : a ≡ true → true ≡ (a || k)
+  or-yes h = rw h
+
+  pub or-rest : a ≡ false → k ≡ (a || k)
+  or-rest h = rw h
+
+-- a pair by its base's location number, and by its own
+pub pair-from : (r : Record) (start p : ℕ) → start ≡ pairsAt r → pairFrom r (start + 2 * p) ≡ pairNumber r p
+pair-from r start p e = rw e
+
+-- A search for the lowest of n pairs that is not good.
+
+module _ (good : Pair → Bool) (r : Record) where
+  abbrev pub bad : ℕ → Bool
+  bad p = not (good (pairNumber r p))
+
+  -- the pairs before p are good
+  pub record Looking (n p : ℕ) : Type 0 where
+    pub most : p ≤ n
+    pub same : lowestFrom bad (n - p) p ≡ lowest bad n
+
+  pub look-start : (n : ℕ) → Looking n 0
+  look-start n = record { most = omega arith; same = low-start bad n }
+
+module _ {good : Pair → Bool} {r : Record} {n p : ℕ} (l : Looking good r n p) where
+  pub look-end : n ≤ p → p ≡ lowest (bad good r) n
+  look-end h = sym (low-end (bad good r) n p h) ∙ l .same
+
+  -- the next pair has its base at location number start + 2 * p
+  module _ {start : ℕ} (e : start ≡ pairsAt r) (h : p < n) where
+    pub look-on : good (pairFrom r (start + 2 * p)) ≡ true → Looking good r n (p + 1)
+    look-on g = record { most = omega arith; same = sym (low-step (bad good r) n p h (ap not (sym (ap good (pair-from r start p e)) ∙ g))) ∙ l .same }
+
+    pub look-hit : good (pairFrom r (start + 2 * p)) ≡ false → p ≡ lowest (bad good r) n
+    look-hit g = sym (low-hit (bad good r) n p h (ap not (sym (ap good (pair-from r start p e)) ∙ g))) ∙ l .same
+
+-- the array of null pairs, as it fills
+module _ (pool : List ℕ) (r : Record) where
+  pub lives-start : (live : List ℕ) → Lives pool r live 0
+  lives-start live = record { at = λ k h. absurd (omega arith) }
+
+  pub lives-set : (live : List ℕ) (k v : ℕ) → k < length live → Lives pool r live k → eqb v 0 ≡ isNull pool (pairNumber r k)
+      → Lives pool r (set live k v) (k + 1)
+  lives-set live k v b l e = record { at = λ j h. go j h (decLt j k) }
+    where
+      go : (j : ℕ) → j < k + 1 → Dec (j < k) → eqb (getD (set live k v) j 0) 0 ≡ isNull pool (pairNumber r j)
+      go j h (yes a) = rw (getD-set-other live k j v 0 (λ q. omega arith)) (l .at j a)
+      go j h (no a) = let q : j ≡ k = omega arith in rw (q, getD-set-same live k v 0 b) e

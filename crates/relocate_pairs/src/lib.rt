@@ -1,0 +1,4 @@
+// Statepoints (refusal 12) and their pairs (refusals 18 and 19).
+pub mod pairs;
+mod reader;
+pub mod statepoint;

@@ -1,0 +1,126 @@
+// The walk over the records, each read from its own stretch of the section.
+// No entry point: it requires the tables to be inside and their counts to add up, which `tables::begin` has tested.
+ghost use mathlib.Core.Path.{_≡_};
+ghost use mathlib.Core.Bool.{false};
+ghost use Prim.Native.Nat.{_≤_, _<_};
+ghost use lib.ListN.{length, drop};
+ghost use Rattle.stackmap.specs.Verdict.{shift};
+ghost use Rattle.stackmap.specs.Section.{numFunctions, numConstants, numRecords, isOld, constantsAt, readFunctions, recordOwners};
+ghost use Rattle.stackmap.specs.Record.{recordCheck};
+ghost use Rattle.stackmap.specs.Check.{recordsCheck};
+ghost use Rattle.stackmap.specs.Walk.{ahead, ownerAt, firstTurn, Turning, Walkable};
+use stackmap::Turn;
+use stackmap::Verdict;
+use stackmap::layout;
+use stackmap_quick::quick;
+use stackmap_record::record;
+use stackmap_tables::tables;
+
+// Passes over functions that have no record left, to the owner of the next record.
+pub fn owner(s: &[u8], turn: Turn) -> Turn
+    requires { ⌜ (constantsAt (now s) ≤ length (now s)) × Turning (now s) (turn .next) (turn .left) × (0 < length (ahead (now s) (turn .next) (turn .left))) ⌝ }
+    ensures { λ r. ⌜ (ahead (now (s .entry)) (r .next) (r .left) ≡ ahead (now (s .entry)) (turn .next) (turn .left)) × (0 < r .left) × (0 < r .next) × (isOld (now (s .entry)) ≡ false → r .next ≤ numFunctions (now (s .entry))) ⌝ }
+{
+    let mut next = turn.next;
+    let mut left = turn.left;
+    while left == 0 {
+        left = wire::u64_at(
+            s,
+            layout::HEADER_SIZE + layout::FUNCTION_SIZE * next + layout::RECORD_COUNT_AT,
+        );
+        next += 1;
+    }
+    Turn { next, left }
+}
+
+// What a record's offset counts from: the address of its function, or 0 where it is nobody's.
+pub fn owner_address(s: &[u8], old: bool, function: usize) -> u64
+    requires { ⌜ (old ≡ isOld (now s)) × (constantsAt (now s) ≤ length (now s)) × (isOld (now s) ≡ false → function < numFunctions (now s)) ⌝ }
+    ensures { λ r. ⌜ r ≡ ownerAt (now (s .entry)) function .function .address ⌝ }
+{
+    if old {
+        return 0;
+    }
+    wire::u64_at(s, layout::HEADER_SIZE + layout::FUNCTION_SIZE * function)
+}
+
+// The record at `at`, of a function at `address`, checked so that what is wrong is named.
+fn exact_at(s: &[u8], old: bool, constants: u32, address: u64, at: usize) -> Verdict
+    requires { ⌜ at ≤ length (now s) ⌝ }
+    ensures { λ r. ⌜ r ≡ shift at (recordCheck old (drop at (now (s .entry))) constants address) ⌝ }
+{
+    match record::check_record(&s[at..], old, constants, address) {
+        Verdict::Refused(n, p) => Verdict::Refused(n, at + p),
+        Verdict::Valid(size) => Verdict::Valid(at + size),
+    }
+}
+
+// The record at `at`, of function number `function`, or of nobody: by a quick look, and where that says nothing exactly.
+pub fn record_at(s: &[u8], old: bool, constants: u32, function: usize, at: usize) -> Verdict
+    requires { ⌜ (old ≡ isOld (now s)) × (constantsAt (now s) ≤ length (now s)) × (isOld (now s) ≡ false → function < numFunctions (now s)) × (at ≤ length (now s)) ⌝ }
+    ensures { λ r. ⌜ r ≡ shift at (recordCheck (isOld (now (s .entry))) (drop at (now (s .entry))) constants (ownerAt (now (s .entry)) function .function .address)) ⌝ }
+{
+    let address = owner_address(s, old, function);
+    let size = quick::record(&s[at..], old, constants, address);
+    if size > 0 {
+        return Verdict::Valid(at + size);
+    }
+    exact_at(s, old, constants, address, at)
+}
+
+// The same for `all_records` alone: with two callers `quick::record` stays a function of its own, and what is around it is compiled into
+// each walk, so that no place goes through memory.
+fn next_record(s: &[u8], old: bool, constants: u32, function: usize, at: usize) -> Verdict
+    requires { ⌜ (old ≡ isOld (now s)) × (constantsAt (now s) ≤ length (now s)) × (isOld (now s) ≡ false → function < numFunctions (now s)) × (at ≤ length (now s)) ⌝ }
+    ensures { λ r. ⌜ r ≡ shift at (recordCheck (isOld (now (s .entry))) (drop at (now (s .entry))) constants (ownerAt (now (s .entry)) function .function .address)) ⌝ }
+{
+    let address = owner_address(s, old, function);
+    let size = quick::record(&s[at..], old, constants, address);
+    if size > 0 {
+        return Verdict::Valid(at + size);
+    }
+    exact_at(s, old, constants, address, at)
+}
+
+// The turn before the first record: the first function is next, or all records are nobody's.
+pub fn start(s: &[u8], old: bool) -> Turn
+    requires { ⌜ (old ≡ isOld (now s)) × Walkable (now s) ⌝ }
+    ensures { λ r. ⌜ r ≡ firstTurn (isOld (now (s .entry))) (now (s .entry)) ⌝ }
+{
+    if old {
+        let records = wire::u32_at(s, layout::NUM_RECORDS_AT) as u64;
+        return Turn {
+            next: 1,
+            left: records,
+        };
+    }
+    Turn { next: 0, left: 0 }
+}
+
+// All records; the first stands at `at`.
+pub fn all_records(s: &[u8], at: usize) -> Verdict
+    requires { ⌜ Walkable (now s) × (at ≤ length (now s)) ⌝ }
+    ensures { λ r. ⌜ r ≡ recordsCheck (isOld (now (s .entry))) (recordOwners (isOld (now (s .entry))) (numRecords (now (s .entry))) (readFunctions (now (s .entry)))) (now (s .entry)) (numConstants (now (s .entry))) at ⌝ }
+{
+    let constants = wire::u32_at(s, layout::NUM_CONSTANTS_AT);
+    let mut remaining = wire::u32_at(s, layout::NUM_RECORDS_AT);
+    let old = tables::is_old(s);
+    let mut turn = start(s, old);
+    let mut p = at;
+    while remaining > 0 {
+        let t = owner(s, turn);
+        let next = t.next;
+        match next_record(s, old, constants, next - 1, p) {
+            Verdict::Refused(n, q) => return Verdict::Refused(n, q),
+            Verdict::Valid(end) => {
+                p = end;
+            }
+        }
+        turn = Turn {
+            next,
+            left: t.left - 1,
+        };
+        remaining -= 1;
+    }
+    Verdict::Valid(p)
+}

@@ -1,0 +1,144 @@
+-- The whole call, from its stages.
+use Prim.Native.Nat.{ℕ, zero, suc, _+_, _*_, _/_, _≤_, _<_}
+use mathlib.Core.Path.{_≡_, refl, sym, ap, _∙_}
+use mathlib.Core.Bool.{Bool, true, false, cond}
+use mathlib.Core.List.{List, [], _∷_, map, List·Memᴰ, List·Memᴰ·head, List·Memᴰ·tail}
+use native.Mathlib.Omega.{arith}
+use native.Mathlib.Decide.{ℕ-discrete}
+use borrow.Author.Tests.{ne-eqb, lt-ltb, le-ltb}
+use lib.Dec.{eqb, ltb}
+use lib.ListN.{length, getD, replicate}
+use Rattle.stackmap.specs.declared.Verdict.the-variants.{Valid, Refused}
+use Rattle.stackmap.specs.Verdict.{need}
+use Rattle.stackmap.specs.Check.{sectionCheck, Accepted}
+use Rattle.stackmap.proofs.Numbers.{section-numbered}
+use Rattle.stackmap.proofs.Forth.{accepted-length}
+use Rattle.questions.specs.Kept.{noHits}
+use Rattle.questions.specs.Questions.{ask}
+use Rattle.moves.specs.declared.Move.{Move}
+use Rattle.moves.specs.Table.{tableRight}
+use Rattle.moves.specs.Settle.{refusedMove, acceptedMove}
+use Rattle.relocate.specs.declared.Frame.{Frame}
+use Rattle.relocate.specs.Plan.{imageRight}
+use Rattle.relocate.specs.Relocation.{answer, extentOf}
+use Rattle.relocate.specs.Lists.{final}
+use Rattle.thread.specs.Thread.{listRight, frameAt, framesFrom, framesOf, passes, apart, judged, pairsIn, threadAnswer, threadImage, Threads}
+use Rattle.thread.specs.Code.{Holding, Counted, EachSited, framesAnswer, framesImage}
+use Rattle.thread.proofs.OneInstant.{judged-tells, judged-passes}
+use Rattle.thread_call.proofs.Earlier.{accepted-sited}
+
+-- a frame of the list, by its position
+frame-in : (ns : List ℕ) (n i k : ℕ) → i ≤ k → k < i + n → List·Memᴰ (frameAt ns k) (framesFrom ns n i)
+frame-in ns zero i k a b = absurd (omega arith)
+frame-in ns (suc n) i k a b = go (frame-in ns n (suc i) k) (ℕ-discrete i k)
+  where
+    go : (suc i ≤ k → k < suc i + n → List·Memᴰ (frameAt ns k) (framesFrom ns n (suc i))) → Dec (i ≡ k)
+        → List·Memᴰ (frameAt ns k) (framesFrom ns (suc n) i)
+    go rest (yes e) = let g : frameAt ns k ≡ frameAt ns i = ap (frameAt ns) (sym e) in List·Memᴰ·head g
+    go rest (no d) = List·Memᴰ·tail (rest (omega arith) (omega arith))
+
+module _ (s olds news : List ℕ) (first : ℕ) (im : List ℕ) where
+  -- a refused frame ends the call, whatever would follow
+  judged-ends : (i : ℕ) (fs : List Frame) (k k′ : Move) → k .number ≡ 0 → (judged s olds news first im i fs k .number ≡ 0 → ⊥)
+      → judged s olds news first im i fs k ≡ judged s olds news first im i fs k′
+  unfolding judged passes
+  judged-ends i [] k k′ z h = absurd (h z)
+  judged-ends i (f ∷ fs) k k′ z h = go (judged-ends (suc i) fs k k′ z) (eqb (answer s olds news first im f .number) 0) refl h
+    where
+      go : ((judged s olds news first im (suc i) fs k .number ≡ 0 → ⊥) → judged s olds news first im (suc i) fs k ≡ judged s olds news first im (suc i) fs k′)
+          → (b : Bool) → eqb (answer s olds news first im f .number) 0 ≡ b
+          → (need b (refusedMove (answer s olds news first im f .number) i) (judged s olds news first im (suc i) fs k) .number ≡ 0 → ⊥)
+          → need b (refusedMove (answer s olds news first im f .number) i) (judged s olds news first im (suc i) fs k)
+          ≡ need b (refusedMove (answer s olds news first im f .number) i) (judged s olds news first im (suc i) fs k′)
+      go rest true e g = rest g
+      go rest false e g = refl
+
+  module _ (fs : List Frame) (r : Move) (e : r ≡ judged s olds news first im 0 fs (acceptedMove (pairsIn s olds news first im fs))) where
+    pub frames-refused : (r .number ≡ 0 → ⊥) → (r ≡ framesAnswer s olds news first im fs) × (im ≡ framesImage s olds news first im fs)
+    unfolding framesAnswer framesImage
+    frames-refused h =
+        let a : r ≡ judged s olds news first im 0 fs (apart 0 [] (map (extentOf s) fs) (acceptedMove (pairsIn s olds news first im fs))) =
+        e ∙ judged-ends 0 fs _ _ refl (rw e at h) in
+        (a, rw (← a, ne-eqb (r .number) 0 h))
+
+    module _ (z : r .number ≡ 0) where
+      each : (f : Frame) → List·Memᴰ f fs → answer s olds news first im f .number ≡ 0
+      each = judged-tells s olds news first im 0 fs _ (rw e at z) .0
+
+      pub r-is : r ≡ acceptedMove (pairsIn s olds news first im fs)
+      r-is = e ∙ judged-passes s olds news first im 0 fs _ each
+
+      answer-is : framesAnswer s olds news first im fs ≡ apart 0 [] (map (extentOf s) fs) (acceptedMove (pairsIn s olds news first im fs))
+      unfolding framesAnswer
+      answer-is = judged-passes s olds news first im 0 fs _ each
+
+      module _ (n : ℕ) (p : ℕ) (q : (m : Move) → apart 0 [] (map (extentOf s) fs) m ≡ cond (ltb p n) (refusedMove 26 p) m) where
+        pub frames-26 : p < n → (refusedMove 26 p ≡ framesAnswer s olds news first im fs) × (im ≡ framesImage s olds news first im fs)
+        unfolding framesImage
+        frames-26 l =
+            let a : framesAnswer s olds news first im fs ≡ refusedMove 26 p = answer-is ∙ q _ ∙ rw (lt-ltb p n l) in
+            (sym a, rw a)
+
+        pub frames-moved : n ≤ p → (r ≡ framesAnswer s olds news first im fs) × (final s olds news first fs im ≡ framesImage s olds news first im fs)
+        unfolding framesImage
+        frames-moved l =
+            let a : framesAnswer s olds news first im fs ≡ acceptedMove (pairsIn s olds news first im fs) = answer-is ∙ q _ ∙ rw (le-ltb p n l) in
+            (r-is ∙ sym a, rw a)
+
+  pub each-sited : Accepted s → imageRight first (length im) ≡ true → (ns : List ℕ) (n : ℕ) (r : Move)
+      → r ≡ judged s olds news first im 0 (framesFrom ns n 0) (acceptedMove (pairsIn s olds news first im (framesFrom ns n 0))) → r .number ≡ 0 → EachSited s ns n
+  each-sited k i ns n r e z =
+      record { at = λ j l. accepted-sited s olds news first im (frameAt ns j) k i (each (framesFrom ns n 0) r e z _ (frame-in ns n 0 j (omega arith) (omega arith))) }
+
+  -- The stages before the frames.
+
+  module _ (ns : List ℕ) where
+    refused-threads : (n p : ℕ) → (n ≡ 0 → ⊥) → threadAnswer s olds news first im ns ≡ refusedMove n p → Threads s olds news first im ns (refusedMove n p) im
+    unfolding threadImage
+    refused-threads n p h e = record { answer-is = sym e; image-is = rw (e, ne-eqb n 0 h) }
+
+    pub thread-section : (n p : ℕ) → sectionCheck s ≡ Refused n p → Threads s olds news first im ns (refusedMove n p) im
+    unfolding threadAnswer ask
+    thread-section n p h =
+        let a = (rw h at (section-numbered s)) .above in
+        refused-threads n p (λ z. omega arith) (rw h)
+
+    module _ (k : Accepted s) where
+      pub thread-13 : imageRight first (length im) ≡ false → Threads s olds news first im ns (refusedMove 13 0) im
+      unfolding threadAnswer ask
+      thread-13 h = refused-threads 13 0 (λ z. omega arith) (rw (k, h))
+
+      module _ (i : imageRight first (length im) ≡ true) where
+        pub thread-14 : tableRight olds news ≡ false → Threads s olds news first im ns (refusedMove 14 0) im
+        unfolding threadAnswer ask
+        thread-14 h = refused-threads 14 0 (λ z. omega arith) (rw (k, i, h))
+
+        module _ (t : tableRight olds news ≡ true) where
+          pub thread-25 : listRight ns ≡ false → Threads s olds news first im ns (refusedMove 25 0) im
+          unfolding threadAnswer ask
+          thread-25 h = refused-threads 25 0 (λ z. omega arith) (rw (k, i, t, h))
+
+          pub thread-frames : (n : ℕ) (r : Move) (after : List ℕ) → listRight ns ≡ true → n ≡ length ns / 4
+              → (r ≡ framesAnswer s olds news first im (framesFrom ns n 0)) × (after ≡ framesImage s olds news first im (framesFrom ns n 0))
+              → Threads s olds news first im ns r after
+          unfolding threadAnswer threadImage framesAnswer framesImage framesOf ask
+          thread-frames n r after h e q =
+              record { answer-is = q .0 ∙ rw (k, i, t, h, ← e); image-is = q .1 ∙ rw (k, i, t, h, ← e) }
+
+-- The section is accepted where its check is valid.
+pub valid-accepted : (s : List ℕ) (e : ℕ) → Valid e ≡ sectionCheck s → Accepted s
+valid-accepted s e h = let v = sym h in v ∙ ap Valid (accepted-length s e v .0)
+
+-- Nothing is found before the walk.
+
+blank : (n i : ℕ) → getD {A = ℕ} (replicate n 0) i 0 ≡ 0
+blank zero i = refl
+blank (suc n) zero = refl
+blank (suc n) (suc i) = blank n i
+
+pub blank-holds : (keys : List ℕ) (n m : ℕ) → Holding keys n (replicate m 0) (λ a. noHits)
+blank-holds keys n m =
+    record { at = λ i l b. λ k. record { index = blank m (4 * i) k; function = blank m (4 * i + 1) k; sharing = blank m (4 * i + 2) k; first = blank m (4 * i + 3) k } }
+
+pub blank-counted : (m : ℕ) → Counted (replicate m 0) 0
+blank-counted m = record { most = λ i. omega (arith, blank m (4 * i + 2)) }

@@ -1,0 +1,61 @@
+use Prim.Native.Nat.{_-_}
+use native.Mathlib.Omega.{arith}
+use Rattle.thread_call.proofs.Judging.{Moving, moving-start, moving-on, moving-end}
+use borrow.Author.Needs.{needs}
+use Rattle.thread_call.proofs.frames.move_all.Statement.{statement}
+use Rattle.thread_call.proofs.frames.move_all.Tie as tie
+
+abbrev Inv-loop : tie.InvT-loop
+Inv-loop s image₀ first olds news frames count keys hits next₀ image next = Moving s olds news first image₀ frames count next image
+
+abbrev μ-loop : tie.MeasureT-loop
+μ-loop s image₀ first olds news frames count keys hits next₀ image next = count - next
+
+loop-holds : tie.Need-loop-holds Inv-loop μ-loop
+loop-holds c =
+    let q = c .before .before .before .before .before in
+    let a = q .args in
+    moving-start (a .s .now) (a .olds .now) (a .news .now) (a .first) (a .image .now) (a .frames .now) (a .count)
+
+one-requires : tie.Need-one-requires Inv-loop μ-loop
+one-requires c κs =
+    let q = c .before .before .before .before .before .before .before .before in
+    (rw (c .before .before .loop .inv .long) (q .pre), c .before .loop-test .taken)
+
+add-next : tie.Need-add-next Inv-loop μ-loop
+add-next c =
+    let q = c .before .before .before .before .before .before .before .before .before .before .before in
+    let a = q .args in
+    omega (arith, c .before .before .before .before .before .loop .inv .most, q .pre .looked .most)
+
+loop-less : tie.Need-loop-less Inv-loop μ-loop
+loop-less c = search needs
+
+loop-again : tie.Need-loop-again Inv-loop μ-loop
+loop-again c =
+    let q = c .before .before .before .before .before .before .before .before .before .before .before in
+    let a = q .args in
+    moving-on (a .s .now) (a .olds .now) (a .news .now) (a .first) (a .image .now) (a .frames .now) (a .count) (c .before .before .before .before .before .loop .inv) (c .before .before .before .before .loop-test .taken) (c .before .before .one .ensures .1) (c .before .before .one .kept .1 .0)
+
+same-length : tie.Need-same-length Inv-loop μ-loop
+same-length c = c .before .loop .inv .long
+
+returns : tie.Need-returns Inv-loop μ-loop
+returns c =
+    let q = c .before .before .before .before .before .before .before in
+    let a = q .args in
+    moving-end (a .s .now) (a .olds .now) (a .news .now) (a .first) (a .image .now) (a .frames .now) (a .count) (c .before .loop .inv) (c .loop-test .left)
+
+pub move-all-spec : {M : Type 1} → statement M
+move-all-spec =
+    tie.close
+    (tie.spec
+    Inv-loop
+    μ-loop
+    loop-holds
+    one-requires
+    add-next
+    loop-less
+    loop-again
+    same-length
+    returns)

@@ -1,0 +1,77 @@
+// Refusal 26: the first frame whose extent shares a byte with an earlier one's. The extents that are apart are kept in order, so that
+// a new one is compared with its two neighbours and not with all.
+// No entry point: it requires that every frame was accepted, so that each has an extent.
+ghost use mathlib.Core.Path.{_≡_};
+ghost use mathlib.Core.Bool.{cond};
+ghost use mathlib.Core.List.{[], map};
+ghost use Prim.Native.Nat.{_≤_, _<_};
+ghost use lib.Dec.{ltb};
+ghost use Rattle.moves.specs.declared.Move as moveType;
+ghost use Rattle.moves.specs.Settle.{refusedMove};
+ghost use Rattle.relocate.specs.Relocation.{extentOf};
+ghost use Rattle.thread.specs.Thread.{frameAt, framesFrom, apart};
+ghost use Rattle.thread.specs.Code.{Looked, EachSited};
+use crate::stretches;
+use stackmap_tables::tables;
+use thread::FRAMES_MOST;
+use thread_search::list;
+use thread_search::search;
+use thread_search::search::HITS_LENGTH;
+
+// Bytes of memory, from the start up to, not including, the end.
+pub struct Stretch {
+    pub start: u64,
+    pub end: u64,
+}
+
+// The extent of the frame at the position k.
+fn extent(
+    s: &[u8],
+    frames: &[u64],
+    count: usize,
+    keys: &[u64; FRAMES_MOST],
+    hits: &[usize; HITS_LENGTH],
+    k: usize,
+) -> Stretch
+    requires { ⌜ Looked (now s) (now frames) count (now keys) (now hits) × EachSited (now s) (now frames) count × (k < count) ⌝ }
+    ensures { λ r. ⌜ (r .start ≡ extentOf (now (s .entry)) (frameAt (now (frames .entry)) k) .start) × (r .end ≡ extentOf (now (s .entry)) (frameAt (now (frames .entry)) k) .end) ⌝ }
+{
+    let frame = list::frame_at(frames, k);
+    let found = search::of_frame(s, keys, count, hits, frame);
+    let size = tables::stack_size(s, found.function);
+    Stretch {
+        start: frame.rsp,
+        end: frame.rsp + size,
+    }
+}
+
+// The position of the first frame whose extent shares a byte with an earlier one's; `count` if there is none.
+pub fn first_shared(
+    s: &[u8],
+    frames: &[u64],
+    count: usize,
+    keys: &[u64; FRAMES_MOST],
+    hits: &[usize; HITS_LENGTH],
+) -> usize
+    requires { ⌜ Looked (now s) (now frames) count (now keys) (now hits) × EachSited (now s) (now frames) count ⌝ }
+    ensures { λ r. ⌜ (r ≤ count) × ((m : moveType.Move) → apart 0 [] (map (extentOf (now (s .entry))) (framesFrom (now (frames .entry)) count 0)) m ≡ cond (ltb r count) (refusedMove 26 r) m) ⌝ }
+{
+    let mut starts = [0u64; FRAMES_MOST];
+    let mut ends = [0u64; FRAMES_MOST];
+    let mut kept: usize = 0;
+    let mut k: usize = 0;
+    while k < count {
+        let x = extent(s, frames, count, keys, hits, k);
+        let start = x.start;
+        let end = x.end;
+        if stretches::shares(&starts, &ends, kept, start, end) {
+            return k;
+        }
+        if start < end {
+            stretches::keep(&mut starts, &mut ends, kept, start, end);
+            kept += 1;
+        }
+        k += 1;
+    }
+    k
+}

@@ -1,0 +1,107 @@
+// A whole thread in one call: all frames move, or none does.
+ghost use mathlib.Core.Path.{_≡_};
+ghost use mathlib.Core.Bool.{true};
+ghost use Prim.Native.Nat.{_/_};
+ghost use lib.ListN.{length};
+ghost use Rattle.thread.specs.Thread.{frameNumbers, listRight, framesFrom, Threads};
+ghost use Rattle.thread.specs.Code.{Looked, Ready, framesAnswer, framesImage};
+use moves::Move;
+use moves_table::table;
+use relocate_frame::extent;
+use relocate_frame::moving;
+use stackmap::Verdict;
+use thread::FRAMES_MOST;
+use thread_search::addresses;
+use thread_search::list;
+use thread_search::search;
+
+mod extents;
+mod frames;
+mod stretches;
+
+// The frames of a right list: all are judged, then their extents are compared, then all are moved.
+fn move_frames(
+    s: &[u8],
+    image: &mut [u8],
+    first: u64,
+    olds: &[u64],
+    news: &[u64],
+    list: &[u64],
+    count: usize,
+    keys: &[u64; FRAMES_MOST],
+    hits: &[usize; search::HITS_LENGTH],
+) -> Move
+    requires { ⌜ Ready (now s) (now olds) (now news) first (length (now image)) (now list) count (now keys) (now hits) ⌝ }
+    ensures { λ r. ⌜ (r ≡ framesAnswer (now (s .entry)) (now (olds .entry)) (now (news .entry)) first (now (image .entry)) (framesFrom (now (list .entry)) count 0))
+        × (now (image .exit) ≡ framesImage (now (s .entry)) (now (olds .entry)) (now (news .entry)) first (now (image .entry)) (framesFrom (now (list .entry)) count 0)) ⌝ }
+{
+    let judged = frames::judge(s, image, first, olds, news, list, count, keys, hits);
+    if judged.number != 0 {
+        return judged;
+    }
+    let shared = extents::first_shared(s, list, count, keys, hits);
+    if shared < count {
+        return moving::refused(26, shared);
+    }
+    frames::move_all(s, image, first, olds, news, list, count, keys, hits);
+    judged
+}
+
+// 13, 14, 25 and what follows, of an accepted section in which the frames' records are found.
+fn of_section(
+    s: &[u8],
+    image: &mut [u8],
+    first: u64,
+    olds: &[u64],
+    news: &[u64],
+    list: &[u64],
+    count: usize,
+    keys: &[u64; FRAMES_MOST],
+    hits: &[usize; search::HITS_LENGTH],
+) -> Move
+    requires { ⌜ Looked (now s) (now list) count (now keys) (now hits) × (listRight (now list) ≡ true → count ≡ length (now list) / frameNumbers) ⌝ }
+    ensures { λ r. ⌜ Threads (now (s .entry)) (now (olds .entry)) (now (news .entry)) first (now (image .entry)) (now (list .entry)) r (now (image .exit)) ⌝ }
+{
+    if extent::image_right(first, image.len()) {
+        if table::table_right(olds, news) {
+            if list::list_right(list) {
+                return move_frames(s, image, first, olds, news, list, count, keys, hits);
+            }
+            return moving::refused(25, 0);
+        }
+        return moving::refused(14, 0);
+    }
+    moving::refused(13, 0)
+}
+
+// Relocates the frames of a list, four numbers each, in the stack image that starts at the address `first`: a refusal's number and
+// place, with the image as it was; or 0, 0 and the sum of the pairs, with each derived slot moved.
+pub fn relocate_thread(
+    section: &[u8],
+    image: &mut [u8],
+    first: u64,
+    olds: &[u64],
+    news: &[u64],
+    list: &[u64],
+) -> Move
+    ensures { λ r. ⌜ Threads (now (section .entry)) (now (olds .entry)) (now (news .entry)) first (now (image .entry)) (now (list .entry)) r (now (image .exit)) ⌝ }
+{
+    let count = list::count(list);
+    let mut keys = [0u64; FRAMES_MOST];
+    addresses::gather(list, count, &mut keys);
+    let mut hits = [0usize; search::HITS_LENGTH];
+    match search::find_all(section, &keys, count, &mut hits) {
+        Verdict::Refused(n, p) => moving::refused(n, p),
+        Verdict::Valid(_) => of_section(
+            section,
+            image,
+            first,
+            olds,
+            news,
+            list,
+            count,
+            &keys,
+            &hits,
+        ),
+    }
+}

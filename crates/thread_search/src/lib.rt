@@ -1,0 +1,4 @@
+// The records of all frames of a list, found in one walk.
+pub mod addresses;
+pub mod list;
+pub mod search;
