@@ -1,0 +1,93 @@
+// The lookup of a record by its address. The functions below `find` are no entry points: they require an accepted section's arrays.
+ghost use mathlib.Core.Path.{_≡_};
+ghost use Prim.Native.Nat.{_+_, _*_, _≤_, _<_};
+ghost use lib.ListN.{length};
+ghost use Rattle.flat.specs.Layout.{sectionLeast, frameSize, recordSize};
+ghost use Rattle.flat.specs.Places.{framesAt, recordsAt};
+ghost use Rattle.flat_check.specs.Check.{Accepted};
+ghost use Rattle.flat_find.specs.Find.{inFrame, matches, notFound, firstOf, byAddress};
+use flat::layout;
+use flat::offsets;
+
+// The number of a refusal, or 0 and the numbers of frame and record. The place is always 0.
+pub struct Found {
+    pub number: u8,
+    pub place: usize,
+    pub frame: usize,
+    pub index: usize,
+}
+
+fn not_found(number: u8) -> Found
+    ensures { λ r. ⌜ r ≡ notFound number ⌝ }
+{
+    Found {
+        number: number,
+        place: 0,
+        frame: 0,
+        index: 0,
+    }
+}
+
+// The first of n records from k on that has the address in the frame i.
+fn in_frame(s: &[u8], address: u64, i: usize, k: usize, n: usize) -> Found
+    requires { ⌜ (sectionLeast ≤ length (now s)) × (framesAt (now s) + frameSize * i + frameSize ≤ length (now s)) × (recordsAt (now s) + recordSize * (k + n) ≤ length (now s)) ⌝ }
+    ensures { λ r. ⌜ r ≡ firstOf (inFrame (now (s .entry)) address i k n) ⌝ }
+{
+    let frames = offsets::offset(s, layout::FRAMES_OFFSET_AT);
+    let records = offsets::offset(s, layout::RECORDS_OFFSET_AT);
+    let function = wire::u64_at(s, frames + layout::FRAME_SIZE * i);
+    if address < function {
+        return not_found(41);
+    }
+    let rest = address - function;
+    let end = k + n;
+    let mut j = k;
+    while j < end {
+        let offset = wire::u32_at(
+            s,
+            records + layout::RECORD_SIZE * j + layout::INSTRUCTION_OFFSET_AT,
+        ) as u64;
+        if offset == rest {
+            return Found {
+                number: 0,
+                place: 0,
+                frame: i,
+                index: j,
+            };
+        }
+        j += 1;
+    }
+    not_found(41)
+}
+
+// The first match in frame order, then record order.
+fn in_frames(s: &[u8], address: u64) -> Found
+    requires { ⌜ Accepted (now s) ⌝ }
+    ensures { λ r. ⌜ r ≡ firstOf (matches (now (s .entry)) address) ⌝ }
+{
+    let frames = offsets::offset(s, layout::FRAMES_OFFSET_AT);
+    let n = offsets::num_frames(s);
+    let mut i: usize = 0;
+    while i < n {
+        let at = frames + layout::FRAME_SIZE * i;
+        let k = wire::u16_at(s, at + layout::RECORD_INDEX_AT) as usize;
+        let count = wire::u16_at(s, at + layout::RECORD_COUNT_AT) as usize;
+        let hit = in_frame(s, address, i, k, count);
+        if hit.number == 0 {
+            return hit;
+        }
+        i += 1;
+    }
+    not_found(41)
+}
+
+// A record by its address: 36 to 40, then 41.
+pub fn find(s: &[u8], address: u64) -> Found
+    ensures { λ r. ⌜ r ≡ byAddress (now (s .entry)) address ⌝ }
+{
+    let refusal = flat_check::check(s);
+    if refusal != 0 {
+        return not_found(refusal);
+    }
+    in_frames(s, address)
+}
