@@ -2,31 +2,54 @@
 
 mod build;
 mod check;
+mod completions;
 mod cut;
 mod find;
 mod list;
 mod restore;
 
-use crate::trouble::{Status, Trouble};
-use std::ffi::OsString;
+use crate::trouble::{Status, Trouble, Voice};
 
-/// A command.
-pub struct Command {
-    pub name: &'static str,
-    /// What it does, in one line.
-    pub summary: &'static str,
-    /// What `--help` says.
-    pub help: &'static str,
-    /// Runs it with the arguments after its name.
-    pub run: fn(Vec<OsString>) -> Result<Status, Trouble>,
+/// A command, with the arguments of the call.
+#[derive(clap::Subcommand)]
+pub enum Command {
+    Check(check::Arguments),
+    List(list::Arguments),
+    Build(build::Arguments),
+    Find(find::Arguments),
+    Cut(cut::Arguments),
+    Restore(restore::Arguments),
+    Completions(completions::Arguments),
 }
 
-/// All commands.
-pub const COMMANDS: &[Command] = &[
-    check::COMMAND,
-    list::COMMAND,
-    build::COMMAND,
-    find::COMMAND,
-    cut::COMMAND,
-    restore::COMMAND,
-];
+impl Command {
+    /// How the command tells what it finds.
+    pub fn voice(&self) -> Voice {
+        let json = match self {
+            Command::Check(arguments) => arguments.json,
+            Command::List(arguments) => arguments.json,
+            Command::Find(arguments) => arguments.json,
+            Command::Cut(arguments) => arguments.json,
+            Command::Restore(arguments) => arguments.json,
+            Command::Build(_) | Command::Completions(_) => false,
+        };
+        if json {
+            Voice::Json
+        } else {
+            Voice::Text
+        }
+    }
+
+    pub fn run(self) -> Result<Status, Trouble> {
+        let voice = self.voice();
+        match self {
+            Command::Check(arguments) => check::run(&arguments, voice),
+            Command::List(arguments) => list::run(&arguments, voice),
+            Command::Build(arguments) => build::run(&arguments),
+            Command::Find(arguments) => find::run(&arguments, voice),
+            Command::Cut(arguments) => cut::run(&arguments, voice),
+            Command::Restore(arguments) => restore::run(&arguments, voice),
+            Command::Completions(arguments) => completions::run(&arguments),
+        }
+    }
+}

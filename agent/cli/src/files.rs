@@ -1,9 +1,11 @@
 //! Reading of files, never much more of one than its limit.
 
+use crate::names::STANDARD_INPUT;
 use crate::trouble::Trouble;
 use std::fs::File;
-use std::io::Read;
-use std::path::Path;
+use std::io::{self, Read};
+use std::os::fd::AsFd;
+use std::path::{Path, PathBuf};
 
 /// The longest section, in bytes.
 pub const SECTION: u64 = 16_777_216;
@@ -12,9 +14,30 @@ pub const LISTING: u64 = 33_554_432;
 /// The longest stack image.
 pub const IMAGE: u64 = 1_048_576;
 
-/// Opens a file for reading.
+/// Whether this name is that of standard input.
+pub fn is_standard_input(path: &Path) -> bool {
+    path.as_os_str() == STANDARD_INPUT
+}
+
+/// Standard input can be read once.
+pub fn standard_input_once<'a>(files: impl Iterator<Item = &'a PathBuf>) -> Result<(), Trouble> {
+    match files.filter(|file| is_standard_input(file)).count() {
+        0 | 1 => Ok(()),
+        _ => Err(Trouble::Usage(
+            "'-' stands there twice: standard input can be read once".to_string(),
+        )),
+    }
+}
+
+/// Opens a file for reading; `-` is standard input.
 pub fn open(path: &Path) -> Result<File, Trouble> {
-    File::open(path).map_err(|error| unreadable(path, error))
+    let opened = if is_standard_input(path) {
+        let input = io::stdin().as_fd().try_clone_to_owned();
+        input.map(File::from)
+    } else {
+        File::open(path)
+    };
+    opened.map_err(|error| unreadable(path, error))
 }
 
 /// The bytes of a file, up to one more than the limit: that one tells that there are too many.
@@ -31,6 +54,6 @@ pub fn read_up_to(path: &Path, file: &mut File, most: u64) -> Result<Vec<u8>, Tr
 }
 
 /// The fault of a file that cannot be read.
-pub fn unreadable(path: &Path, error: std::io::Error) -> Trouble {
+pub fn unreadable(path: &Path, error: io::Error) -> Trouble {
     Trouble::file(path, "cannot be read", error)
 }

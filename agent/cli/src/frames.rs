@@ -1,6 +1,7 @@
 //! The list of stopped frames. Where a frame stands is told by an address or, for a section of version
 //! 1, by the number of its function and an offset: each version has lines of its own.
 
+use crate::found::not_in_function;
 use crate::library::Frame;
 use crate::lists::{is_not, number, read, Entry, Form};
 use crate::numbers::in_function;
@@ -47,8 +48,8 @@ impl Naming {
     }
 
     /// The frames of a list.
-    pub fn read(self, path: &Path) -> Result<Vec<Entry<Frame>>, Trouble> {
-        let entries = read(path, &self.form())?;
+    pub fn read(self, path: &Path, text: &[u8]) -> Result<Vec<Entry<Frame>>, Trouble> {
+        let entries = read(path, text, &self.form())?;
         let frame = |Entry { line, value }: Entry<Numbers>| {
             let [address, rbp, rsp, function] = value;
             let value = Frame {
@@ -60,6 +61,14 @@ impl Naming {
             Entry { line, value }
         };
         Ok(entries.into_iter().map(frame).collect())
+    }
+
+    /// What 10 found of a frame, as it was read.
+    pub fn not_there(self, section: &[u8], frame: &Frame) -> String {
+        match self {
+            Naming::Address => format!("no record at address {:#x}", frame.address),
+            Naming::InFunction => not_in_function(section, frame.function, frame.address),
+        }
     }
 
     /// A frame in words.

@@ -25,6 +25,9 @@ impl From<treskibben::Refusal> for Refusal {
     }
 }
 
+/// The version of the library, which the command shares.
+pub const VERSION: &str = env!("CARGO_PKG_VERSION");
+
 /// The check of a section: refusals 1 to 9.
 pub fn check(section: &[u8]) -> Result<(), Refusal> {
     Ok(treskibben::check(section)?)

@@ -33,6 +33,27 @@ pub struct LiveOut {
     pub size: u8,
 }
 
+/// The functions of a section, as far as they stand in its bytes: address and stack size.
+pub fn functions(section: &[u8]) -> impl Iterator<Item = (u64, u64)> + use<'_> {
+    let number = section.get(4..8).map_or(0, |bytes| {
+        u32::from_le_bytes(bytes.try_into().unwrap_or_default())
+    });
+    let size = if section.first() == Some(&1) { 16 } else { 24 };
+    let bodies = section.get(16..).unwrap_or_default().chunks_exact(size);
+    let word = |bytes: &[u8]| u64::from_le_bytes(bytes.try_into().unwrap_or_default());
+    let read = move |body: &[u8]| (word(&body[..8]), word(&body[8..16]));
+    bodies.take(number as usize).map(read)
+}
+
+/// Whether a section of version 3 has functions, and all of them at address 0: so it is until a linker or a
+/// loader has put in where they are.
+pub fn all_at_zero(section: &[u8]) -> bool {
+    let mut functions = functions(section).map(|(address, _)| address).peekable();
+    section.first() == Some(&3)
+        && functions.peek().is_some()
+        && functions.all(|address| address == 0)
+}
+
 /// A listing: its tables read, its records still bytes.
 pub struct Listing<'a> {
     /// Whether it is of version 1, which doesn't say which function has a record.

@@ -46,16 +46,25 @@ impl<const N: usize> Form<[u64; N]> {
     }
 }
 
-/// Reads a list whose lines look so.
-pub fn read<T: Default>(path: &Path, form: &Form<T>) -> Result<Vec<Entry<T>>, Trouble> {
+/// The text of a list.
+pub fn text(path: &Path) -> Result<Vec<u8>, Trouble> {
     let text = files::read(path, LIMIT)?;
     if text.len() as u64 > LIMIT {
         let why = format!("a list has at most {LIMIT} bytes");
         return Err(Trouble::file(path, "is too long", why));
     }
+    Ok(text)
+}
+
+/// Reads a list whose lines look so.
+pub fn read<T: Default>(
+    path: &Path,
+    text: &[u8],
+    form: &Form<T>,
+) -> Result<Vec<Entry<T>>, Trouble> {
     let bad = |line: usize, why: String| {
-        let (path, names) = (path.display(), form.names);
-        Trouble::File(format!("{path}:{line}: {why}; a line has the form {names}"))
+        let names = form.names;
+        Trouble::line(path, line, format!("{why}; a line has the form {names}"))
     };
     let mut entries = Vec::new();
     for (index, text) in text.split(|&byte| byte == b'\n').enumerate() {

@@ -2,79 +2,79 @@
 //! a stack image restored. docs/COMMAND.md describes it for people.
 //!
 //! Every answer on a section, a listing or a frame is the library's (`library`). The rest is
-//! reading and writing: a refusal or a fault leaves every file as it was.
+//! reading, writing and wording: a refusal or a fault leaves every file as it was.
 
 #![deny(unsafe_code)]
 
-mod arguments;
+mod beside;
 mod commands;
 mod files;
+mod found;
 mod frames;
+mod json;
 mod library;
 mod listing;
 mod lists;
+mod names;
 mod numbers;
 mod output;
 mod progress;
+mod receipt;
 mod registers;
 mod replace;
-#[allow(unsafe_code)]
 mod system;
 mod text;
 mod trouble;
 
-use commands::{Command, COMMANDS};
-use std::ffi::OsString;
+use clap::error::ErrorKind;
+use clap::Parser;
+use commands::Command;
 use std::process::ExitCode;
-use trouble::{Status, Trouble};
+use trouble::{say, Status, Trouble, Voice};
+
+/// LLVM stack map sections, versions 3 and 1: checked, listed, built, searched, cut; and the frames
+/// of a stopped thread moved to where its heap has come back.
+#[derive(Parser)]
+#[command(name = "treskibben", version, after_help = STATUSES)]
+struct Program {
+    #[command(subcommand)]
+    command: Command,
+}
+
+const STATUSES: &str = "\
+A FILE that is '-' is standard input.
+
+Exit status: 0 done; 1 refused, with a line 'FILE: refused NUMBER at PLACE: ..' on standard error;
+2 a wrong call, or a file that cannot be read or written.";
 
 fn main() -> ExitCode {
-    let arguments: Vec<OsString> = std::env::args_os().skip(1).collect();
-    run(arguments)
-        .unwrap_or_else(|trouble| trouble.tell())
-        .into()
-}
-
-fn run(mut arguments: Vec<OsString>) -> Result<Status, Trouble> {
-    if arguments.is_empty() {
-        return Err(Trouble::Usage(format!("no command\n{}", help())));
-    }
-    let first = arguments.remove(0);
-    if first == "--help" || first == "-h" {
-        return output::line(&help()).map(|()| Status::Done);
-    }
-    if first == "--version" || first == "-V" {
-        let version = concat!("treskibben ", env!("CARGO_PKG_VERSION"));
-        return output::line(version).map(|()| Status::Done);
-    }
-    let Some(command) = COMMANDS.iter().find(|command| first == command.name) else {
-        let first = first.display();
-        let why = format!("'{first}' is no command\nTry 'treskibben --help'.");
-        return Err(Trouble::Usage(why));
+    let status = match Program::try_parse() {
+        Ok(program) => {
+            let voice = program.command.voice();
+            let ended = program.command.run();
+            ended.unwrap_or_else(|trouble| trouble.tell(voice))
+        }
+        Err(error) => not_a_call(&error),
     };
-    if arguments::ask_for_help(&arguments) {
-        return output::line(command.help.trim_end()).map(|()| Status::Done);
-    }
-    (command.run)(arguments)
+    status.into()
 }
 
-/// The help of the whole program.
-fn help() -> String {
-    let mut text = String::from(
-        "LLVM stack map sections, versions 3 and 1: checked, listed, built, searched, cut; and the frames
-of a stopped thread moved to where its heap has come back.
-
-usage: treskibben COMMAND ARGUMENT..
-
-",
-    );
-    for Command { name, summary, .. } in COMMANDS {
-        text += &format!("  {name:<9}{summary}\n");
+/// Help and the version go to standard output, and what is wrong with a call to standard error.
+fn not_a_call(error: &clap::Error) -> Status {
+    let text = names::without_controls(&error.render().to_string());
+    match error.kind() {
+        ErrorKind::DisplayHelp | ErrorKind::DisplayVersion => {
+            let told = output::line(text.trim_end()).map(|()| Status::Done);
+            told.unwrap_or_else(|trouble| trouble.tell(Voice::Text))
+        }
+        ErrorKind::DisplayHelpOnMissingArgumentOrSubcommand => {
+            Trouble::Usage(format!("no command\n{}", text.trim_end())).tell(Voice::Text)
+        }
+        _ => {
+            let text = text.trim_end();
+            let text = text.strip_prefix("error: ").unwrap_or(text);
+            say(&format!("treskibben: {text}"));
+            Status::Failed
+        }
     }
-    text += "
-'treskibben COMMAND --help' tells more of a command, 'treskibben --version' the version.
-
-exit status: 0 done; 1 refused, with a line 'refused NUMBER at PLACE' on standard error and then
-the cause in words; 2 a wrong call, or a file that cannot be read or written.";
-    text
 }

@@ -34,6 +34,11 @@ pub fn in_function(text: &[u8]) -> Option<(u64, u64)> {
     Some((decimal(&text[..plus])?, hexadecimal(&text[plus + 1..])?))
 }
 
+/// The address that an argument writes.
+pub fn address(text: &str) -> Result<u64, &'static str> {
+    hexadecimal(text.as_bytes()).ok_or("not a hexadecimal number of at most 64 bits")
+}
+
 /// A number of things, in words: `1 record`, `2 records`.
 pub fn count(number: u64, thing: &str) -> String {
     let plural = if number == 1 { "" } else { "s" };

@@ -1,9 +1,12 @@
 //! The names of registers by their DWARF numbers.
 
 /// A machine whose registers have names here.
-#[derive(Clone, Copy, Debug, PartialEq, Eq)]
+#[derive(Clone, Copy, Debug, Default, PartialEq, Eq, clap::ValueEnum)]
 pub enum Machine {
+    #[default]
+    #[value(name = "x86-64")]
     X86_64,
+    #[value(name = "aarch64")]
     Aarch64,
 }
 
@@ -82,15 +85,6 @@ const AARCH64_BANKS: &[Bank] = &[
 ];
 
 impl Machine {
-    /// The machine of a name.
-    pub fn named(name: &str) -> Option<Machine> {
-        match name {
-            "x86-64" => Some(Machine::X86_64),
-            "aarch64" => Some(Machine::Aarch64),
-            _ => None,
-        }
-    }
-
     /// The name of a register; its number where it has no name.
     pub fn register(self, number: u16) -> String {
         let (rows, banks) = match self {

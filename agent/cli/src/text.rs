@@ -6,7 +6,7 @@ use crate::registers::Machine;
 use std::io::{self, Write};
 
 /// The stack size that means not known.
-const UNKNOWN: u64 = u64::MAX;
+pub const UNKNOWN: u64 = u64::MAX;
 
 /// Writes all that a section says: its functions with their records, then its constants. Of version 1 all
 /// records come after the functions.

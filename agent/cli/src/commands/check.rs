@@ -1,53 +1,55 @@
 //! `check`: whether files are sections.
 
-use super::Command;
-use crate::arguments::{Arguments, Form};
+use crate::json;
+use crate::names::shown;
 use crate::progress::Progress;
-use crate::trouble::{Status, Trouble};
-use crate::{files, library, output};
-use std::ffi::OsString;
-use std::path::Path;
+use crate::trouble::{Status, Trouble, Voice};
+use crate::{files, found, library, output};
+use std::path::{Path, PathBuf};
 
-pub const COMMAND: Command = Command {
-    name: "check",
-    summary: "check sections",
-    help: "\
-usage: treskibben check FILE..
+/// Say of each file whether it is a whole section
+///
+/// The sections may be of version 3 or 1. 'FILE: accepted' goes to standard output, and to standard
+/// error 'FILE: refused NUMBER at PLACE: ..', with the cause in words and what was found. All files
+/// are looked at, whatever is found in the earlier ones, and the worst answer is the exit status.
+///
+/// A linker puts the maps of several objects one after the other. Such a file is refused by 9 at the
+/// second map: 'treskibben cut' takes it apart.
+#[derive(clap::Args)]
+pub struct Arguments {
+    /// The sections
+    #[arg(value_name = "FILE", required = true)]
+    files: Vec<PathBuf>,
+    /// Tell all answers on standard output, one JSON object a line
+    #[arg(long)]
+    pub json: bool,
+}
 
-Says of each file whether it is a whole stack map section, of version 3 or 1, and nothing else.
-'FILE: accepted' goes to standard output. A refusal goes to standard error: a line 'refused NUMBER
-at PLACE', and a line with the file and the cause in words. All files are looked at, whatever is
-found in the earlier ones.
-
-A linker puts the maps of several objects one after the other. Such a file is refused by 9 at the
-second map: 'treskibben cut' takes it apart.
-",
-    run,
-};
-
-fn run(arguments: Vec<OsString>) -> Result<Status, Trouble> {
-    let form = Form {
-        command: "check",
-        values: &[],
-        flags: &[],
-    };
-    let files = Arguments::sort(form, arguments)?.files("FILE")?;
+pub fn run(arguments: &Arguments, voice: Voice) -> Result<Status, Trouble> {
+    files::standard_input_once(arguments.files.iter())?;
     let mut worst = Status::Done;
     let mut progress = Progress::of("files checked");
-    for (number, file) in files.iter().enumerate() {
-        match check(file) {
-            Ok(()) => {}
-            Err(Trouble::Closed) => break,
-            Err(trouble) => worst = worst.max(trouble.tell()),
+    for (number, file) in arguments.files.iter().enumerate() {
+        match check(file, voice) {
+            // Where nobody listens any more, the files are looked at all the same: the status counts.
+            Ok(()) | Err(Trouble::Closed) => {}
+            Err(trouble) => worst = worst.max(trouble.tell(voice)),
         }
-        progress.tell(number as u64 + 1, files.len() as u64);
+        progress.tell(number as u64 + 1, arguments.files.len() as u64);
     }
     Ok(worst)
 }
 
-fn check(file: &Path) -> Result<(), Trouble> {
+fn check(file: &Path, voice: Voice) -> Result<(), Trouble> {
     let section = files::read(file, files::SECTION)?;
-    let name = file.display();
-    library::check(&section).map_err(|refusal| Trouble::refused(name, refusal))?;
-    output::line(&format!("{}: accepted", file.display()))
+    library::check(&section).map_err(|refusal| {
+        let found = found::of_section(file, &section, refusal);
+        Trouble::refused(file, refusal, found)
+    })?;
+    match voice {
+        Voice::Text => output::line(&format!("{}: accepted", shown(file))),
+        Voice::Json => output::object(&json::Answer::Accepted {
+            file: &json::name(file),
+        }),
+    }
 }

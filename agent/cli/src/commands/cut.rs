@@ -1,35 +1,35 @@
 //! `cut`: a file of several maps, taken apart.
 
-use super::Command;
-use crate::arguments::{Arguments, Form};
+mod write;
+
 use crate::library::{self, Refusal};
 use crate::numbers::count;
 use crate::progress::Progress;
-use crate::replace;
-use crate::trouble::{Status, Trouble};
-use crate::{files, output};
-use std::ffi::OsString;
-use std::fs::{self, File};
-use std::io::{Seek, SeekFrom};
+use crate::trouble::{Refused, Status, Trouble, Voice};
+use crate::{files, found, json, output};
+use std::fs::File;
 use std::path::{Path, PathBuf};
 
-pub const COMMAND: Command = Command {
-    name: "cut",
-    summary: "several maps in one file, as a linker leaves them, taken apart",
-    help: "\
-usage: treskibben cut [--into DIR] FILE
-
-A linker puts the maps of several objects one after the other. The file is cut where the check says
-9, bytes after the last record, and each part is checked by itself. Writes a line for each part. A
-part that is refused ends the work; its refusal's place is counted from the part's first byte.
-The file may be of any length, a part at most 16,777,216 bytes.
-
-  --into DIR   writes the parts to part-0.section, part-1.section and so on in this folder, which
-               is made where it is missing. No file is written over, and none is written at all
-               where a part is refused.
-",
-    run,
-};
+/// Take a file of several maps apart, as a linker leaves it
+///
+/// A linker puts the maps of several objects one after the other. The file is cut where the check
+/// says 9, bytes after the last record, and each part is checked by itself. Writes a line for each
+/// part. A part that is refused ends the work; its refusal's place is counted from the part's first
+/// byte. The file may be of any length, a part at most 16,777,216 bytes.
+#[derive(clap::Args)]
+pub struct Arguments {
+    /// The maps
+    #[arg(value_name = "FILE")]
+    file: PathBuf,
+    /// Write the parts to part-0.section and so on in this folder, all of them or none
+    ///
+    /// The folder is made, or is there and empty. It gets its name when all parts are in it.
+    #[arg(long, value_name = "DIR")]
+    into: Option<PathBuf>,
+    /// Tell all answers on standard output, one JSON object a line
+    #[arg(long)]
+    pub json: bool,
+}
 
 /// The longest section.
 const LONGEST: usize = files::SECTION as usize;
@@ -40,46 +40,46 @@ struct Part {
     length: u64,
 }
 
-fn run(arguments: Vec<OsString>) -> Result<Status, Trouble> {
-    let form = Form {
-        command: "cut",
-        values: &["--into"],
-        flags: &[],
-    };
-    let arguments = Arguments::sort(form, arguments)?;
-    let [path] = arguments.plain(["FILE"])?.map(Path::new);
-    let into = arguments.file("--into");
+pub fn run(arguments: &Arguments, voice: Voice) -> Result<Status, Trouble> {
+    let path = &arguments.file;
     let mut file = files::open(path)?;
-    if into.is_some() && !file.metadata().is_ok_and(|there| there.is_file()) {
+    let Some(folder) = &arguments.into else {
+        parts(path, &mut file, voice, false)?;
+        return Ok(Status::Done);
+    };
+    if !file.metadata().is_ok_and(|there| there.is_file()) {
         let why = "--into reads the file twice, which has to be a regular one";
         return Err(Trouble::file(path, "cannot be cut", why));
     }
-    let parts = parts(path, &mut file, into.is_some())?;
-    if let Some(folder) = into {
-        write(path, &mut file, &parts, folder)?;
+    let target = write::target(folder)?;
+    let parts = parts(path, &mut file, voice, true)?;
+    write::all(path, &mut file, &parts, &target)?;
+    if voice == Voice::Json {
+        // The parts are written, whether anybody hears of it or not.
+        let _ = output::object(&json::Answer::Written {
+            file: &json::name(path),
+            folder: &json::name(folder),
+            parts: parts.len() as u64,
+        });
     }
     Ok(Status::Done)
 }
 
-/// The parts of a file, each checked and told. `deaf` goes on where nobody listens.
-fn parts(path: &Path, file: &mut File, deaf: bool) -> Result<Vec<Part>, Trouble> {
+/// The parts of a file, each checked and told. Where nobody listens any more, it goes on all the same:
+/// the status counts. `deaf` goes on where nobody can be told at all.
+fn parts(path: &Path, file: &mut File, voice: Voice, deaf: bool) -> Result<Vec<Part>, Trouble> {
     let mut progress = Progress::of("bytes cut");
     let all = file.metadata().map_or(0, |metadata| metadata.len());
     let mut parts = Vec::new();
     let mut window = Window::default();
     loop {
         window.fill(path, file)?;
-        let (number, first) = (parts.len(), window.first);
-        let length = part_length(window.bytes()).map_err(|refusal| {
-            let name = format!("{}, part {number} from byte {first}", path.display());
-            Trouble::refused(name, refusal)
-        })?;
-        let bytes = count(length, "byte");
-        match output::line(&format!(
-            "part {number} from byte {first}: {bytes}, accepted"
-        )) {
-            Err(Trouble::Closed) if deaf => {}
-            told => told?,
+        let (number, first) = (parts.len() as u64, window.first);
+        let length = part_length(window.bytes())
+            .map_err(|refusal| refused(path, number, first, window.bytes(), refusal))?;
+        match tell(path, number, first, length, voice) {
+            Err(trouble) if !deaf && !matches!(trouble, Trouble::Closed) => return Err(trouble),
+            _ => {}
         }
         parts.push(Part { first, length });
         window.pass(length);
@@ -88,6 +88,35 @@ fn parts(path: &Path, file: &mut File, deaf: bool) -> Result<Vec<Part>, Trouble>
             return Ok(parts);
         }
     }
+}
+
+fn tell(path: &Path, part: u64, first: u64, bytes: u64, voice: Voice) -> Result<(), Trouble> {
+    match voice {
+        Voice::Text => {
+            let bytes = count(bytes, "byte");
+            output::line(&format!("part {part} from byte {first}: {bytes}, accepted"))
+        }
+        Voice::Json => output::object(&json::Answer::Part {
+            file: &json::name(path),
+            part,
+            first,
+            bytes,
+        }),
+    }
+}
+
+/// The refusal of a part.
+fn refused(path: &Path, number: u64, first: u64, bytes: &[u8], refusal: Refusal) -> Trouble {
+    let found = found::of_section(path, bytes, refusal);
+    let found = found.map(|found| format!(": {found}")).unwrap_or_default();
+    Trouble::Refused(Box::new(Refused {
+        file: path.to_path_buf(),
+        part: Some((number, first)),
+        answer: Some((refusal.number, refusal.place)),
+        cause: refusal.cause.to_string(),
+        found: Some(format!("part {number} from byte {first}{found}")),
+        ..Refused::default()
+    }))
 }
 
 /// The length of the map that the bytes begin with. There may be one byte more than the longest
@@ -147,49 +176,4 @@ impl Window {
         self.passed += length as usize;
         self.first += length;
     }
-}
-
-/// Writes the parts to files of their own: all of them, or none.
-fn write(path: &Path, file: &mut File, parts: &[Part], folder: &Path) -> Result<(), Trouble> {
-    let made = match fs::create_dir(folder) {
-        Ok(()) => true,
-        Err(_) if folder.is_dir() => false,
-        Err(error) => return Err(Trouble::file(folder, "cannot be made", error)),
-    };
-    let mut written = Vec::new();
-    let outcome = write_all(path, file, parts, folder, &mut written);
-    if outcome.is_err() {
-        for file in &written {
-            let _ = fs::remove_file(file);
-        }
-        if made {
-            let _ = fs::remove_dir(folder);
-        }
-    }
-    outcome
-}
-
-fn write_all(
-    path: &Path,
-    file: &mut File,
-    parts: &[Part],
-    folder: &Path,
-    written: &mut Vec<PathBuf>,
-) -> Result<(), Trouble> {
-    let mut progress = Progress::of("parts written");
-    let width = parts.len().saturating_sub(1).to_string().len();
-    for (number, part) in parts.iter().enumerate() {
-        let sought = file.seek(SeekFrom::Start(part.first));
-        sought.map_err(|error| files::unreadable(path, error))?;
-        let bytes = files::read_up_to(path, file, part.length)?;
-        if library::check(&bytes).is_err() {
-            let why = "it has changed since it was checked";
-            return Err(Trouble::file(path, "cannot be cut", why));
-        }
-        let target = folder.join(format!("part-{number:0width$}.section"));
-        replace::create(&target, &bytes)?;
-        written.push(target);
-        progress.tell(number as u64 + 1, parts.len() as u64);
-    }
-    Ok(())
 }

@@ -1,133 +1,232 @@
 //! `restore`: a stack image whose frames are moved, all of them or none.
 
-use super::Command;
-use crate::arguments::{Arguments, Form};
+mod place;
+mod refused;
+
 use crate::frames::Naming;
-use crate::library::{self, Frame, Refusal, Table};
-use crate::lists::{self, Entry, Form as Lines};
-use crate::numbers::count;
-use crate::replace::Held;
-use crate::trouble::{Status, Trouble};
-use crate::{files, output};
-use std::ffi::OsString;
+use crate::library::{self, Frame, Table};
+use crate::lists::{self, Entry, Form};
+use crate::names::shown;
+use crate::numbers::{address, count};
+use crate::receipt::{self, Receipt};
+use crate::trouble::{say, Status, Trouble, Voice};
+use crate::{files, found, json, listing, output};
+use place::Target;
 use std::path::{Path, PathBuf};
 
-pub const COMMAND: Command = Command {
-    name: "restore",
-    summary: "the frames of a stopped thread moved on its stack image",
-    help: "\
-usage: treskibben restore --section FILE --image FILE --first ADDRESS --moves FILE --frames FILE
-
-Moves the frames of a stopped thread, all of them or none, and replaces the image file. On a refusal
-or a fault the image file stays byte for byte as it was.
-
-  --section FILE    the stack map section
-  --image FILE      the bytes of the stack, which are replaced; at most 1,048,576
-  --first ADDRESS   the address of the image's first byte
-  --moves FILE      where the objects of the heap were and are: lines 'OLD NEW', old starts rising
-  --frames FILE     the stopped frames: lines 'ADDRESS RBP RSP'; at most 4,096. For a section of
-                    version 1 the lines are 'FUNCTION+OFFSET RBP RSP'
-
-Numbers are hexadecimal, with or without 0x; a function's number is decimal, as 'list --text' tells
-it. In the lists, '#' begins a comment, and blank lines are passed over.
-
-Refusals come in this order: 1 to 9 of the section, 13 of the image, 14 of the moves, 25 of the
-frames as a list; then the first frame of the list that is refused by itself, by 10, 15, 12, or 16
-to 21; then 26 at the first frame whose extent shares a byte with an earlier one's. The place of a
-frame's refusal is its position in the list, counted from 0.
-",
-    run,
-};
-
-/// The files of a call.
-struct Call {
+/// Move the frames of a stopped thread on its stack image
+///
+/// All frames are moved or none. Either way of writing leaves a receipt beside the new image,
+/// NAME.receipt.json, with the SHA-256 of all that went in and came out; an image that its receipt
+/// tells to be restored already is refused.
+///
+/// Numbers are hexadecimal, with or without 0x; a function's number is decimal, as 'list --text'
+/// tells it. In the lists, '#' begins a comment, and blank lines are passed over.
+///
+/// Refusals come in this order: an image that was restored already; 1 to 9 of the section, 13 of the
+/// image, 14 of the moves, 25 of the frames as a list; then the first frame of the list that is
+/// refused by itself, by 10, 15, 12, or 16 to 21; then 26 at the first frame whose extent shares a
+/// byte with an earlier one's; last a list of no frames. The place of a frame's refusal is its
+/// position in the list, counted from 0.
+#[derive(clap::Args)]
+#[command(override_usage = USAGE)]
+#[command(group = clap::ArgGroup::new("where").required(true).args(["output", "in_place"]))]
+pub struct Arguments {
+    /// The stack map section
+    #[arg(long, value_name = "FILE")]
     section: PathBuf,
+    /// The bytes of the stack; at most 1,048,576
+    #[arg(long, value_name = "FILE")]
     image: PathBuf,
+    /// The address of the image's first byte
+    #[arg(long, value_name = "ADDRESS", value_parser = address)]
+    first: u64,
+    /// Where the objects of the heap were and are: lines 'OLD NEW', old starts rising
+    #[arg(long, value_name = "FILE")]
     moves: PathBuf,
+    /// The stopped frames: lines 'ADDRESS RBP RSP', of version 1 'FUNCTION+OFFSET RBP RSP'
+    #[arg(long, value_name = "FILE")]
     frames: PathBuf,
+    /// Write the new image to a file that must not exist yet, and never touch the old one
+    #[arg(long, value_name = "NEW")]
+    output: Option<PathBuf>,
+    /// Replace the old image by the new one, in one step
+    #[arg(long)]
+    in_place: bool,
+    /// Restore an image whose receipt tells that it was restored already
+    ///
+    /// So it is from the second call on where a thread's frames stand in several sections, which have
+    /// a call each.
+    #[arg(long)]
+    again: bool,
+    /// Accept a list of no frames, which moves nothing
+    #[arg(long)]
+    allow_empty: bool,
+    /// Tell the answer on standard output as one JSON object
+    #[arg(long)]
+    pub json: bool,
 }
 
-fn run(arguments: Vec<OsString>) -> Result<Status, Trouble> {
-    let form = Form {
-        command: "restore",
-        values: &["--section", "--image", "--first", "--moves", "--frames"],
-        flags: &[],
-    };
-    let arguments = Arguments::sort(form, arguments)?;
-    let [] = arguments.plain([])?;
-    let file = |name| arguments.needed(name).map(PathBuf::from);
-    let call = Call {
-        section: file("--section")?,
-        image: file("--image")?,
-        moves: file("--moves")?,
-        frames: file("--frames")?,
-    };
-    let first = arguments.address(arguments.needed("--first")?)?;
-    restore(&call, first)?;
-    Ok(Status::Done)
+const USAGE: &str = "\
+treskibben restore --section FILE --image FILE --first ADDRESS
+           --moves FILE --frames FILE --output NEW | --in-place [OPTIONS]";
+
+/// All that a restore reads.
+struct Inputs<'a> {
+    arguments: &'a Arguments,
+    section: Vec<u8>,
+    moves_text: Vec<u8>,
+    moves: Vec<Entry<[u64; 2]>>,
+    frames_text: Vec<u8>,
+    naming: Naming,
+    lines: Vec<Entry<Frame>>,
 }
 
-fn restore(call: &Call, first: u64) -> Result<(), Trouble> {
-    let section = files::read(&call.section, files::SECTION)?;
-    let table = table(&call.moves)?;
-    let naming = Naming::of(&section);
-    let lines = naming.read(&call.frames)?;
-    let frames: Vec<Frame> = lines.iter().map(|entry| entry.value).collect();
-    let mut held = Held::open(&call.image)?;
-    let mut image = held.read(files::IMAGE)?;
-    let moved = library::relocate_thread(&section, &mut image, first, &table, &frames);
-    let pairs = moved.map_err(|(refusal, position)| {
-        let frame = position.map(|position| {
-            let pair = library::pair_at_fault(&section, &image, first, &table, frames[position]);
-            call.frame(position, &lines[position], naming, pair)
-        });
-        call.words(refusal, frame)
-    })?;
-    held.replace(&image)?;
-    let (frames, pairs) = (count(frames.len() as u64, "frame"), count(pairs, "pair"));
-    let image = call.image.display();
-    // The image is restored, whether anybody hears of it or not.
-    let _ = output::line(&format!("{image}: {frames} moved, {pairs}"));
-    Ok(())
+/// An image that was moved.
+struct Moved {
+    before: Vec<u8>,
+    after: Vec<u8>,
+    frames: u64,
+    pairs: u64,
 }
 
-fn table(path: &Path) -> Result<Table, Trouble> {
-    let moves = lists::read(path, &Lines::<[u64; 2]>::numbers("OLD NEW"))?;
-    Ok(Table {
-        old: moves.iter().map(|entry| entry.value[0]).collect(),
-        new: moves.iter().map(|entry| entry.value[1]).collect(),
-    })
-}
-
-impl Call {
-    /// A frame of the list, by its position, its line and, where there is one, the pair at fault.
-    fn frame(
-        &self,
-        position: usize,
-        entry: &Entry<Frame>,
-        naming: Naming,
-        pair: Option<u64>,
-    ) -> String {
-        let words = naming.words(&entry.value);
-        let (file, line) = (self.frames.display(), entry.line);
-        let pair = pair.map_or(String::new(), |pair| format!(", pair {pair}"));
-        format!("frame {position} ({file}:{line}, {words}){pair}")
-    }
-
-    /// What is said of a refused restore, by a frame or by a file.
-    fn words(&self, refusal: Refusal, frame: Option<String>) -> Trouble {
-        let name = frame.unwrap_or_else(|| self.at_fault(refusal).display().to_string());
-        let (cause, image) = (refusal.cause, self.image.display());
-        Trouble::Refused(refusal, format!("{name}: {cause}\n{image} is as it was"))
-    }
-
-    /// The file that a refusal is about which is no frame's.
-    fn at_fault(&self, refusal: Refusal) -> &Path {
-        match refusal.number {
-            13 => &self.image,
-            14 => &self.moves,
-            25 => &self.frames,
-            _ => &self.section,
+pub fn run(arguments: &Arguments, voice: Voice) -> Result<Status, Trouble> {
+    let Arguments {
+        section,
+        image,
+        moves,
+        frames,
+        ..
+    } = arguments;
+    files::standard_input_once([section, image, moves, frames].into_iter())?;
+    let inputs = Inputs::read(arguments)?;
+    let mut target = Target::open(arguments)?;
+    let image = target.read()?;
+    match inputs.move_frames(image, voice) {
+        Ok(moved) => {
+            let receipt = inputs.receipt(&moved, target.named());
+            let path = target.put(&moved.after, &receipt)?;
+            inputs.tell(&moved, &target, &path, voice);
+            Ok(Status::Done)
         }
+        Err(trouble) => {
+            let status = trouble.tell(voice);
+            if status == Status::Refused && voice == Voice::Text {
+                say(&target.untouched());
+            }
+            Ok(status)
+        }
+    }
+}
+
+impl<'a> Inputs<'a> {
+    fn read(arguments: &'a Arguments) -> Result<Inputs<'a>, Trouble> {
+        let section = files::read(&arguments.section, files::SECTION)?;
+        let moves_text = lists::text(&arguments.moves)?;
+        let form = Form::<[u64; 2]>::numbers("OLD NEW");
+        let moves = lists::read(&arguments.moves, &moves_text, &form)?;
+        let naming = Naming::of(&section);
+        let frames_text = lists::text(&arguments.frames)?;
+        let lines = naming.read(&arguments.frames, &frames_text)?;
+        Ok(Inputs {
+            arguments,
+            section,
+            moves_text,
+            moves,
+            frames_text,
+            naming,
+            lines,
+        })
+    }
+
+    fn frames(&self) -> Vec<Frame> {
+        self.lines.iter().map(|entry| entry.value).collect()
+    }
+
+    fn table(&self) -> Table {
+        Table {
+            old: self.moves.iter().map(|entry| entry.value[0]).collect(),
+            new: self.moves.iter().map(|entry| entry.value[1]).collect(),
+        }
+    }
+
+    /// Moves all frames on a copy of the image, or says why not.
+    fn move_frames(&self, before: Vec<u8>, voice: Voice) -> Result<Moved, Trouble> {
+        self.not_twice(&before)?;
+        if listing::all_at_zero(&self.section) && library::check(&self.section).is_ok() {
+            found::warn_of_zeros(&self.arguments.section, voice);
+        }
+        let (table, frames) = (self.table(), self.frames());
+        let mut after = before.clone();
+        let first = self.arguments.first;
+        let moved = library::relocate_thread(&self.section, &mut after, first, &table, &frames);
+        let pairs =
+            moved.map_err(|(refusal, position)| self.refused(refusal, position, &before))?;
+        if frames.is_empty() && !self.arguments.allow_empty {
+            let why = "an unwinder that failed leaves such a list; --allow-empty accepts it";
+            return Err(Trouble::declined(
+                &self.arguments.frames,
+                "no frames in the list",
+                why.to_string(),
+            ));
+        }
+        Ok(Moved {
+            before,
+            after,
+            frames: frames.len() as u64,
+            pairs,
+        })
+    }
+
+    /// An image that the receipt beside it tells to be restored already is refused.
+    fn not_twice(&self, image: &[u8]) -> Result<(), Trouble> {
+        let path = &self.arguments.image;
+        if self.arguments.again || files::is_standard_input(path) {
+            return Ok(());
+        }
+        match receipt::beside(path)? {
+            Some(receipt) if receipt.made(&receipt::digest(image)) => {
+                let beside = shown(&receipt::path_of(path));
+                let why =
+                    format!("its SHA-256 is 'after' in {beside}; --again restores it once more");
+                Err(Trouble::declined(path, "it was restored already", why))
+            }
+            _ => Ok(()),
+        }
+    }
+
+    fn receipt(&self, moved: &Moved, output: &Path) -> Receipt {
+        let entry = receipt::Entry::of;
+        let arguments = self.arguments;
+        Receipt {
+            treskibben: library::VERSION.to_string(),
+            section: entry(&arguments.section, &self.section),
+            moves: entry(&arguments.moves, &self.moves_text),
+            frames: entry(&arguments.frames, &self.frames_text),
+            first: format!("{:#x}", arguments.first),
+            before: entry(&arguments.image, &moved.before),
+            after: entry(output, &moved.after),
+            moved_frames: moved.frames,
+            moved_pairs: moved.pairs,
+        }
+    }
+
+    /// Tells what was done. It is done, whether anybody hears of it or not.
+    fn tell(&self, moved: &Moved, target: &Target, receipt: &Path, voice: Voice) {
+        let output = target.named();
+        let _ = match voice {
+            Voice::Text => {
+                let frames = count(moved.frames, "frame");
+                let pairs = count(moved.pairs, "pair");
+                output::line(&format!("{}: {frames} moved, {pairs}", shown(output)))
+            }
+            Voice::Json => output::object(&json::Answer::Restored {
+                image: &json::name(&self.arguments.image),
+                output: &json::name(output),
+                receipt: &json::name(receipt),
+                frames: moved.frames,
+                pairs: moved.pairs,
+            }),
+        };
     }
 }

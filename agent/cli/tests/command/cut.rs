@@ -75,8 +75,8 @@ fn a_bad_part_is_named_and_nothing_is_written() {
     ] {
         folder.put("all", [row_h(), part].concat());
         let ran = folder.run(["cut", "all", "--into", "parts"]);
-        let words = format!("all, part 1 from byte 152: {cause}");
-        ran.refused(number, place, &words);
+        let found = ran.refused(number, place, &format!("all: {cause}"));
+        assert!(found.starts_with("part 1 from byte 152"), "{found}");
         assert_eq!(ran.text(), good);
         assert_eq!(folder.names(), ["all"]);
     }
@@ -87,10 +87,10 @@ fn an_empty_file_has_no_part() {
     let folder = Folder::new();
     folder.put("empty", []);
     let ran = folder.run(["cut", "empty"]);
-    assert!(ran
-        .err
-        .starts_with("refused 1 at 0\nempty, part 0 from byte 0: "));
-    assert_eq!((ran.status, ran.text()), (Some(1), ""));
+    let cause = "section under 16 or over 16,777,216 bytes, or listing over 33,554,432 bytes";
+    let found = ran.refused(1, 0, &format!("empty: {cause}"));
+    assert_eq!(found, "part 0 from byte 0: it has 0 bytes");
+    assert_eq!(ran.text(), "");
 }
 
 #[test]
@@ -102,7 +102,7 @@ fn no_file_is_written_over() {
     let ran = folder.run(["cut", "all", "--into", "parts"]);
     assert!(
         ran.err
-            .contains("parts/part-1.section: cannot be written: File exists"),
+            .contains("parts: cannot be made: it is there and not empty"),
         "{}",
         ran.err
     );
@@ -121,7 +121,7 @@ fn no_file_is_written_over() {
 fn folders_that_cannot_be() {
     let folder = Folder::new();
     folder.put("all", C);
-    for into in ["missing/parts", "all"] {
+    for into in ["missing/parts", "all", "all/parts"] {
         let ran = folder.run(["cut", "all", "--into", into]);
         assert!(
             ran.err
@@ -175,8 +175,7 @@ fn a_part_over_the_limit() {
     folder.put("all", [C.to_vec(), of_constants(16_777_224, 1)].concat());
     let ran = folder.run(["cut", "all"]);
     assert!(
-        ran.err
-            .starts_with("refused 1 at 0\nall, part 1 from byte 16: "),
+        ran.err.starts_with("all: refused 1 at 0: ") && ran.err.contains("; part 1 from byte 16: "),
         "{}",
         ran.err
     );
@@ -185,16 +184,15 @@ fn a_part_over_the_limit() {
     let mut command = folder.shell("ulimit -v 262144");
     let ran = Ran::of(command.args(["cut", "huge"]));
     assert!(
-        ran.err
-            .starts_with("refused 1 at 0\nhuge, part 0 from byte 0: "),
+        ran.err.starts_with("huge: refused 1 at 0: ") && ran.err.contains("; part 0 from byte 0: "),
         "{}",
         ran.err
     );
     folder.put_sparse("zeros", &C, 1 << 42);
     let mut command = folder.shell("ulimit -v 262144");
     let ran = Ran::of(command.args(["cut", "zeros"]));
-    let words = "zeros, part 1 from byte 16: version neither 1 nor 3";
-    ran.refused(2, 0, words);
+    let found = ran.refused(2, 0, "zeros: version neither 1 nor 3");
+    assert_eq!(found, "part 1 from byte 16: its first byte is 0");
 }
 
 #[test]
@@ -210,9 +208,7 @@ fn many_small_maps() {
 #[test]
 fn wrong_calls_of_cut() {
     let folder = Folder::new();
-    folder
-        .run(["cut"])
-        .failed("cut: FILE is missing\n", "Try 'treskibben cut --help'.");
+    folder.run(["cut"]).failed("", "<FILE>");
     folder
         .run(["cut", "missing"])
         .failed("missing: cannot be read: ", "No such file");

@@ -1,8 +1,12 @@
 //! `restore`: a stack image whose frames are moved, all of them or none.
 
+mod asked_to_end;
+mod at_once;
 mod faults;
 mod killed;
 mod lists;
+mod output;
+mod receipts;
 mod refusals;
 mod threads;
 mod worked;
@@ -11,8 +15,11 @@ use crate::fixtures::{row_h, words};
 use crate::run::{Folder, Ran};
 use std::process::Command;
 
-/// The files of a restore, and nothing else in their folder.
+/// The files of a restore, and nothing else in their folder; and what is there after one in place.
 pub const FILES: [&str; 4] = ["frames", "image", "moves", "section"];
+pub const DONE: [&str; 5] = ["frames", "image", RECEIPT, "moves", "section"];
+/// The receipt of a restore in place.
+pub const RECEIPT: &str = "image.receipt.json";
 
 /// All that a restore is given.
 #[derive(Clone)]
@@ -44,20 +51,28 @@ impl Restore {
         folder.put("frames", &self.frames);
     }
 
-    /// Adds the arguments of the call.
-    pub fn call<'a>(&self, command: &'a mut Command) -> &'a mut Command {
+    /// Adds the arguments of the call but for where the new image goes.
+    pub fn inputs<'a>(&self, command: &'a mut Command) -> &'a mut Command {
         let first = format!("{:x}", self.first);
         command.args(["restore", "--section", "section", "--image", "image"]);
         command.args(["--first", &first, "--moves", "moves", "--frames", "frames"])
     }
 
-    /// Runs it; the image afterwards comes along. Nothing may be left in the folder.
+    /// Adds the arguments of a call in place.
+    pub fn call<'a>(&self, command: &'a mut Command) -> &'a mut Command {
+        self.inputs(command).arg("--in-place")
+    }
+
+    /// Runs it; the image afterwards comes along. Nothing but a receipt may be left in the folder.
     #[track_caller]
     pub fn run(&self) -> (Ran, Vec<u8>) {
         let folder = Folder::new();
         self.put(&folder);
         let ran = Ran::of(self.call(&mut folder.command()));
-        assert_eq!(folder.names(), FILES);
+        match ran.status {
+            Some(0) => assert_eq!(folder.names(), DONE),
+            _ => assert_eq!(folder.names(), FILES),
+        }
         for (name, bytes) in [
             ("section", &self.section[..]),
             ("moves", self.moves.as_bytes()),
@@ -75,17 +90,18 @@ impl Restore {
         image
     }
 
-    /// A restore that is refused: the image must be as it was. Gives what is said of the cause.
+    /// A restore that is refused: the image must be as it was. Gives the line without number and place.
     #[track_caller]
     pub fn refused(&self, number: u64, place: u64) -> String {
         let (ran, image) = self.run();
         assert!(image == self.image, "the image has changed");
         assert_eq!((ran.status, ran.text()), (Some(1), ""), "{}", ran.err);
         let lines: Vec<&str> = ran.err.lines().collect();
-        assert_eq!(lines.len(), 3, "{}", ran.err);
-        assert_eq!(lines[0], format!("refused {number} at {place}"));
-        assert_eq!(lines[2], "image is as it was");
-        lines[1].to_string()
+        assert_eq!(lines.len(), 2, "{}", ran.err);
+        assert_eq!(lines[1], "image: is as it was");
+        let answer = format!(": refused {number} at {place}: ");
+        assert!(lines[0].contains(&answer), "{}", ran.err);
+        lines[0].replacen(&answer, ": ", 1)
     }
 
     /// A restore that fails: the image must be as it was.

@@ -4,8 +4,10 @@ use std::ffi::OsStr;
 use std::fs::{self, File};
 use std::os::unix::fs::MetadataExt;
 use std::path::{Path, PathBuf};
-use std::process::{Command, Output, Stdio};
+use std::process::{Child, Command, Output, Stdio};
 use std::sync::atomic::{AtomicU64, Ordering};
+use std::thread::sleep;
+use std::time::Duration;
 
 /// The program.
 pub const PROGRAM: &str = env!("CARGO_BIN_EXE_treskibben");
@@ -105,6 +107,14 @@ impl Drop for Folder {
     }
 }
 
+/// Waits until something in the folder has one of these names, or the run is over.
+pub fn until_there(child: &mut Child, folder: &Folder, names: &[&str]) {
+    let missing = |name: &&str| fs::symlink_metadata(folder.at(name)).is_err();
+    while names.iter().all(missing) && child.try_wait().unwrap().is_none() {
+        sleep(Duration::from_micros(10));
+    }
+}
+
 /// What came of a run.
 #[derive(Debug)]
 pub struct Ran {
@@ -130,12 +140,18 @@ impl Ran {
         assert_eq!((self.status, self.text()), (Some(0), out));
     }
 
-    /// The run was refused by this number at this place, and said no more than this of it.
+    /// The run was refused by this number at this place. `words` are the file and the cause; what was
+    /// found, on the same line, is given back.
     #[track_caller]
-    pub fn refused(&self, number: u64, place: u64, words: &str) {
-        let expected = format!("refused {number} at {place}\n{words}\n");
-        assert_eq!(self.err, expected);
+    pub fn refused(&self, number: u64, place: u64, words: &str) -> &str {
+        let (file, cause) = words.split_once(": ").unwrap();
+        let start = format!("{file}: refused {number} at {place}: {cause}");
+        assert!(self.err.starts_with(&start), "{}", self.err);
+        assert_eq!(self.err.lines().count(), 1, "{}", self.err);
         assert_eq!(self.status, Some(1));
+        let found = self.err[start.len()..].trim_end();
+        assert!(found.is_empty() || found.starts_with("; "), "{found}");
+        found.trim_start_matches("; ")
     }
 
     /// The call or a file was wrong, and the message begins so and has these words in it.

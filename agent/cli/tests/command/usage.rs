@@ -2,9 +2,18 @@
 
 use crate::fixtures::{of_pairs, row_h, rsp};
 use crate::run::{Folder, Ran, PROGRAM};
+use std::path::Path;
 use std::process::{Command, Stdio};
 
-const COMMANDS: [&str; 6] = ["check", "list", "build", "find", "cut", "restore"];
+const COMMANDS: [&str; 7] = [
+    "check",
+    "list",
+    "build",
+    "find",
+    "cut",
+    "restore",
+    "completions",
+];
 
 #[test]
 fn help_of_the_program_and_of_each_command() {
@@ -18,13 +27,13 @@ fn help_of_the_program_and_of_each_command() {
         for command in COMMANDS {
             let ran = folder.run([command, option]);
             assert_eq!((ran.status, ran.err.as_str()), (Some(0), ""));
-            let start = format!("usage: treskibben {command} ");
-            assert!(ran.text().starts_with(&start), "{command}");
+            let usage = format!("\nUsage: treskibben {command} ");
+            assert!(ran.text().contains(&usage), "{command}");
             assert!(!ran.text().ends_with("\n\n"), "{command}");
         }
     }
     let ran = folder.run(["restore", "--section", "x", "--help"]);
-    assert!(ran.text().starts_with("usage: treskibben restore"));
+    assert!(ran.text().contains("\nUsage: treskibben restore"));
 }
 
 #[test]
@@ -47,25 +56,31 @@ fn version() {
         .done(concat!("treskibben ", env!("CARGO_PKG_VERSION"), "\n"));
 }
 
+/// The command is a workspace of its own, and has the library's version all the same.
+#[test]
+fn the_version_is_the_library_s() {
+    let manifest = Path::new(env!("CARGO_MANIFEST_DIR")).join("../Cargo.toml");
+    let text = std::fs::read_to_string(manifest).unwrap();
+    let own = concat!("version = \"", env!("CARGO_PKG_VERSION"), "\"");
+    assert!(text.lines().any(|line| line == own), "not {own}");
+}
+
 #[test]
 fn calls_that_are_none() {
     let folder = Folder::new();
     folder
         .run([""; 0])
-        .failed("no command\n", "usage: treskibben COMMAND");
+        .failed("no command\n", "Usage: treskibben <COMMAND>");
+    // What was meant is told.
+    folder.run(["chek", "x"]).failed("", "'check'");
+    folder.run(["check", "--jsn", "x"]).failed("", "'--json'");
+    folder.run([""]).failed("", "''");
+    folder.run(["--check"]).failed("", "'--check'");
+    folder.run(["check"]).failed("", "<FILE>...");
+    folder.run(["check", "--all", "x"]).failed("", "'--all'");
     folder
-        .run(["chek", "x"])
-        .failed("'chek' is no command\n", "Try 'treskibben --help'.");
-    folder.run([""]).failed("'' is no command\n", "");
-    folder
-        .run(["--check"])
-        .failed("'--check' is no command\n", "");
-    folder
-        .run(["check"])
-        .failed("check: FILE is missing\n", "Try 'treskibben check --help'.");
-    folder
-        .run(["check", "--all", "x"])
-        .failed("check: '--all' is no option of it\n", "");
+        .run(["check", "--\x1b[2J"])
+        .failed("", "'--\\u{1b}[2J'");
 }
 
 #[test]
@@ -74,11 +89,11 @@ fn names_that_look_like_options() {
     folder.put("--text", row_h());
     folder.put("-", row_h());
     folder
-        .run(["check", "--", "--text", "-"])
-        .done("--text: accepted\n-: accepted\n");
+        .run(["check", "--", "--text", "./-"])
+        .done("--text: accepted\n./-: accepted\n");
     folder
-        .run(["check", "-", "./--text"])
-        .done("-: accepted\n./--text: accepted\n");
+        .run(["check", "./--text"])
+        .done("./--text: accepted\n");
     let ran = folder.run(["check", "--", "--help"]);
     ran.failed("--help: cannot be read: ", "No such file");
 }
@@ -92,7 +107,7 @@ fn names_that_are_no_text() {
     std::fs::write(folder.path().join(name), row_h()).unwrap();
     folder
         .run([OsStr::new("check"), name])
-        .done("h\u{fffd}.section: accepted\n");
+        .done("h\\xff.section: accepted\n");
 }
 
 /// What a shell's line gives, in which `$0` is the program.

@@ -135,10 +135,10 @@ fn each_version_has_its_question() {
         ran.refused(27, 0, &format!("{file}: {OTHER_VERSION}"));
     }
     for asked in ["+20", "0+", "a+20", "0x0+20", "0+20+20", "0+rip"] {
-        let why = "is not a decimal number, '+' and a hexadecimal one";
+        let why = "not a decimal number, '+' and a hexadecimal one";
         folder
             .run(["find", "older", asked])
-            .failed(&format!("find: '{asked}' {why}"), "find --help");
+            .failed("", &format!("'{asked}' for '<ADDRESS>': {why}"));
     }
 }
 
@@ -167,8 +167,8 @@ fn row_i_and_sizes() {
     }
     row.section = with(row_h_1(), 97, 16);
     let words = row.refused(18, 0);
-    let start = "frame 0 (frames:1, function 0, offset 0x20, RBP 0x0, RSP 0x7000), pair 1: ";
-    assert!(words.starts_with(start), "{words}");
+    let end = "; frame 0 (function 0, offset 0x20, RBP 0x0, RSP 0x7000): pair 1";
+    assert!(words.ends_with(end), "{words}");
 }
 
 #[test]
@@ -188,15 +188,25 @@ fn refusals_of_where_the_frame_stands() {
     let mut row = row_i();
     for frame in ["1+20", "0+21", "0+1020", "4294967296+20", "0+100000020"] {
         row.frames = format!("0+20 0 7000\n{frame} 0 7000\n");
-        assert!(row.refused(10, 1).ends_with(&format!(": {NO_RECORD}")));
+        let words = row.refused(10, 1);
+        assert!(words.starts_with(&format!("frames:2: {NO_RECORD}; frame 1 (")));
+        let function = frame.starts_with("0+");
+        let why = if function {
+            "): no record at offset 0x"
+        } else {
+            "): no function "
+        };
+        assert!(words.contains(why), "{words}");
     }
     row.frames = "0+20 0 7000\n0+20 0 7000\n".to_string();
     row.refused(26, 1);
     row.frames = "0+20 0 7001\n".to_string();
-    row.refused(16, 0);
+    let words = row.refused(16, 0);
+    let end = "): extent 0x7001 to 0x7019, image 0x7000 to 0x7018";
+    assert!(words.ends_with(end), "{words}");
     row.section = twice();
     let words = row.refused(15, 0);
-    assert!(words.ends_with(": more than one record at the address or offset"));
+    assert!(words.starts_with("frames:1: more than one record at the address or offset; "));
     row.frames = "1+20 0 7000\n".to_string();
     row.refused(10, 0);
 }

@@ -1,10 +1,11 @@
-//! A restore that is ended in the middle: the image is the old one or the new one.
+//! A restore that is ended in the middle: the image is the old one or the new one, and no new image is
+//! without its receipt.
 
-use super::{Restore, FILES};
+use super::{Restore, DONE, FILES, RECEIPT};
 use crate::fixtures::{of_pairs, rsp, words};
-use crate::run::{Folder, Ran};
+use crate::run::{until_there, Folder, Ran};
 use std::fs;
-use std::process::{Child, Command, Stdio};
+use std::process::{Child, Stdio};
 use std::thread::sleep;
 use std::time::{Duration, Instant};
 
@@ -12,13 +13,13 @@ const FRAMES: u64 = 1024;
 /// The words of a frame: a base, pointers derived from it, and the rest, which no pair names.
 const WORDS: u64 = 128;
 const PAIRS: u64 = 24;
-const OLD: u64 = 0x5_0000_0000;
-const NEW: u64 = 0x9_0000_0000;
-const BESIDE: &str = ".image.treskibben-new";
-const DONE: &str = "image: 1024 frames moved, 24576 pairs\n";
+pub const OLD: u64 = 0x5_0000_0000;
+pub const NEW: u64 = 0x9_0000_0000;
+pub const BESIDE: &str = ".image.treskibben-new";
+pub const SAYS: &str = "image: 1024 frames moved, 24576 pairs\n";
 
 /// The image of 1 MiB whose objects start at `start`.
-fn image(start: u64) -> Vec<u8> {
+pub fn image(start: u64) -> Vec<u8> {
     let word = |number: u64| match (number / WORDS, number % WORDS) {
         (frame, place @ ..PAIRS) => start + 0x1000 * frame + 8 * place,
         (frame, place) => OLD + 0x1000 * frame + 8 * place,
@@ -28,7 +29,7 @@ fn image(start: u64) -> Vec<u8> {
 }
 
 /// A thread of 1,024 frames, each with 24 pairs.
-fn thread() -> Restore {
+pub fn thread() -> Restore {
     let offset = |word: u64| rsp(8 * word as i32);
     let pairs: Vec<_> = (0..PAIRS).map(|word| [offset(0), offset(word)]).collect();
     let line = |frame: u64| {
@@ -47,26 +48,21 @@ fn thread() -> Restore {
     }
 }
 
-/// Starts a restore whose end is waited for elsewhere.
-fn start(row: &Restore, folder: &Folder) -> Child {
+/// Starts a restore in place whose end is waited for elsewhere.
+pub fn start(row: &Restore, folder: &Folder) -> Child {
     let mut command = folder.command();
-    row.call(&mut command).stdout(Stdio::null());
+    let command = row.call(&mut command);
+    let command = command.stdout(Stdio::piped()).stderr(Stdio::piped());
     command.spawn().unwrap()
 }
 
-/// Waits until the new image is being written beside the old one, or the run is over.
-fn until_writing(child: &mut Child, folder: &Folder) {
-    let beside = folder.at(BESIDE);
-    while fs::symlink_metadata(&beside).is_err() && child.try_wait().unwrap().is_none() {}
-}
-
 /// How long a whole run takes.
-fn whole_run(row: &Restore, folder: &Folder) -> Duration {
+pub fn whole_run(row: &Restore, folder: &Folder) -> Duration {
     let mut longest = Duration::ZERO;
     for _ in 0..3 {
         row.put(folder);
         let begun = Instant::now();
-        Ran::of(row.call(&mut folder.command())).done(DONE);
+        Ran::of(row.call(&mut folder.command())).done(SAYS);
         longest = longest.max(begun.elapsed());
         assert!(folder.get("image") == image(NEW));
     }
@@ -75,20 +71,21 @@ fn whole_run(row: &Restore, folder: &Folder) -> Duration {
 
 #[test]
 fn killed_at_any_moment() {
-    const KILLS: u64 = 240;
+    const KILLS: u64 = 160;
     let (row, folder) = (thread(), Folder::new());
     let (old, new) = (image(OLD), image(NEW));
     let long = whole_run(&row, &folder);
     let mut rng = generator::Rng::part(0xDEAD, 0);
-    let (mut stayed, mut replaced, mut left) = (0, 0, 0);
+    let (mut stayed, mut replaced, mut left, mut between) = (0, 0, 0, 0);
     for kill in 0..KILLS {
         folder.put("image", &old);
+        let _ = fs::remove_file(folder.at(RECEIPT));
         let mut child = start(&row, &folder);
         // Every second kill is aimed at the writing of the new image.
         let within = match kill % 2 {
             0 => long.as_micros() * 5 / 4,
             _ => {
-                until_writing(&mut child, &folder);
+                until_there(&mut child, &folder, &[BESIDE]);
                 long.as_micros() / 8
             }
         };
@@ -97,39 +94,66 @@ fn killed_at_any_moment() {
         child.wait().unwrap();
         let image = folder.get("image");
         assert!(image == old || image == new, "kill {kill}: a mixed image");
-        let beside = folder.names().contains(&BESIDE.to_string());
-        left += u64::from(beside);
+        let names = folder.names();
+        let has = |name: &str| names.iter().any(|there| there == name);
+        left += u64::from(has(BESIDE));
         if image == new {
-            assert!(!beside, "kill {kill}: a new image, and something beside it");
+            assert_eq!(names, DONE, "kill {kill}: a new image, and its receipt");
+            let ran = Ran::of(row.call(&mut folder.command()));
+            assert_eq!(ran.status, Some(1), "kill {kill}: moved twice");
             replaced += 1;
             continue;
         }
         stayed += 1;
-        Ran::of(row.call(&mut folder.command())).done(DONE);
+        between += u64::from(has(RECEIPT));
+        Ran::of(row.call(&mut folder.command())).done(SAYS);
         assert!(folder.get("image") == new, "kill {kill}: the next run");
-        assert_eq!(folder.names(), FILES, "kill {kill}: the next run");
+        assert_eq!(folder.names(), DONE, "kill {kill}: the next run");
     }
     assert_eq!(stayed + replaced, KILLS);
-    let counts = format!("{stayed} stayed, {replaced} replaced, {left} left");
+    let counts = format!(
+        "{stayed} stayed, {replaced} replaced, {left} left, {between} between the two names"
+    );
     println!("{counts}");
     assert!(stayed > 0 && replaced > 0 && left > 0, "{counts}");
 }
 
-/// A signal that asks a run to end finds it writing: it goes on to the end, and leaves nothing.
+/// The same where the new image is a new file: there is none, or it is whole and has its receipt.
 #[test]
-fn asked_to_end_while_it_writes() {
+fn killed_while_it_writes_a_new_file() {
+    const KILLS: u64 = 60;
     let (row, folder) = (thread(), Folder::new());
     row.put(&folder);
-    for signal in ["-HUP", "-INT", "-TERM"].repeat(4) {
-        folder.put("image", &row.image);
-        let mut child = start(&row, &folder);
-        until_writing(&mut child, &folder);
-        let mut kill = Command::new("kill");
-        kill.args([signal, &child.id().to_string()]);
-        // Where the run is over already, there is nobody to ask.
-        let _ = kill.stderr(Stdio::null()).status().unwrap();
+    let new = image(NEW);
+    let mut rng = generator::Rng::part(0xDEAD, 1);
+    let (mut none, mut whole) = (0, 0);
+    let long = whole_run(&row, &folder);
+    row.put(&folder);
+    fs::remove_file(folder.at(RECEIPT)).unwrap();
+    for kill in 0..KILLS {
+        let mut command = folder.command();
+        let command = row.inputs(&mut command).args(["--output", "new"]);
+        let mut child = command.stdout(Stdio::null()).spawn().unwrap();
+        until_there(&mut child, &folder, &[".new.treskibben-new"]);
+        let within = long.as_micros();
+        sleep(Duration::from_micros(rng.below(within as usize + 1) as u64));
+        child.kill().unwrap();
         child.wait().unwrap();
-        assert!(folder.get("image") == image(NEW), "{signal}");
-        assert_eq!(folder.names(), FILES, "{signal}");
+        if folder.at("new").exists() {
+            whole += 1;
+        } else {
+            none += 1;
+            let mut command = folder.command();
+            let ran = Ran::of(row.inputs(&mut command).args(["--output", "new"]));
+            ran.done(&SAYS.replacen("image", "new", 1));
+        }
+        assert!(folder.get("new") == new, "kill {kill}");
+        let mut names = FILES.to_vec();
+        names.splice(3..3, ["new", "new.receipt.json"]);
+        assert_eq!(folder.names(), names, "kill {kill}");
+        fs::remove_file(folder.at("new")).unwrap();
+        fs::remove_file(folder.at("new.receipt.json")).unwrap();
     }
+    println!("{none} none, {whole} whole");
+    assert!(none > 0 && whole > 0, "{none} none, {whole} whole");
 }

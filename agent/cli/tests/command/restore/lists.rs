@@ -104,12 +104,12 @@ fn files_beyond_their_limits() {
         (
             "section",
             1,
-            "refused 1 at 0\nsection: section under 16 or over 16,777,216 bytes",
+            "section: refused 1 at 0: section under 16 or over 16,777,216 bytes",
         ),
         (
             "image",
             1,
-            "refused 13 at 0\nimage: image over 1,048,576 bytes",
+            "image: refused 13 at 0: image over 1,048,576 bytes",
         ),
         (
             "moves",
@@ -139,7 +139,7 @@ fn files_beyond_their_limits() {
 }
 
 const WHOLE: &str =
-    "restore --section section --image image --first 7000 --moves moves --frames frames";
+    "restore --section section --image image --first 7000 --moves moves --frames frames --in-place";
 
 #[test]
 fn an_option_is_missing() {
@@ -149,10 +149,7 @@ fn an_option_is_missing() {
         let mut call: Vec<&str> = WHOLE.split(' ').collect();
         let name = call.remove(option);
         call.remove(option);
-        let start = format!("restore: {name} is missing\n");
-        folder
-            .run(call)
-            .failed(&start, "Try 'treskibben restore --help'.");
+        folder.run(call).failed("", &format!("\n  {name} <"));
     }
     assert_eq!(folder.get("image"), row.image);
 }
@@ -166,14 +163,16 @@ fn wrong_calls() {
         call[6] = first;
         folder.run(call)
     };
-    for text in ["", "rsp", "-1", "0x10000000000000000"] {
-        let start = format!("restore: '{text}' is not a hexadecimal number");
-        first(text).failed(&start, "Try 'treskibben restore --help'.");
+    for text in ["rsp", "0x10000000000000000"] {
+        let why = format!("'{text}' for '--first <ADDRESS>': not a hexadecimal number");
+        first(text).failed("", &why);
     }
+    first("-1").failed("", "'-1'");
     let with = |more: &str| folder.run(WHOLE.split(' ').chain([more]));
-    with("more").failed("restore: 'more' is one argument too many\n", "");
-    with("--first=7000").failed("restore: --first stands there twice\n", "");
-    with("--force").failed("restore: '--force' is no option of it\n", "");
+    with("more").failed("", "'more'");
+    with("--first=7000").failed("", "'--first <ADDRESS>'");
+    with("--force").failed("", "'--force'");
+    with("--output=new").failed("", "'--in-place'");
     assert_eq!(folder.get("image"), row.image);
     first("0X7000").done("image: 1 frame moved, 2 pairs\n");
 }

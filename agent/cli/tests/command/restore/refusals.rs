@@ -4,6 +4,7 @@ use super::Restore;
 use crate::fixtures::{
     constant, location, of_pairs, one_function, row_h, rsp, statepoint, with, words,
 };
+use crate::run::{Folder, Ran};
 use generator::layout::Location;
 
 /// Row I on another section.
@@ -71,17 +72,24 @@ fn refusals_of_the_image() {
 
 #[test]
 fn refusals_of_the_moves() {
-    for moves in [
-        "50000 90000\n50000 90000\n",
-        "50000 90000\n40000 80000\n",
-        "0 0\n50000 90000\n",
-        "50000 0\n",
+    for (moves, line, found) in [
+        (
+            "50000 90000\n50000 90000\n",
+            2,
+            "old start 0x50000 is not above 0x50000 of line 1",
+        ),
+        (
+            "# a\n50000 90000\n\n40000 80000\n",
+            4,
+            "old start 0x40000 is not above 0x50000 of line 2",
+        ),
+        ("0 0\n50000 90000\n", 1, "the old start is 0"),
+        ("50000 0\n", 1, "the new start is 0"),
     ] {
         let words = moved_by(moves).refused(14, 0);
-        assert!(
-            words.starts_with("moves: lists unequal, over 65,536"),
-            "{words}"
-        );
+        let start = format!("moves:{line}: lists unequal, over 65,536");
+        assert!(words.starts_with(&start), "{words}");
+        assert!(words.ends_with(&format!("; {found}")), "{words}");
     }
     let table = |entries: u64| -> String {
         let old = 0x50000;
@@ -90,7 +98,9 @@ fn refusals_of_the_moves() {
             .collect()
     };
     moved_by(table(65_536)).done("1 frame moved, 2 pairs");
-    moved_by(table(65_537)).refused(14, 0);
+    let words = moved_by(table(65_537)).refused(14, 0);
+    assert!(words.starts_with("moves:65537: "), "{words}");
+    assert!(words.ends_with("; entry 65537 of 65537"), "{words}");
 }
 
 #[test]
@@ -100,31 +110,41 @@ fn refusals_of_where_the_frame_stands() {
         ..Restore::row_i()
     };
     let words = frame.refused(10, 0);
-    assert!(
-        words.starts_with("frame 0 (frames:1, address 0x1021, "),
-        "{words}"
-    );
+    let end = "; frame 0 (address 0x1021, RBP 0x0, RSP 0x7000): no record at address 0x1021";
+    assert!(words.starts_with("frames:1: no record of that number or address"));
+    assert!(words.ends_with(end), "{words}");
 
     let pairs = [[rsp(8), rsp(8)]];
     let twice = vec![statepoint(0x20, &pairs), statepoint(0x20, &pairs)];
     let words = on(one_function(24, twice).encode()).refused(15, 0);
     assert!(
-        words.ends_with(": more than one record at the address or offset"),
+        words.starts_with("frames:1: more than one record at the address or offset; frame 0 ("),
         "{words}"
     );
 
     let words = on(with(row_h(), 56, 1)).refused(12, 0);
-    assert!(words.ends_with(": not a statepoint"), "{words}");
+    assert!(words.starts_with("frames:1: not a statepoint; "), "{words}");
 
-    on(of_pairs(u64::MAX, &pairs)).refused(16, 0);
+    let words = on(of_pairs(u64::MAX, &pairs)).refused(16, 0);
+    let end = "): the stack size of function 0 is not known";
+    assert!(words.ends_with(end), "{words}");
     on(of_pairs(25, &pairs)).refused(16, 0);
-    for rsp in ["6fff", "7001", "0", "ffffffffffffffff"] {
+    for (rsp, extent) in [
+        ("6fff", "0x6fff to 0x7017"),
+        ("7001", "0x7001 to 0x7019"),
+        ("0", "0x0 to 0x18"),
+        (
+            "ffffffffffffffff",
+            "0xffffffffffffffff to 0x10000000000000017",
+        ),
+    ] {
         let frame = Restore {
             frames: format!("1020 0 {rsp}"),
             ..Restore::row_i()
         };
         let words = frame.refused(16, 0);
-        assert!(words.ends_with("or extent not inside the image"), "{words}");
+        let end = format!("): extent {extent}, image 0x7000 to 0x7018");
+        assert!(words.ends_with(&end), "{words}");
     }
 }
 
@@ -153,7 +173,7 @@ fn refusals_of_the_pairs() {
 #[track_caller]
 fn second_pair(number: u64, pairs: [[Location; 2]; 2]) {
     let words = on(of_pairs(24, &pairs)).refused(number, 0);
-    assert!(words.contains("RSP 0x7000), pair 1: "), "{words}");
+    assert!(words.ends_with("RSP 0x7000): pair 1"), "{words}");
 }
 
 #[test]
@@ -194,14 +214,28 @@ fn order() {
     all.refused(26, 1);
 }
 
-/// A list of none moves nothing, and what all frames share is looked at all the same.
+/// A list of none is refused by the command, and what all frames share is looked at before that.
 #[test]
 fn no_frames() {
     let mut none = Restore {
         frames: "# no frames\n".to_string(),
         ..Restore::row_i()
     };
-    assert_eq!(none.done("0 frames moved, 0 pairs"), none.image);
+    let (ran, image) = none.run();
+    assert_eq!((ran.status, ran.text()), (Some(1), ""));
+    assert!(ran
+        .err
+        .starts_with("frames: refused: no frames in the list; "));
+    assert!(ran.err.contains("--allow-empty"), "{}", ran.err);
+    assert_eq!(image, none.image);
+    let folder = Folder::new();
+    none.put(&folder);
+    let ran = Ran::of(none.call(&mut folder.command()).arg("--allow-empty"));
+    ran.done("image: 0 frames moved, 0 pairs\n");
+    assert_eq!(folder.get("image"), none.image);
+    // Nothing was moved, so that nothing can be moved twice.
+    folder.put("frames", Restore::row_i().frames);
+    Ran::of(none.call(&mut folder.command())).done("image: 1 frame moved, 2 pairs\n");
     none.moves = "1 0".to_string();
     none.refused(14, 0);
     none.image = vec![0; 1_048_577];

@@ -68,8 +68,9 @@ fn one_refused_frame_refuses_all() {
             lines.insert(position, bad);
             row.frames = format!("# frames\n\n{}", lines.join("\n"));
             let words = row.refused(number, position as u64);
-            let start = format!("frame {position} (frames:{}, ", position + 3);
+            let start = format!("frames:{}: ", position + 3);
             assert!(words.starts_with(&start), "{words}");
+            assert!(words.contains(&format!("; frame {position} (")), "{words}");
         }
     }
 }
@@ -80,7 +81,10 @@ fn the_first_refused_frame_is_named() {
     let mut row = thread(3);
     row.moves = "50000 90000".to_string();
     let words = row.refused(21, 1);
-    assert!(words.starts_with("frame 1 (frames:2, "), "{words}");
+    assert!(
+        words.starts_with("frames:2: ") && words.contains("; frame 1 ("),
+        "{words}"
+    );
     row.frames += "9999 0 0";
     row.refused(21, 1);
 }
@@ -94,7 +98,7 @@ fn as_many_frames_as_there_may_be() {
     let words = row.refused(25, 0);
     assert_eq!(
         words,
-        "frames: list of frames not a multiple of four numbers, or over 4,096 frames"
+        "frames: list of frames not a multiple of four numbers, or over 4,096 frames; it has 4097 frames"
     );
 }
 
@@ -104,8 +108,8 @@ fn shared_extents_are_refused() {
     row.frames += "1020 0 7030\n";
     assert_eq!(
         row.refused(26, 6),
-        "frame 6 (frames:7, address 0x1020, RBP 0x0, RSP 0x7030): \
-         extent shares a byte with that of an earlier frame"
+        "frames:7: extent shares a byte with that of an earlier frame; \
+         frame 6 (address 0x1020, RBP 0x0, RSP 0x7030): it is shared with frame 2 of line 3"
     );
     // Without pairs a frame is accepted wherever it lies.
     row.section = of_pairs(24, &[]);
@@ -166,7 +170,7 @@ fn empty_extents_share_nothing() {
         image: vec![],
         ..Restore::row_i()
     };
-    assert_eq!(row.done("50 frames moved, 0 pairs"), []);
+    assert!(row.done("50 frames moved, 0 pairs").is_empty());
 }
 
 /// Frames without an extent are refused, by what is said of each by itself.
@@ -183,7 +187,10 @@ fn frames_without_an_extent() {
             ..Restore::row_i()
         };
         let words = row.refused(number, 1);
-        assert!(words.starts_with("frame 1 (frames:2, "), "{words}");
+        assert!(
+            words.starts_with("frames:2: ") && words.contains("; frame 1 ("),
+            "{words}"
+        );
     }
 }
 

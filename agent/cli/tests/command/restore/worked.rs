@@ -52,7 +52,7 @@ fn also_a_base_inside_an_object() {
     };
     assert_eq!(
         row.refused(21, 0),
-        "frame 0 (frames:1, address 0x1020, RBP 0x0, RSP 0x7000), pair 0: base neither 0 nor an old start"
+        "frames:1: base neither 0 nor an old start; frame 0 (address 0x1020, RBP 0x0, RSP 0x7000): pair 0"
     );
 }
 
@@ -67,8 +67,11 @@ fn also_a_slot_outside_and_a_collision() {
             ..Restore::row_i()
         };
         let words = row.refused(number, 0);
-        assert!(words.starts_with("frame 0 (frames:1, "), "{words}");
-        assert!(words.ends_with(&format!("), pair 1: {cause}")), "{words}");
+        assert!(
+            words.starts_with(&format!("frames:1: {cause}; ")),
+            "{words}"
+        );
+        assert!(words.ends_with("): pair 1"), "{words}");
     }
 }
 
@@ -84,7 +87,7 @@ fn also_256_pairs_and_257_and_none() {
                 let image = row.done("1 frame moved, 256 pairs");
                 assert_eq!(image, words(&[REST, 0x90000, 0x54E20]));
             }
-            257 => assert!(row.refused(17, 0).ends_with(": over 256 pairs")),
+            257 => assert!(row.refused(17, 0).starts_with("frames:1: over 256 pairs; ")),
             _ => assert_eq!(row.done("1 frame moved, 0 pairs"), row.image),
         }
     }
@@ -108,6 +111,7 @@ fn the_samples() {
         &text("i.moves"),
         "--frames",
         &text("i.frames"),
+        "--in-place",
     ]);
     ran.done("i.image: 1 frame moved, 2 pairs\n");
     assert_eq!(folder.get("i.image"), words(&[0, 0x90000, 0x94E20]));

@@ -1,0 +1,78 @@
+//! What is said of a restore that the library refuses.
+
+use super::Inputs;
+use crate::found::{self, Sizes};
+use crate::library::{self, Refusal};
+use crate::numbers::count;
+use crate::trouble::{Refused, Trouble};
+
+impl Inputs<'_> {
+    /// The refusal of a frame, by its position, or of what all frames share.
+    pub fn refused(&self, refusal: Refusal, position: Option<usize>, image: &[u8]) -> Trouble {
+        let refused = match position {
+            Some(position) => self.of_frame(refusal, position, image),
+            None => self.of_file(refusal, image),
+        };
+        Trouble::Refused(Box::new(Refused {
+            answer: Some((refusal.number, refusal.place)),
+            cause: refusal.cause.to_string(),
+            ..refused
+        }))
+    }
+
+    /// The file and, of 14, the line in it.
+    fn of_file(&self, refusal: Refusal, image: &[u8]) -> Refused {
+        let arguments = self.arguments;
+        let (file, line, found) = match refusal.number {
+            13 => {
+                let found = found::of_image(&arguments.image, image, arguments.first);
+                (&arguments.image, None, Some(found))
+            }
+            14 => {
+                let (line, found) = found::of_moves(&self.moves).unzip();
+                (&arguments.moves, line, found)
+            }
+            25 => {
+                let frames = count(self.lines.len() as u64, "frame");
+                (&arguments.frames, None, Some(format!("it has {frames}")))
+            }
+            _ => {
+                let found = found::of_section(&arguments.section, &self.section, refusal);
+                (&arguments.section, None, found)
+            }
+        };
+        Refused {
+            file: file.clone(),
+            line,
+            found,
+            ..Refused::default()
+        }
+    }
+
+    /// A frame of the list: its line, the pair at fault, and what 16 and 26 found.
+    fn of_frame(&self, refusal: Refusal, position: usize, image: &[u8]) -> Refused {
+        let (entry, first) = (&self.lines[position], self.arguments.first);
+        let frame = entry.value;
+        let pair = library::pair_at_fault(&self.section, image, first, &self.table(), frame);
+        let sizes = || Sizes::of(&self.section, self.naming);
+        let more = match refusal.number {
+            10 => Some(self.naming.not_there(&self.section, &frame)),
+            16 => sizes().outside(&frame, first, image.len()),
+            26 => sizes().shared(&self.frames(), position).map(|earlier| {
+                let line = self.lines[earlier].line;
+                format!("it is shared with frame {earlier} of line {line}")
+            }),
+            _ => pair.map(|pair| format!("pair {pair}")),
+        };
+        let more = more.map(|more| format!(": {more}")).unwrap_or_default();
+        let words = self.naming.words(&frame);
+        Refused {
+            file: self.arguments.frames.clone(),
+            line: Some(entry.line),
+            frame: Some(position as u64),
+            pair,
+            found: Some(format!("frame {position} ({words}){more}")),
+            ..Refused::default()
+        }
+    }
+}

@@ -1,0 +1,94 @@
+//! The receipt of a restore: a small JSON file beside the new image that tells what it was made from.
+//!
+//! Its digests are no part of what is proved. They tell an image that was restored from one that was
+//! not, so that none is restored twice by accident.
+
+use crate::beside::{hexadecimal, with_name};
+use crate::json;
+use crate::trouble::Trouble;
+use serde::{Deserialize, Serialize};
+use sha2::{Digest, Sha256};
+use std::fs::{self, File};
+use std::io::{self, Read};
+use std::path::{Path, PathBuf};
+
+/// No receipt is longer: names of files are its only part without a limit of ours.
+const LONGEST: u64 = 1 << 20;
+
+#[derive(Debug, Serialize, Deserialize)]
+pub struct Receipt {
+    /// The version of the library and the command.
+    pub treskibben: String,
+    pub section: Entry,
+    pub moves: Entry,
+    pub frames: Entry,
+    /// The address of the image's first byte.
+    pub first: String,
+    pub before: Entry,
+    pub after: Entry,
+    /// How many frames were moved, and how many pairs they have.
+    pub moved_frames: u64,
+    pub moved_pairs: u64,
+}
+
+/// A file by its name, its length and its digest.
+#[derive(Debug, PartialEq, Eq, Serialize, Deserialize)]
+pub struct Entry {
+    pub file: String,
+    pub bytes: u64,
+    pub sha256: String,
+}
+
+impl Entry {
+    pub fn of(path: &Path, bytes: &[u8]) -> Entry {
+        Entry {
+            file: json::name(path),
+            bytes: bytes.len() as u64,
+            sha256: digest(bytes),
+        }
+    }
+}
+
+/// The SHA-256 of bytes.
+pub fn digest(bytes: &[u8]) -> String {
+    hexadecimal(&Sha256::digest(bytes))
+}
+
+/// Where the receipt of an image stands: beside the file itself, where the image is a link.
+pub fn path_of(image: &Path) -> PathBuf {
+    let is_link = fs::symlink_metadata(image).is_ok_and(|there| there.is_symlink());
+    let real = fs::canonicalize(image).ok().filter(|_| is_link);
+    with_name(real.as_deref().unwrap_or(image), "", ".receipt.json")
+}
+
+impl Receipt {
+    /// The bytes of the file.
+    pub fn text(&self) -> io::Result<Vec<u8>> {
+        let mut text = serde_json::to_vec_pretty(self)?;
+        text.push(b'\n');
+        Ok(text)
+    }
+
+    /// Whether this is the receipt of the restore that made these bytes. A restore that changed
+    /// nothing makes none.
+    pub fn made(&self, digest: &str) -> bool {
+        self.after.sha256 == digest && self.before.sha256 != digest
+    }
+}
+
+/// The receipt beside an image, if there is one.
+pub fn beside(image: &Path) -> Result<Option<Receipt>, Trouble> {
+    let path = path_of(image);
+    let fault = |error: io::Error| Trouble::file(&path, "cannot be read", error);
+    let file = match File::open(&path) {
+        Err(error) if error.kind() == io::ErrorKind::NotFound => return Ok(None),
+        opened => opened.map_err(fault)?,
+    };
+    let mut text = Vec::new();
+    file.take(LONGEST).read_to_end(&mut text).map_err(fault)?;
+    let receipt = serde_json::from_slice(&text);
+    receipt.map(Some).map_err(|error| {
+        let why = format!("{error}; take it away, or say --again");
+        Trouble::file(&path, "is no receipt", why)
+    })
+}

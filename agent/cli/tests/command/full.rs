@@ -1,0 +1,99 @@
+//! A full disk: a small file system in memory, where one can be mounted.
+
+use crate::fixtures::{of_pairs, row_h, rsp, C};
+use crate::restore::Restore;
+use crate::run::{skipped, Folder, Ran, PROGRAM};
+use std::process::{Command, Stdio};
+
+/// Runs a call where the disk has so many KiB and these files on it, and gives the answer; what is there
+/// afterwards is on standard output. None where nothing can be mounted.
+fn on_a_disk(folder: &Folder, size: u64, files: &str, call: &str) -> Option<Ran> {
+    std::fs::create_dir_all(folder.at("disk")).unwrap();
+    let script = format!(
+        "mount -t tmpfs -o size={size}k none disk || exit 99
+        cp {files} disk/ && cd disk || exit 99
+        '{PROGRAM}' {call} >/dev/null
+        status=$?
+        for file in {files}; do cmp $file ../$file || exit 98; done
+        ls -A
+        exit $status"
+    );
+    let mut command = Command::new("unshare");
+    command.args(["--mount", "sh", "-c", &script]);
+    command.current_dir(folder.path()).stdin(Stdio::null());
+    let ran = command.output().ok().map(Ran::from);
+    let ran = ran.filter(|ran| !ran.err.starts_with("unshare: ") && ran.status != Some(99));
+    if ran.is_none() {
+        skipped("a full disk: no file system can be mounted");
+    }
+    ran
+}
+
+/// The call fails for want of room, and only the files that were there are there.
+#[track_caller]
+fn full(ran: &Ran, start: &str, names: &str) {
+    assert!(
+        ran.err.starts_with(&format!("treskibben: {start}")),
+        "{}",
+        ran.err
+    );
+    assert!(ran.err.contains("No space left"), "{}", ran.err);
+    assert_eq!((ran.status, ran.text()), (Some(2), names));
+}
+
+const RESTORE: &str =
+    "restore --section section --image image --first 7000 --moves moves --frames frames";
+const FILES: &str = "frames image moves section";
+const NAMES: &str = "frames\nimage\nmoves\nsection\n";
+
+/// There is no room for the new image, and then for all but its receipt.
+#[test]
+fn a_restore() {
+    let (mut row, folder) = (Restore::row_i(), Folder::new());
+    row.image.resize(1_048_576, 0xAB);
+    row.put(&folder);
+    for (size, receipt) in [(1400, ""), (2060, "its receipt ")] {
+        for (place, start) in [
+            ("--in-place", "image: cannot be replaced: "),
+            ("--output new", "new: cannot be written: "),
+        ] {
+            let call = format!("{RESTORE} {place}");
+            let Some(ran) = on_a_disk(&folder, size, FILES, &call) else {
+                return;
+            };
+            full(&ran, &format!("{start}{receipt}"), NAMES);
+        }
+    }
+    let call = format!("{RESTORE} --output new");
+    let ran = on_a_disk(&folder, 2064, FILES, &call).unwrap();
+    assert_eq!(ran.status, Some(0), "{}", ran.err);
+}
+
+#[test]
+fn a_list_and_a_build() {
+    let folder = Folder::new();
+    folder.put("section", of_pairs(24, &vec![[rsp(8), rsp(8)]; 30_000]));
+    folder
+        .run(["list", "section", "--output", "listing"])
+        .done("");
+    for (file, call) in [
+        ("section", "list section --output new"),
+        ("section", "list --text section --output new"),
+        ("listing", "build listing --output new"),
+    ] {
+        let Some(ran) = on_a_disk(&folder, 1100, file, call) else {
+            return;
+        };
+        full(&ran, "new: cannot be written: ", &format!("{file}\n"));
+    }
+}
+
+#[test]
+fn a_cut() {
+    let folder = Folder::new();
+    folder.put("all", [C.repeat(100), row_h()].concat());
+    let Some(ran) = on_a_disk(&folder, 200, "all", "cut all --into parts") else {
+        return;
+    };
+    full(&ran, "parts/part-", "all\n");
+}
