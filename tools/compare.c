@@ -1,6 +1,6 @@
 /*
  * Times two builds of the library in one run, in turn, on the same bytes: the check, a question and the move of a frame on a large
- * section of version 3, and, where both builds take it, of version 1. tools/compare builds it.
+ * section of version 3, and, where both builds take it, of version 1; and the check of sections of other kinds. tools/compare builds it.
  *
  * The functions of the two builds have the prefixes `before_` and `after_`. OLD_FRAME says that the first build's frame has no function
  * number yet, and that it refuses version 1.
@@ -56,27 +56,39 @@ static size_t put_location(size_t at, int old, uint8_t kind, uint16_t dwarf_regi
     return put(at, offset, 4);
 }
 
-/* A statepoint with up to six pairs of slots above RSP. */
-static size_t put_record(size_t at, int old, uint32_t offset) {
-    uint64_t pairs = below(7);
-    size_t count = 3 + 2 * pairs;
+/* What the records of a section are: of a hundred, those with live-outs and those with a ConstIndex among their locations. */
+typedef struct { int old, parity_mixed, empty, live_outs, const_index; } shape;
+
+enum { CONSTANTS = 16 };
+
+/* A statepoint with up to six pairs of slots above RSP, or with any number of slots; or a record with no locations. */
+static size_t put_record(size_t at, shape of, uint32_t offset) {
+    size_t slots = of.parity_mixed ? below(13) : 2 * below(7), count = of.empty ? 0 : 3 + slots;
+    size_t index = (int)below(100) < of.const_index ? below(count) : count;
+    size_t live_outs = (int)below(100) < of.live_outs ? 1 + below(6) : 0;
     at = put(at, 7, 8);
     at = put(at, offset, 4);
     at = put(at, 0, 2);
     at = put(at, count, 2);
-    for (size_t i = 0; i < count; i++)
-        at = i < 3 ? put_location(at, old, 4, 0, 0) : put_location(at, old, 3, 7, (uint32_t)(8 * below(8)));
-    if (!old && count % 2 == 1) at = put(at, 0, 4);
-    at = put(at, 0, 4);
-    return put(at, 0, 4);
+    for (size_t i = 0; i < count; i++) {
+        if (i == index) at = put_location(at, of.old, 5, 0, (uint32_t)below(CONSTANTS));
+        else at = i < 3 ? put_location(at, of.old, 4, 0, 0) : put_location(at, of.old, 3, 7, (uint32_t)(8 * below(8)));
+    }
+    if (!of.old && count % 2 == 1) at = put(at, 0, 4);
+    at = put(at, 0, 2);
+    at = put(at, live_outs, 2);
+    for (size_t i = 0; i < live_outs; i++) at = put(at, i | 8u << 24, 4);
+    return live_outs % 2 ? at : put(at, 0, 4);
 }
 
-static void build(int old) {
-    const uint64_t functions = 28000, each = old ? 5 : 4; /* below the limit in both versions */
-    size_t stride = old ? 16 : 24, at = 16 + stride * functions;
+static void build(shape of) {
+    const uint64_t functions = 26000, each = of.empty ? 24 : of.old ? 5 : 4; /* below the limit in every shape */
+    const int old = of.old;
+    size_t stride = old ? 16 : 24, at = 16 + stride * functions + 8 * CONSTANTS;
     uint32_t records = 0;
-    memset(bytes, 0, 16);
+    memset(bytes, 0, at);
     bytes[0] = old ? 1 : 3;
+    put(8, CONSTANTS, 4);
     for (uint64_t i = 0; i < functions; i++) {
         size_t f = 16 + stride * i;
         f = put(f, 0x400000 + 0x400 * i, 8);
@@ -85,7 +97,7 @@ static void build(int old) {
         for (uint64_t k = 0; k < each; k++, records++) {
             uint32_t offset = old ? records : (uint32_t)(8 * k);
             last = old ? offset : 0x400000 + 0x400 * i + offset;
-            at = put_record(at, old, offset);
+            at = put_record(at, of, offset);
         }
     }
     put(4, functions, 4);
@@ -139,10 +151,30 @@ static void compare(const char *name, int rounds, void (*before)(void), void (*a
            b[rounds / 2], b[rounds / 2] / a[rounds / 2], b[0] / a[0]);
 }
 
+/* The check of sections of other kinds. */
+static int kinds(int rounds) {
+    static const struct { const char *name; shape of; } all[] = {
+        {"odd and even", {.parity_mixed = 1}},     {"10% with live-outs", {.live_outs = 10}},
+        {"all with live-outs", {.live_outs = 100}}, {"10% with a ConstIndex", {.const_index = 10}},
+        {"all with a ConstIndex", {.const_index = 100}}, {"short records", {.empty = 1}},
+#ifndef OLD_FRAME
+        {"version 1, odd and even", {.old = 1, .parity_mixed = 1}}, {"version 1, all live-outs", {.old = 1, .live_outs = 100}},
+        {"version 1, all ConstIndex", {.old = 1, .const_index = 100}}, {"version 1, short", {.old = 1, .empty = 1}},
+#endif
+    };
+    puts("check of other kinds");
+    for (size_t i = 0; i < sizeof all / sizeof *all; i++) {
+        build(all[i].of);
+        if (before_treskibben_check(bytes, length).number || after_treskibben_check(bytes, length).number) return 1;
+        compare(all[i].name, rounds, check_before, check_after);
+    }
+    return 0;
+}
+
 int main(int argc, char **argv) {
     int rounds = argc > 1 ? atoi(argv[1]) : 101;
     if (rounds < 1 || rounds > ROUNDS_MOST) return 2;
-    build(0);
+    build((shape){0});
     if (before_treskibben_check(bytes, length).number || after_treskibben_check(bytes, length).number) return 1;
     printf("section of version 3, %zu bytes, %d rounds\n", length, rounds);
     compare("check", rounds, check_before, check_after);
@@ -153,7 +185,7 @@ int main(int argc, char **argv) {
         double t = time_of(check_after) / (double)length;
         if (t < three) three = t;
     }
-    build(1);
+    build((shape){.old = 1});
     if (after_treskibben_check(bytes, length).number) return 1;
     printf("section of version 1, %zu bytes\n", length);
 #ifndef OLD_FRAME
@@ -166,5 +198,5 @@ int main(int argc, char **argv) {
         if (t < one) one = t;
     }
     printf("fastest check, version 1 of version 3, a byte: %.3f\n", one / three);
-    return 0;
+    return kinds(rounds);
 }

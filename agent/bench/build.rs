@@ -1,8 +1,9 @@
 //! Compiles `parser.cpp` against LLVM 14's headers. LLVM's stack map parser is all in its header, so that only the
-//! C++ runtime is linked and no library of LLVM.
+//! C++ runtime is linked and no library of LLVM. Compiles `check.c`, the check in unproved C.
 //!
 //! Links `target/staticlib/libreads.a` too, where `rt staticlib reads` has written it. Only `bench reads` needs it.
 
+use std::ffi::OsStr;
 use std::path::{Path, PathBuf};
 use std::process::Command;
 
@@ -18,18 +19,26 @@ const FLAGS: &[&str] = &[
     "-DLLVM_DISABLE_ABI_BREAKING_CHECKS_ENFORCING=1",
 ];
 
+const C_FLAGS: [&str; 5] = ["-std=c11", "-O3", "-fPIC", "-Wall", "-Wextra"];
+
 fn main() {
-    println!("cargo:rerun-if-changed=parser.cpp");
-    println!("cargo:rerun-if-changed=build.rs");
+    for file in ["parser.cpp", "check.c", "build.rs"] {
+        println!("cargo:rerun-if-changed={file}");
+    }
     let out = PathBuf::from(std::env::var("OUT_DIR").unwrap());
-    let object = out.join("parser.o");
-    let compiler = compile(&headers(), &object);
-    let library = out.join("libparser.a");
-    let archived = Command::new("ar").arg("crs").arg(&library).arg(&object).status();
+    let (parser, check) = (out.join("parser.o"), out.join("check.o"));
+    let mut flags: Vec<&OsStr> = FLAGS.iter().map(OsStr::new).collect();
+    let headers = headers();
+    flags.extend([OsStr::new("-isystem"), headers.as_os_str()]);
+    let parser_compiler = compile(&["g++", "clang++"], &flags, "parser.cpp", &parser);
+    let check_compiler = compile(&["gcc", "clang"], &C_FLAGS.map(OsStr::new), "check.c", &check);
+    let library = out.join("libothers.a");
+    let archived = Command::new("ar").arg("crs").arg(&library).args([&parser, &check]).status();
     assert!(archived.is_ok_and(|status| status.success()), "ar failed: the Debian package binutils has it");
-    println!("cargo:rustc-env=PARSER_COMPILER={compiler} -O3");
+    println!("cargo:rustc-env=PARSER_COMPILER={parser_compiler} -O3");
+    println!("cargo:rustc-env=CHECK_COMPILER={check_compiler} -O3");
     println!("cargo:rustc-link-search=native={}", out.display());
-    println!("cargo:rustc-link-lib=static=parser");
+    println!("cargo:rustc-link-lib=static=others");
     println!("cargo:rustc-link-lib=dylib=stdc++");
     link_reads();
 }
@@ -59,15 +68,15 @@ fn headers() -> PathBuf {
         .expect("LLVM 14's StackMapParser.h is missing: the Debian package llvm-14-dev has it")
 }
 
-/// Compiles with the first compiler that is there, and says which.
-fn compile(headers: &Path, object: &Path) -> &'static str {
-    for compiler in ["g++", "clang++"] {
+/// Compiles a file with the first of these compilers that is there, and says which.
+fn compile(compilers: &[&'static str], flags: &[&OsStr], file: &str, object: &Path) -> &'static str {
+    for compiler in compilers {
         let mut command = Command::new(compiler);
-        command.args(FLAGS).arg("-isystem").arg(headers).args(["-c", "parser.cpp", "-o"]).arg(object);
+        command.args(flags).args(["-c", file, "-o"]).arg(object);
         if let Ok(status) = command.status() {
-            assert!(status.success(), "{compiler} failed on parser.cpp");
+            assert!(status.success(), "{compiler} failed on {file}");
             return compiler;
         }
     }
-    panic!("no C++ compiler: the Debian packages g++ and clang have one")
+    panic!("no compiler for {file}: the Debian packages g++ and clang have one")
 }

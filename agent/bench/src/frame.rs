@@ -13,7 +13,7 @@ const FEW: &str = "one frame, no pairs";
 const REFERENCE: &str = "reference";
 
 /// The ratios to reach: to the check of the same section, and to the second implementation.
-const MOST_OF_CHECK: f64 = 1.3;
+const MOST_OF_CHECK: f64 = 1.1;
 const MOST_OF_REFERENCE: f64 = 1.1;
 
 /// Pairs and objects of the small section's frame.

@@ -11,7 +11,25 @@ const FUNCTIONS_PER_CONSTANT: u64 = 16;
 /// A section as long as fits in `limit` bytes.
 pub fn build(limit: usize) -> Vec<u8> {
     let mut parts = Parts { numbers: Numbers(1), ..Parts::default() };
-    while parts.add_function(limit) {}
+    while parts.add_function(limit, Parts::add_record) {}
+    parts.bytes()
+}
+
+/// Statepoints of one kind, as LLVM emits them: three constants and up to six pairs.
+#[derive(Clone, Copy, Default)]
+pub struct Statepoints {
+    /// Any number of slots up to twelve, so that the locations are odd or even in number.
+    pub parity_mixed: bool,
+    /// Of a hundred records, those with one to six live-outs.
+    pub live_outs: u64,
+    /// Of a hundred records, those with one location that is a ConstIndex.
+    pub const_index: u64,
+}
+
+/// A section of statepoints as long as fits in `limit` bytes.
+pub fn statepoints(limit: usize, kind: Statepoints) -> Vec<u8> {
+    let mut parts = Parts { numbers: Numbers(1), ..Parts::default() };
+    while parts.add_function(limit, |parts, number| parts.add_of_kind(kind, number)) {}
     parts.bytes()
 }
 
@@ -27,14 +45,14 @@ struct Parts {
 
 impl Parts {
     /// Adds a function with one to eight records, unless the section would be too long.
-    fn add_function(&mut self, limit: usize) -> bool {
+    fn add_function(&mut self, limit: usize, mut add_record: impl FnMut(&mut Parts, u32)) -> bool {
         let (function_count, constant_count) = (self.functions.len() as u64 / 24, self.constants.len() as u64 / 8);
         if constant_count * FUNCTIONS_PER_CONSTANT <= function_count {
             self.constants.extend((1 << 32 | self.numbers.next()).to_le_bytes());
         }
         let (start, count) = (self.records.len(), 1 + self.numbers.below(8));
         for number in 0..count {
-            self.add_record(number as u32);
+            add_record(self, number as u32);
         }
         if 16 + self.functions.len() + 24 + self.constants.len() + self.records.len() > limit {
             self.records.truncate(start);
@@ -60,6 +78,23 @@ impl Parts {
             }
             _ => self.add_statepoint(&mut locations),
         }
+        self.write_record(number, &locations, live_outs);
+    }
+
+    /// The number-th record of its function, a statepoint of that kind.
+    fn add_of_kind(&mut self, kind: Statepoints, number: u32) {
+        let mut locations = vec![constant(0); 3];
+        let slots = if kind.parity_mixed { self.numbers.below(13) } else { 2 * self.numbers.below(7) };
+        for _ in 0..slots {
+            let slot = self.slot();
+            locations.push(slot);
+        }
+        if self.numbers.below(100) < kind.const_index {
+            let at = self.numbers.below(locations.len() as u64) as usize;
+            locations[at] = self.const_index();
+        }
+        let some = self.numbers.below(100) < kind.live_outs;
+        let live_outs = if some { 1 + self.numbers.below(6) as u16 } else { 0 };
         self.write_record(number, &locations, live_outs);
     }
 
@@ -98,8 +133,12 @@ impl Parts {
             1 => (2, 8, RBP, -8 * self.numbers.below(64) as i32),
             2 => self.slot(),
             3 => constant(self.numbers.below(1000) as i32 - 500),
-            _ => (5, 8, 0, self.numbers.below(self.constants.len() as u64 / 8) as i32),
+            _ => self.const_index(),
         }
+    }
+
+    fn const_index(&mut self) -> Location {
+        (5, 8, 0, self.numbers.below(self.constants.len() as u64 / 8) as i32)
     }
 
     fn write_record(&mut self, number: u32, locations: &[Location], live_outs: u16) {

@@ -18,7 +18,7 @@ const EXTENTS_FALLING: &str = "4,096 frames at one address, falling";
 const EXTENTS_MIXED: &str = "4,096 frames at one address, in any order";
 
 /// The ratios to reach to the check of the same section, for one frame and for all.
-const MOST_FOR_ONE: f64 = 1.3;
+const MOST_FOR_ONE: f64 = 1.1;
 const MOST_FOR_ALL: f64 = 6.0;
 
 const FRAMES: usize = 4_096;

@@ -14,7 +14,7 @@ const NOT_FOUND: &str = "question by function and offset, not found";
 const FRAME: &str = "one frame on the version 1 section";
 
 /// The ratio to reach to the check of the same section.
-const MOST_OF_CHECK: f64 = 1.3;
+const MOST_OF_CHECK: f64 = 1.1;
 
 /// The address of the image.
 const STACK: u64 = 0x7fff_0000_0000;
@@ -92,6 +92,12 @@ impl Place {
 /// The offset of a record: each has one of its own, as no function tells it from the others.
 fn offset(number: usize) -> u64 {
     16 * number as u64
+}
+
+/// The same functions, constants and records in version 1.
+pub fn of(bytes: &[u8]) -> Vec<u8> {
+    let Ok(read) = reference::section::read(bytes) else { panic!("the second implementation refuses the section") };
+    in_version_1(&read)
 }
 
 /// The section in version 1.

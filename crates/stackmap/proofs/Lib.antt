@@ -11,4 +11,4 @@ pub mod Turns
 pub mod Entries
 pub mod OneWalk
 pub mod Numbers
-pub mod Quick
+pub mod Looks

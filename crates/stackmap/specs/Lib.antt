@@ -7,3 +7,4 @@ pub mod Check
 pub mod Walk
 pub mod Fault
 pub mod Laws
+pub mod Quick

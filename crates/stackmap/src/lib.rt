@@ -4,6 +4,7 @@ ghost use mathlib.Core.Path.{_≡_};
 ghost use Rattle.stackmap.specs.Check.{sectionCheck};
 
 pub mod layout;
+mod quick;
 mod record;
 pub mod tables;
 pub mod walk;

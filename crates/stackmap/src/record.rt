@@ -1,21 +1,18 @@
-// The check of one record, which stands at the start of the slice.
+// The exact check of one record, which stands at the start of the slice: item by item, so that the first that is wrong is named. `quick`
+// goes before it, so that it is asked of at most one record.
 // `zero_bytes` is no entry point: it requires that its bytes are inside, which 1 or 4 has tested.
 ghost use mathlib.Core.Path.{_≡_};
-ghost use mathlib.Core.Bool.{true, _&&_};
-ghost use Prim.Native.Nat.{ℕ, _+_, _*_, _≤_};
-ghost use lib.Dec.{leb};
+ghost use Prim.Native.Nat.{_+_, _*_, _≤_};
 ghost use lib.ListN.{length};
 ghost use Rattle.stackmap.specs.Layout.{locationSize, liveOutSize};
 ghost use Rattle.stackmap.specs.Section.{recordLength};
-ghost use Rattle.stackmap.specs.declared.Verdict.the-variants.{Valid};
 ghost use Rattle.wire.specs.Word.{word};
 ghost use Rattle.stackmap.specs.Record.{zeros, poolCheck, locationCheck, locations, liveOuts, recordInside, recordBytes, recordCheck};
-ghost use Rattle.stackmap.specs.Walk.{Two};
 use crate::Verdict;
 use crate::layout;
 
-// The `count` bytes from `at` are zero: one by one, so that the first that isn't is named.
-fn each_zero(s: &[u8], at: usize, count: usize) -> Verdict
+// The `count` bytes from `at` are zero.
+pub fn zero_bytes(s: &[u8], at: usize, count: usize) -> Verdict
     requires { ⌜ at + count ≤ length (now s) ⌝ }
     ensures { λ r. ⌜ r ≡ zeros count (now (s .entry)) at ⌝ }
 {
@@ -29,36 +26,6 @@ fn each_zero(s: &[u8], at: usize, count: usize) -> Verdict
         left -= 1;
     }
     Verdict::Valid(p)
-}
-
-// Whether the `count` bytes from `at` are zero, by at most two reads; false also of a count that no record has.
-fn all_zero(s: &[u8], at: usize, count: usize) -> bool
-    requires { ⌜ at + count ≤ length (now s) ⌝ }
-    ensures { λ r. ⌜ (r ≡ true → word count (now (s .entry)) at ≡ 0) ⌝ }
-{
-    if count == 2 {
-        return wire::u16_at(s, at) == 0;
-    }
-    if count == 4 {
-        return wire::u32_at(s, at) == 0;
-    }
-    if count == 6 {
-        if wire::u32_at(s, at) == 0 {
-            return wire::u16_at(s, at + 4) == 0;
-        }
-    }
-    false
-}
-
-// The `count` bytes from `at` are zero.
-pub fn zero_bytes(s: &[u8], at: usize, count: usize) -> Verdict
-    requires { ⌜ at + count ≤ length (now s) ⌝ }
-    ensures { λ r. ⌜ r ≡ zeros count (now (s .entry)) at ⌝ }
-{
-    if all_zero(s, at, count) {
-        return Verdict::Valid(at + count);
-    }
-    each_zero(s, at, count)
 }
 
 // The pool entry of a location of this kind, whose offset stands at `offset`; it begins at `at` and ends at `end`.
@@ -79,7 +46,7 @@ fn pool(s: &[u8], kind: u8, offset: usize, constants: u32, at: usize, end: usize
     Verdict::Valid(end)
 }
 
-// The location at `at`, of a section with `constants` constants: byte by byte, so that what is wrong is named.
+// The location at `at`, of a section with `constants` constants.
 fn location(s: &[u8], old: bool, at: usize, constants: u32) -> Verdict
     requires { ⌜ at + locationSize old ≤ length (now s) ⌝ }
     ensures { λ r. ⌜ r ≡ locationCheck old (now (s .entry)) constants at ⌝ }
@@ -120,7 +87,7 @@ fn location(s: &[u8], old: bool, at: usize, constants: u32) -> Verdict
     )
 }
 
-// The `count` locations from `at`, one by one.
+// The `count` locations from `at`.
 fn each_location(s: &[u8], old: bool, at: usize, count: usize, constants: u32) -> Verdict
     requires { ⌜ at + locationSize old * count ≤ length (now s) ⌝ }
     ensures { λ r. ⌜ r ≡ locations old count (now (s .entry)) constants at ⌝ }
@@ -136,62 +103,6 @@ fn each_location(s: &[u8], old: bool, at: usize, count: usize, constants: u32) -
         left -= 1;
     }
     Verdict::Valid(p)
-}
-
-// Whether a kind is one of those that need no pool entry.
-fn plain_kind(kind: u64) -> bool
-    ensures { λ r. ⌜ r ≡ (leb 1 kind && leb kind 4) ⌝ }
-{
-    if kind < 1 {
-        return false;
-    }
-    kind <= 4
-}
-
-// Whether the location at `at` is right by a look at its first bytes alone: kind 1 to 4, and in version 3 the zero bytes after the kind
-// and after the register, by one read of eight bytes. False says nothing.
-fn is_plain(s: &[u8], old: bool, at: usize) -> bool
-    requires { ⌜ at + locationSize old ≤ length (now s) ⌝ }
-    ensures { λ r. ⌜ (r ≡ true → (constants : ℕ) → locationCheck old (now (s .entry)) constants at ≡ Valid (at + locationSize old)) ⌝ }
-{
-    if !old {
-        let bytes = wire::u64_at(s, at);
-        if bytes >= 281474976710656 {
-            return false;
-        }
-        return plain_kind(bytes % 65536);
-    }
-    plain_kind(s[at] as u64)
-}
-
-// Whether the two locations from `at` are plain.
-fn two_plain(s: &[u8], old: bool, at: usize) -> bool
-    requires { ⌜ at + 2 * locationSize old ≤ length (now s) ⌝ }
-    ensures { λ r. ⌜ (r ≡ true → (constants : ℕ) → Two old (now (s .entry)) constants at) ⌝ }
-{
-    if is_plain(s, old, at) {
-        return is_plain(s, old, at + layout::location_size(old));
-    }
-    false
-}
-
-// The `count` locations from `at`: two at a time while they are plain, and one by one from the first that isn't.
-fn all_locations(s: &[u8], old: bool, at: usize, count: usize, constants: u32) -> Verdict
-    requires { ⌜ at + locationSize old * count ≤ length (now s) ⌝ }
-    ensures { λ r. ⌜ r ≡ locations old count (now (s .entry)) constants at ⌝ }
-{
-    let step = layout::location_size(old);
-    let mut p = at;
-    let mut left = count;
-    while left > 1 {
-        if two_plain(s, old, p) {
-            p += 2 * step;
-            left -= 2;
-        } else {
-            return each_location(s, old, p, left, constants);
-        }
-    }
-    each_location(s, old, p, left, constants)
 }
 
 // The `count` live-outs from `at`.
@@ -249,7 +160,7 @@ fn record_bytes(s: &[u8], old: bool, constants: u32) -> Verdict
     if let Verdict::Refused(n, p) = zero_bytes(s, layout::FLAGS_AT, layout::FLAGS_SIZE) {
         return Verdict::Refused(n, p);
     }
-    if let Verdict::Refused(n, p) = all_locations(
+    if let Verdict::Refused(n, p) = each_location(
         s,
         old,
         layout::RECORD_HEAD_SIZE,

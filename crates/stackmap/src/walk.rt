@@ -11,6 +11,7 @@ ghost use Rattle.stackmap.specs.Check.{recordsCheck};
 ghost use Rattle.stackmap.specs.Walk.{ahead, ownerAt, Turning, Walkable};
 use crate::Verdict;
 use crate::layout;
+use crate::quick;
 use crate::record;
 use crate::tables;
 
@@ -48,16 +49,42 @@ pub fn owner_address(s: &[u8], old: bool, function: usize) -> u64
     wire::u64_at(s, layout::HEADER_SIZE + layout::FUNCTION_SIZE * function)
 }
 
-// The record at `at`, of function number `function`, or of nobody.
+// The record at `at`, of a function at `address`, checked so that what is wrong is named.
+fn exact_at(s: &[u8], old: bool, constants: u32, address: u64, at: usize) -> Verdict
+    requires { ⌜ at ≤ length (now s) ⌝ }
+    ensures { λ r. ⌜ r ≡ shift at (recordCheck old (drop at (now (s .entry))) constants address) ⌝ }
+{
+    match record::check_record(&s[at..], old, constants, address) {
+        Verdict::Refused(n, p) => Verdict::Refused(n, at + p),
+        Verdict::Valid(size) => Verdict::Valid(at + size),
+    }
+}
+
+// The record at `at`, of function number `function`, or of nobody: by a quick look, and where that says nothing exactly.
 pub fn record_at(s: &[u8], old: bool, constants: u32, function: usize, at: usize) -> Verdict
     requires { ⌜ (old ≡ isOld (now s)) × (constantsAt (now s) ≤ length (now s)) × (isOld (now s) ≡ false → function < numFunctions (now s)) × (at ≤ length (now s)) ⌝ }
     ensures { λ r. ⌜ r ≡ shift at (recordCheck (isOld (now (s .entry))) (drop at (now (s .entry))) constants (ownerAt (now (s .entry)) function .function .address)) ⌝ }
 {
     let address = owner_address(s, old, function);
-    match record::check_record(&s[at..], old, constants, address) {
-        Verdict::Refused(n, p) => Verdict::Refused(n, at + p),
-        Verdict::Valid(size) => Verdict::Valid(at + size),
+    let size = quick::record(&s[at..], old, constants, address);
+    if size > 0 {
+        return Verdict::Valid(at + size);
     }
+    exact_at(s, old, constants, address, at)
+}
+
+// The same for `all_records` alone: with two callers `quick::record` stays a function of its own, and what is around it is compiled into
+// each walk, so that no place goes through memory.
+fn next_record(s: &[u8], old: bool, constants: u32, function: usize, at: usize) -> Verdict
+    requires { ⌜ (old ≡ isOld (now s)) × (constantsAt (now s) ≤ length (now s)) × (isOld (now s) ≡ false → function < numFunctions (now s)) × (at ≤ length (now s)) ⌝ }
+    ensures { λ r. ⌜ r ≡ shift at (recordCheck (isOld (now (s .entry))) (drop at (now (s .entry))) constants (ownerAt (now (s .entry)) function .function .address)) ⌝ }
+{
+    let address = owner_address(s, old, function);
+    let size = quick::record(&s[at..], old, constants, address);
+    if size > 0 {
+        return Verdict::Valid(at + size);
+    }
+    exact_at(s, old, constants, address, at)
 }
 
 // The turn before the first record: the first function is next, or all records are nobody's.
@@ -88,7 +115,7 @@ pub fn all_records(s: &[u8], at: usize) -> Verdict
     while remaining > 0 {
         let t = owner(s, turn);
         let next = t.next;
-        match record_at(s, old, constants, next - 1, p) {
+        match next_record(s, old, constants, next - 1, p) {
             Verdict::Refused(n, q) => return Verdict::Refused(n, q),
             Verdict::Valid(end) => {
                 p = end;

@@ -80,8 +80,8 @@ returns c =
 enum-told : tie.Need-enum-told
 enum-told c = search needs
 
-all-locations-requires : tie.Need-all-locations-requires
-all-locations-requires c κs = let h = rw (c .before .before .before .before .before .location-size .ensures .0) at (room (c .before .before .before)) in omega arith
+each-location-requires : tie.Need-each-location-requires
+each-location-requires c κs = let h = rw (c .before .before .before .before .before .location-size .ensures .0) at (room (c .before .before .before)) in omega arith
 
 enum-known-n-2 : tie.Need-enum-known-n-2
 enum-known-n-2 c = search needs
@@ -96,7 +96,7 @@ returns-2 c =
       ← c .before .before .before .before .before .before .before .u16-at2 .ensures,
       ← c .before .before .before .before .before .before .zero-bytes .ensures,
       c .before .before .before .before .enum-told .given .1,
-      ← c .before .before .before .all-locations .ensures,
+      ← c .before .before .before .each-location .ensures,
       c .before .n2 .given .1,
     )
 
@@ -122,7 +122,7 @@ returns-3 c =
       ← c .before .before .before .before .before .before .before .before .before .before .u16-at2 .ensures,
       ← c .before .before .before .before .before .before .before .before .before .zero-bytes .ensures,
       c .before .before .before .before .before .before .before .enum-told .given .1,
-      ← c .before .before .before .before .before .before .all-locations .ensures,
+      ← c .before .before .before .before .before .before .each-location .ensures,
       c .before .before .before .before .enum-told2 .given .1,
       ← c .before .before .before .zero-bytes2 .ensures,
       c .before .n3 .given .1,
@@ -150,7 +150,7 @@ returns-4 c =
       ← c .before .before .before .before .before .before .before .before .before .before .before .before .before .u16-at2 .ensures,
       ← c .before .before .before .before .before .before .before .before .before .before .before .before .zero-bytes .ensures,
       c .before .before .before .before .before .before .before .before .before .before .enum-told .given .1,
-      ← c .before .before .before .before .before .before .before .before .before .all-locations .ensures,
+      ← c .before .before .before .before .before .before .before .before .before .each-location .ensures,
       c .before .before .before .before .before .before .before .enum-told2 .given .1,
       ← c .before .before .before .before .before .before .zero-bytes2 .ensures,
       c .before .before .before .before .enum-told3 .given .1,
@@ -183,7 +183,7 @@ returns-5 c =
       ← c .before .before .before .before .before .before .before .before .before .before .before .before .before .before .before .before .u16-at2 .ensures,
       ← c .before .before .before .before .before .before .before .before .before .before .before .before .before .before .before .zero-bytes .ensures,
       c .before .before .before .before .before .before .before .before .before .before .before .before .before .enum-told .given .1,
-      ← c .before .before .before .before .before .before .before .before .before .before .before .before .all-locations .ensures,
+      ← c .before .before .before .before .before .before .before .before .before .before .before .before .each-location .ensures,
       c .before .before .before .before .before .before .before .before .before .before .enum-told2 .given .1,
       ← c .before .before .before .before .before .before .before .before .before .zero-bytes2 .ensures,
       c .before .before .before .before .before .before .before .enum-told3 .given .1,
@@ -215,7 +215,7 @@ returns-6 c =
       ← c .before .before .before .before .before .before .before .before .before .before .before .before .before .before .before .u16-at2 .ensures,
       ← c .before .before .before .before .before .before .before .before .before .before .before .before .before .before .zero-bytes .ensures,
       c .before .before .before .before .before .before .before .before .before .before .before .before .enum-told .given .1,
-      ← c .before .before .before .before .before .before .before .before .before .before .before .all-locations .ensures,
+      ← c .before .before .before .before .before .before .before .before .before .before .before .each-location .ensures,
       c .before .before .before .before .before .before .before .before .before .enum-told2 .given .1,
       ← c .before .before .before .before .before .before .before .before .zero-bytes2 .ensures,
       c .before .before .before .before .before .before .enum-told3 .given .1,
@@ -246,7 +246,7 @@ record-bytes-spec =
     enum-known-n
     returns
     enum-told
-    all-locations-requires
+    each-location-requires
     enum-known-n-2
     returns-2
     enum-told-2

@@ -34,11 +34,11 @@ owner-requires c κs =
     let n = w .counted in
     (c .before .before .before .before .before .before .before .pre .0 .inside, w .turning, omega arith)
 
-sub-record-at : tie.Need-sub-record-at Inv-loop μ-loop
-sub-record-at c = search needs
+sub-next-record : tie.Need-sub-next-record Inv-loop μ-loop
+sub-next-record c = search needs
 
-record-at-requires : tie.Need-record-at-requires Inv-loop μ-loop
-record-at-requires c κs =
+next-record-requires : tie.Need-next-record-requires Inv-loop μ-loop
+next-record-requires c κs =
     let m = c .owner .ensures .3 in
     (c .before .before .before .before .is-old .ensures, c .before .before .before .before .before .before .before .before .pre .0 .inside, λ v. let h = m v in omega arith, c .before .before .loop .inv .inside)
 
@@ -51,7 +51,7 @@ returns c =
     rw (
       ← c .before .before .before .before .before .before .before .before .before .before .u32-at .ensures,
       walk-here (c .before .before .before .before .owner .result .next) (c .before .before .before .before .owner .result .left) (c .before .before .before .before .before .before .loop .inv) (c .before .before .before .before .owner .ensures .0) (c .before .before .before .before .owner .ensures .1),
-      ← c .before .before .before .record-at .ensures,
+      ← c .before .before .before .next-record .ensures,
       c .before .n .given .1,
     )
 
@@ -70,7 +70,7 @@ loop-less c = search needs
 loop-again : tie.Need-loop-again Inv-loop μ-loop
 loop-again c =
     walk-on (c .before .before .before .before .before .owner .result .next) (c .before .before .before .before .before .owner .result .left) (c .before .before .before .before .before .before .before .loop .inv) (c .before .before .before .before .before .owner .ensures .0) (c .before .before .before .before .before .owner .ensures .1)
-    (c .before .before .before .before .before .owner .ensures .2) (c .before .before .before .before .before .owner .ensures .3) (sym (c .before .before .before .before .record-at .ensures) ∙ c .before .before .end .given .1)
+    (c .before .before .before .before .before .owner .ensures .2) (c .before .before .before .before .before .owner .ensures .3) (sym (c .before .before .before .before .next-record .ensures) ∙ c .before .before .end .given .1)
 
 returns-2 : tie.Need-returns-2 Inv-loop μ-loop
 returns-2 c = sym (rw (← c .before .before .before .before .before .u32-at .ensures) (walk-end (c .before .loop .inv) (omega arith)))
@@ -87,8 +87,8 @@ all-records-spec =
     start-requires
     loop-holds
     owner-requires
-    sub-record-at
-    record-at-requires
+    sub-next-record
+    next-record-requires
     enum-known-n
     returns
     enum-known-end

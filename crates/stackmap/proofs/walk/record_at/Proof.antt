@@ -1,13 +1,11 @@
--- The answer about the part from `at` on is said of the whole section.
-use Prim.Native.Nat.{_-_}
+-- A quick look, and where it says nothing the exact check.
 use mathlib.Core.Path.{_≡_}
 use native.Mathlib.Omega.{arith}
-use lib.ListN.{length, drop, length-drop}
+use lib.ListN.{drop, length-drop}
+use Rattle.stackmap.specs.declared.Verdict.the-variants.{Valid}
 use Rattle.stackmap.specs.Verdict.{shift}
-use Rattle.stackmap.specs.Section.{isOld}
 use Rattle.stackmap.specs.Record.{recordCheck}
-use Rattle.stackmap.specs.Walk.{ownerAt}
-use Rattle.stackmap.proofs.Within.{part-from, record-within, Within}
+use Rattle.stackmap.proofs.Within.{part-from, record-within}
 use borrow.Author.Needs.{needs}
 use Rattle.stackmap.proofs.walk.record_at.Statement.{statement}
 use Rattle.stackmap.proofs.walk.record_at.Tie as tie
@@ -15,60 +13,41 @@ use Rattle.stackmap.proofs.walk.record_at.Tie as tie
 owner-address-requires : tie.Need-owner-address-requires
 owner-address-requires c κs = (c .before .pre .0, c .before .pre .1, c .before .pre .2)
 
-sub-check-record : tie.Need-sub-check-record
-sub-check-record c = search needs
+sub-record : tie.Need-sub-record
+sub-record c = search needs
 
-part-check-record-start : tie.Need-part-check-record-start
-part-check-record-start c = search needs
+part-record-start : tie.Need-part-record-start
+part-record-start c = search needs
 
-part-check-record-end : tie.Need-part-check-record-end
-part-check-record-end c = search needs
+part-record-end : tie.Need-part-record-end
+part-record-end c = search needs
 
-check-record-requires : tie.Need-check-record-requires
-check-record-requires c κs = let h = c .check-record-arg .given in search needs
+record-requires : tie.Need-record-requires
+record-requires c κs = let h = c .record-arg .given in search needs
 
--- what the call says of the list from `at` on
+-- what the look says of the list from `at` on
 answer :
-    (c : tie.After-check-record) →
-    c .check-record .result
-    ≡ recordCheck (isOld (c .before .before .before .before .args .s .now)) (drop (c .before .before .before .before .args .at) (c .before .before .before .before .args .s .now)) (c .before .before .before .before .args .constants) (ownerAt (c .before .before .before .before .args .s .now) (c .before .before .before .before .args .function) .function .address)
-answer c = rw (← c .before .before .owner-address .ensures, ← c .before .before .before .before .pre .0) (rw part-from at (c .check-record .ensures))
+    (c : tie.Then1) →
+    recordCheck (c .before .before .before .before .before .args .old) (drop (c .before .before .before .before .before .args .at) (c .before .before .before .before .before .args .s .now))
+    (c .before .before .before .before .before .args .constants) (c .before .before .before .owner-address .result)
+    ≡ Valid (c .before .«record» .result)
+answer c = rw part-from at (c .before .«record» .ensures (c .if1 .taken))
 
-inside : (c : tie.After-check-record) → Within (length (c .before .before .before .before .args .s .now) - c .before .before .before .before .args .at) (c .check-record .result)
-inside c = rw (answer c, ← length-drop) (record-within _ _ _ _)
-
-enum-known-n : tie.Need-enum-known-n
-enum-known-n c = search needs
-
-add-t16 : tie.Need-add-t16
-add-t16 c = let w = (rw (c .before .n .given .1) at (inside (c .before .before .before))) .most in omega arith
-
-enum-known-size : tie.Need-enum-known-size
-enum-known-size c = search needs
-
-add-t17 : tie.Need-add-t17
-add-t17 c = let w = (rw (c .before .size .given .1) at (inside (c .before .before .before))) .most in omega arith
+add-t13 : tie.Need-add-t13
+add-t13 c =
+    let a = c .before .before .before .before .before .args in
+    let w = (rw (answer c, length-drop) at (record-within (a .old) (drop (a .at) (a .s .now)) (a .constants) (c .before .before .before .owner-address .result))) .most in
+    omega arith
 
 returns : tie.Need-returns
 unfolding shift
-returns c = rw (← answer (c .before .before .before), c .before .n .given .1)
+returns c = rw (← c .before .before .before .owner-address .ensures, ← c .before .before .before .before .before .pre .0, answer c)
+
+exact-at-requires : tie.Need-exact-at-requires
+exact-at-requires c κs = search needs
 
 returns-2 : tie.Need-returns-2
-unfolding shift
-returns-2 c = rw (← answer (c .before .before .before), c .before .size .given .1)
+returns-2 c = rw (← c .before .before .before .before .owner-address .ensures, ← c .before .before .before .before .before .before .pre .0) (c .exact-at .ensures)
 
 pub record-at-spec : {M : Type 1} → statement M
-record-at-spec =
-    tie.close
-    (tie.spec
-    owner-address-requires
-    sub-check-record
-    part-check-record-start
-    part-check-record-end
-    check-record-requires
-    enum-known-n
-    add-t16
-    enum-known-size
-    add-t17
-    returns
-    returns-2)
+record-at-spec = tie.close (tie.spec owner-address-requires sub-record part-record-start part-record-end record-requires add-t13 returns exact-at-requires returns-2)

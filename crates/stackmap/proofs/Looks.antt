@@ -1,0 +1,159 @@
+-- A record that a quick look finds right is valid.
+use Prim.Native.Nat.{ℕ, zero, suc, _+_, _*_, _-_, _^_, _≤_, _<_}
+use mathlib.Core.Path.{_≡_, refl, ap, sym, _∙_, subst}
+use mathlib.Core.Bool.{Bool, true, false}
+use mathlib.Core.List.{List}
+use native.Mathlib.Omega.{arith}
+use borrow.Author.Tests.{lt-ltb, le-leb, eq-eqb, eqb-true}
+use lib.ListN.{length, getD}
+use lib.Dec.{eqb}
+use Rattle.wire.specs.Word.{word}
+use Rattle.wire.proofs.Laws.{word-add}
+use Rattle.glance.specs.Look.{size, Right, Rights, Outs}
+use Rattle.stackmap.specs.declared.Verdict.the-variants.{Valid}
+use Rattle.stackmap.specs.Layout.{locationSize, locationsPadding}
+use Rattle.stackmap.specs.Verdict.{must, chain, pick}
+use Rattle.stackmap.specs.Section.{numLocations, locationsEnd, recordLength}
+use Rattle.stackmap.specs.Record.{zeros, locationZeros, poolCheck, locationCheck, locations, liveOuts, recordInside, recordBytes, recordCheck}
+use Rattle.stackmap.specs.Quick.{Ending}
+use Rattle.stackmap.proofs.Items.{zeros-back}
+
+-- the size of a location, as the quick look names it
+pub same-size : (old : Bool) → size old ≡ locationSize old
+same-size true = refl
+same-size false = refl
+
+one-byte : (s : List ℕ) (at : ℕ) → word 1 s at ≡ getD s at 0
+unfolding word
+one-byte s at = omega arith
+
+two-bytes : (s : List ℕ) (at : ℕ) → word 2 s at ≡ getD s at 0 + 256 * getD s (at + 1) 0
+unfolding word
+two-bytes s at = omega arith
+
+-- Locations, where an index below `limit` is right.
+
+module _ (c limit : ℕ) (few : limit ≤ c) (small : limit ≤ 2 ^ 31) where
+  pool-right : (kind offset at end : ℕ) → (kind ≡ 5 → offset < limit) → poolCheck kind offset c at end ≡ Valid end
+  unfolding poolCheck must pick
+  pool-right kind offset at end h = go (eqb kind 5) refl
+    where
+      go : (t : Bool) → eqb kind 5 ≡ t → poolCheck kind offset c at end ≡ Valid end
+      go true e = let q = h (eqb-true kind 5 e) in rw (e, lt-ltb offset (2 ^ 31) (omega arith), lt-ltb offset c (omega arith))
+      go false e = rw e
+
+  right : (old : Bool) (s : List ℕ) (at : ℕ) → Right old s limit at → locationCheck old s c at ≡ Valid (at + locationSize old)
+  unfolding locationCheck locationZeros must
+  right true s at r =
+      let o = one-byte s at in
+      let l = r .least in
+      let m = r .most in
+      let z : at + 8 - 4 ≡ at + 4 = omega arith in
+      rw (
+        le-leb 1 (getD s at 0) (omega arith),
+        le-leb (getD s at 0) 5 (omega arith),
+        pool-right (getD s at 0) (word 4 s (at + 4)) at (at + 8) (λ q. rw z at (r .pool (omega arith))),
+      )
+  right false s at r =
+      let o = two-bytes s at in
+      let l = r .least in
+      let m = r .most in
+      let w = r .zeros refl in
+      let u = two-bytes s (at + 6) in
+      let p : at + 6 + 1 ≡ at + 7 = omega arith in
+      let z : at + 12 - 4 ≡ at + 8 = omega arith in
+      let z₆ : getD s (at + 6) 0 ≡ 0 = omega arith in
+      let z₇ : getD s (at + 7) 0 ≡ 0 = rw (← p) (omega arith) in
+      rw (
+        le-leb 1 (getD s at 0) (omega arith),
+        le-leb (getD s at 0) 5 (omega arith),
+        eq-eqb (getD s (at + 1) 0) 0 (omega arith),
+        eq-eqb (getD s (at + 6) 0) 0 z₆,
+        eq-eqb (getD s (at + 7) 0) 0 z₇,
+        pool-right (getD s at 0) (word 4 s (at + 8)) at (at + 12) (λ q. rw z at (r .pool (omega arith))),
+      )
+
+  -- the first of them, and those after it
+  first : (old : Bool) (n : ℕ) (s : List ℕ) (at : ℕ) → Rights old s limit at (suc n) → Right old s limit at
+  first old n s at r = let e : at + size old * 0 ≡ at = omega arith in rw e at (r .each 0 (omega arith))
+
+  after : (old : Bool) (n : ℕ) (s : List ℕ) (at : ℕ) → Rights old s limit at (suc n) → Rights old s limit (at + size old) n
+  after old n s at r =
+      record {
+        each = λ i h. let e : at + size old * suc i ≡ at + size old + size old * i = omega arith in rw e at (r .each (suc i) (omega arith));
+      }
+
+  pub all-right : (old : Bool) (n : ℕ) (s : List ℕ) (at : ℕ) → Rights old s limit at n → locations old n s c at ≡ Valid (at + locationSize old * n)
+  unfolding locations chain
+  all-right old zero s at r = ap Valid (omega arith)
+  all-right old (suc n) s at r =
+      let e : at + locationSize old + locationSize old * n ≡ at + locationSize old * suc n = omega arith in
+      rw (right old s at (first old n s at r), ← e) (all-right old n s (at + locationSize old) (rw same-size at (after old n s at r)))
+
+-- Live-outs.
+
+after-out : (n : ℕ) (s : List ℕ) (at : ℕ) → Outs s at (suc n) → Outs s (at + 4) n
+after-out n s at o =
+    record {
+      each = λ i h. let e : at + 4 * suc i + 2 ≡ at + 4 + 4 * i + 2 = omega arith in rw e at (o .each (suc i) (omega arith));
+    }
+
+outs-right : (n : ℕ) (s : List ℕ) (at : ℕ) → Outs s at n → liveOuts n s at ≡ Valid (at + 4 * n)
+unfolding liveOuts must
+outs-right zero s at o = ap Valid (omega arith)
+outs-right (suc n) s at o =
+    let p : at + 4 * 0 + 2 ≡ at + 2 = omega arith in
+    let z : getD s (at + 2) 0 ≡ 0 = rw p at (o .each 0 (omega arith)) in
+    let e : at + 4 + 4 * n ≡ at + 4 * suc n = omega arith in
+    rw (eq-eqb (getD s (at + 2) 0) 0 z, ← e) (outs-right n s (at + 4) (after-out n s at o))
+
+-- eight zero bytes after the locations: no live-outs
+pub no-outs : (s : List ℕ) (end : ℕ) → end + 8 ≤ length s → word 8 s end ≡ 0 → Ending s end (end + 8)
+no-outs s end h z =
+    let x = word-add 2 6 s end in
+    let y = word-add 2 4 s (end + 2) in
+    let p : end + 2 + 2 ≡ end + 4 = omega arith in
+    let w = rw p at y in
+    let n : word 2 s (end + 2) ≡ 0 = omega arith in
+    let q : end + 4 + 4 * 0 ≡ end + 4 = omega arith in
+    record {
+      zeros = omega arith;
+      outs = rw n (record { each = λ i k. absurd (omega arith) });
+      padding = rw (n, q) (omega arith);
+      ends = rw n (omega arith);
+      inside = h;
+    }
+
+-- Version 1 has no padding after its locations.
+
+pub no-padding : (s : List ℕ) (at : ℕ) → word 0 s at ≡ 0
+unfolding word
+no-padding s at = refl
+
+pub bare : (s : List ℕ) (next : ℕ) → Ending s (16 + 8 * numLocations s) next → Ending s (locationsEnd true s) next
+bare s next r = let e : 16 + 8 * numLocations s ≡ 16 + 8 * numLocations s + 0 = omega arith in subst (λ (x : ℕ). Ending s x next) e r
+
+-- A whole record.
+
+padded : (p : ℕ) (s : List ℕ) (at : ℕ) → word p s at ≡ 0 → word 2 s (at + p) ≡ 0 → word (p + 2) s at ≡ 0
+padded p s at h k = word-add p 2 s at ∙ rw (h, k) (omega arith)
+
+module _ (old : Bool) (s : List ℕ) (c a next : ℕ) (ending : Ending s (locationsEnd old s) next) where
+  long : recordLength old s ≡ next
+  unfolding recordLength
+  long = sym (ending .ends)
+
+  pub whole : word 2 s 12 ≡ 0 → a + word 4 s 8 ≤ 2 ^ 64 - 1 → locations old (numLocations s) s c 16 ≡ Valid (16 + locationSize old * numLocations s)
+      → word (locationsPadding old (numLocations s)) s (16 + locationSize old * numLocations s) ≡ 0 → recordCheck old s c a ≡ Valid next
+  unfolding recordCheck recordInside recordBytes chain must
+  whole flags reach right pad =
+      rw (
+        long,
+        le-leb _ _ (ending .inside),
+        le-leb _ _ reach,
+        zeros-back 2 s 12 flags,
+        right,
+        zeros-back (locationsPadding old (numLocations s) + 2) s (16 + locationSize old * numLocations s) (padded (locationsPadding old (numLocations s)) s _ pad (ending .zeros)),
+        outs-right _ s _ (ending .outs),
+        zeros-back _ s _ (ending .padding),
+      )
