@@ -129,7 +129,7 @@ fn list(arguments: &List, voice: Voice) -> Result<Status, Trouble> {
     let flat = Flat::read(&section);
     let machine = arguments.machine.unwrap_or_default();
     output::to(None, |out| match voice {
-        Voice::Text => flat::text(out, &flat, machine),
+        Voice::Text => flat::text::section(out, &flat, machine),
         Voice::Json => flat::objects(out, &json::name(file), &flat),
     })?;
     Ok(Status::Done)
@@ -148,7 +148,7 @@ fn find(arguments: &Find, voice: Voice) -> Result<Status, Trouble> {
     let flat = Flat::read(&section);
     let machine = arguments.machine.unwrap_or_default();
     output::to(None, |out| match voice {
-        Voice::Text => flat::found_text(out, asked, &flat, numbers, machine),
+        Voice::Text => flat::text::found(out, asked, &flat, numbers, machine),
         Voice::Json => flat::found_object(out, &json::name(file), asked, &flat, numbers),
     })?;
     Ok(Status::Done)
