@@ -1,5 +1,5 @@
 /*
- * Treskibben: LLVM stack map sections, versions 3 and 1.
+ * Treskibben: LLVM stack map sections, versions 3 and 1, and the flat proposal of version 2.
  *
  * The functions are those of libtreskibben.a, for x86-64 Linux. Each is proved to answer every
  * input, to read and write nothing but the bytes that it is lent, and to end. None allocates, keeps
@@ -362,6 +362,162 @@ treskibben_answer treskibben_thread(const uint8_t *section, size_t length, uint8
                                     const uint64_t *old_starts, size_t old_count,
                                     const uint64_t *new_starts, size_t new_count,
                                     const uint64_t *frames, size_t frames_length);
+
+/*
+ * Flat sections.
+ *
+ * A flat section is source document 002's version 2 of the format: a header with the offsets of six
+ * arrays, which follow it: constants, frames, frame registers, records, locations and live-outs, all
+ * of entries of a fixed length. A frame names its frame registers and records, and a record its
+ * locations and live-outs, by an index and a count; entries may be shared. docs/FLAT.md has the layout.
+ * Such a section is checked, looked up and read; nothing writes one, and no frame is moved by it.
+ * treskibben_check gives it 2.
+ *
+ * `section` and `length` are lent as to treskibben_check. Every call first gives the check's refusal,
+ * the first of 36 to 40 that holds; 41, 10 and 11 come after them. The place is always 0.
+ *
+ *   number  when
+ *   0       accepted, or the question is answered
+ *   36      flat section under 32 or over 16,777,216 bytes
+ *   37      version not 2
+ *   38      an offset or the end isn't the earliest aligned place after the array before it
+ *   39      an index plus count is past its array
+ *   40      a padding or reserved bit is set
+ *   41      no record of any frame is at the address
+ *   10      no frame or record of that number
+ *   11      no constant, frame register, location or live-out of that number
+ *
+ * All fields of a refused answer but number and place are 0. Entries are numbered from 0 through
+ * their whole array; any number may be asked for.
+ */
+
+/* Checks that the bytes are a whole flat section and nothing else: 36 to 40. `value` is 0. */
+treskibben_answer treskibben_flat_check(const uint8_t *section, size_t length);
+
+/*
+ * What the lookup answers: the numbers of a frame and of one of its records.
+ */
+typedef struct treskibben_flat_find_answer {
+    uint64_t number;
+    uint64_t place;
+    uint64_t frame;
+    uint64_t record;
+} treskibben_flat_find_answer;
+
+/*
+ * The first record at this address: a frame's function address plus the instruction offset of one of
+ * its records, a sum that doesn't wrap. The frames are taken in order, and in a frame its records in
+ * order. 41 exactly if there is none.
+ */
+treskibben_flat_find_answer treskibben_flat_find(const uint8_t *section, size_t length,
+                                                 uint64_t address);
+
+/* The constant of this number; `value` is the constant. */
+treskibben_answer treskibben_flat_constant(const uint8_t *section, size_t length,
+                                           uint64_t constant);
+
+/*
+ * What the question for a frame answers.
+ *
+ * address:        the function's address.
+ * function_size:  the function's size in bytes.
+ * stack_size:     the stack size in bytes.
+ * flags:          1 has a frame, 2 has an alloca of variable size, 4 has stack realignment, 8 has
+ *                 live-out information.
+ * base_register:  the DWARF number of the frame base register.
+ * num_registers:  how many frame registers it has, from the number register_index on.
+ * num_records:    how many records it has, from the number record_index on.
+ */
+typedef struct treskibben_flat_frame_answer {
+    uint64_t number;
+    uint64_t place;
+    uint64_t address;
+    uint32_t function_size;
+    uint32_t stack_size;
+    uint16_t flags;
+    uint16_t base_register;
+    uint16_t num_registers;
+    uint16_t register_index;
+    uint16_t num_records;
+    uint16_t record_index;
+} treskibben_flat_frame_answer;
+
+/* The frame of this number. */
+treskibben_flat_frame_answer treskibben_flat_frame(const uint8_t *section, size_t length,
+                                                   uint64_t frame);
+
+/*
+ * What the question for a frame register answers.
+ *
+ * dwarf_register: the register's DWARF number.
+ * offset:         the signed offset.
+ * size:           the size in bytes.
+ * flags:          1 is spilled.
+ */
+typedef struct treskibben_flat_register_answer {
+    uint64_t number;
+    uint64_t place;
+    uint16_t dwarf_register;
+    int16_t offset;
+    uint8_t size;
+    uint8_t flags;
+} treskibben_flat_register_answer;
+
+/* The frame register of this number. */
+treskibben_flat_register_answer treskibben_flat_frame_register(const uint8_t *section, size_t length,
+                                                               uint64_t frame_register);
+
+/*
+ * What the question for a record answers.
+ *
+ * id:             the record's ID.
+ * offset:         the instruction offset in the function.
+ * num_locations:  how many locations it has, from the number location_index on.
+ * num_live_outs:  how many live-outs it has, from the number live_out_index on.
+ * call_size:      the size of the call in bytes.
+ * flags:          1 has live-out information.
+ */
+typedef struct treskibben_flat_record_answer {
+    uint64_t number;
+    uint64_t place;
+    uint64_t id;
+    uint32_t offset;
+    uint16_t num_locations;
+    uint16_t location_index;
+    uint16_t num_live_outs;
+    uint16_t live_out_index;
+    uint8_t call_size;
+    uint8_t flags;
+} treskibben_flat_record_answer;
+
+/* The record of this number. */
+treskibben_flat_record_answer treskibben_flat_record(const uint8_t *section, size_t length,
+                                                     uint64_t record);
+
+/*
+ * What the question for a location answers. None of its fields is judged: a kind may be any number,
+ * and so may that of a constant.
+ *
+ * offset:         the signed offset, the small constant of kind 4, or the number of a constant of
+ *                 kind 5.
+ * dwarf_register: the register's DWARF number.
+ * kind:           1 Register, 2 Direct, 3 Indirect, 4 Constant, 5 ConstIndex, or any other number.
+ */
+typedef struct treskibben_flat_location_answer {
+    uint64_t number;
+    uint64_t place;
+    int32_t offset;
+    uint16_t dwarf_register;
+    uint8_t kind;
+} treskibben_flat_location_answer;
+
+/* The location of this number. */
+treskibben_flat_location_answer treskibben_flat_location(const uint8_t *section, size_t length,
+                                                         uint64_t location);
+
+/* The live-out of this number. */
+treskibben_live_out_answer treskibben_flat_live_out(const uint8_t *section, size_t length,
+                                                    uint64_t live_out);
 
 #ifdef __cplusplus
 }

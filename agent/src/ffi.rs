@@ -6,6 +6,7 @@
 use crate::{Frame, Refusal};
 use std::mem::offset_of;
 
+pub(crate) mod flat;
 #[cfg(test)]
 mod tests;
 

@@ -11,7 +11,8 @@
 //!
 //! A section's first byte is its version. Version 1 doesn't say which function has a record: there
 //! [`find_in_function`] takes the place of [`find`], and a [`Frame`] tells its function. All else is
-//! asked of both versions alike.
+//! asked of both versions alike. [`flat`] has the same kinds of calls for the flat proposal of a
+//! version 2.
 //!
 //! ```
 //! // A section of no functions, no constants and no records: version 3 and fifteen zeros.
@@ -32,6 +33,7 @@ mod answers;
 mod conversions;
 #[allow(unsafe_code)]
 mod ffi;
+pub mod flat;
 mod questions;
 mod refusal;
 mod relocate;

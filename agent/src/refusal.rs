@@ -46,6 +46,22 @@ const CAUSES: [&str; 28] = [
     "version 1 listing with a record count not 0 or a size over 255",
 ];
 
+/// The causes of a flat section's refusals; the first is number 36.
+const FLAT_CAUSES: [&str; 6] = [
+    "flat section under 32 or over 16,777,216 bytes",
+    "version not 2",
+    "an offset or the end isn't the earliest aligned place",
+    "an index plus count is past its array",
+    "a padding or reserved bit is set",
+    "no record of any frame is at the address",
+];
+
+/// The cause at this number in a table that begins with the number `first`.
+fn cause_from(causes: &[&'static str], first: u64, number: u64) -> Option<&'static str> {
+    let index = usize::try_from(number.checked_sub(first)?).ok()?;
+    causes.get(index).copied()
+}
+
 impl Refusal {
     /// The refusal of this number, which is not 0, at this place.
     pub(crate) fn new(number: u64, place: u64) -> Refusal {
@@ -67,14 +83,9 @@ impl Refusal {
 
     /// The cause in words.
     pub fn cause(&self) -> &'static str {
-        let index = self
-            .number
-            .checked_sub(1)
-            .and_then(|i| usize::try_from(i).ok());
-        match index.and_then(|i| CAUSES.get(i)) {
-            Some(cause) => cause,
-            None => "a cause that this version has no words for",
-        }
+        cause_from(&CAUSES, 1, self.number)
+            .or_else(|| cause_from(&FLAT_CAUSES, 36, self.number))
+            .unwrap_or("a cause that this version has no words for")
     }
 }
 
@@ -98,10 +109,13 @@ mod tests {
 
     #[test]
     fn each_number_has_words_of_its_own() {
-        for (i, cause) in CAUSES.iter().enumerate() {
-            assert_eq!(Refusal::new(i as u64 + 1, 0).cause(), *cause);
+        let numbers = (1..).zip(CAUSES).chain((36..).zip(FLAT_CAUSES));
+        let mut met: Vec<&str> = vec![];
+        for (number, cause) in numbers {
+            assert_eq!(Refusal::new(number, 0).cause(), cause);
             assert!(!cause.is_empty());
-            assert!(!CAUSES[..i].contains(cause), "{cause}");
+            assert!(!met.contains(&cause), "{cause}");
+            met.push(cause);
         }
     }
 
@@ -120,6 +134,12 @@ mod tests {
             (26, "earlier frame"),
             (27, "question by address"),
             (28, "version 1 listing"),
+            (36, "under 32"),
+            (37, "version not 2"),
+            (38, "aligned place"),
+            (39, "index plus count"),
+            (40, "reserved bit"),
+            (41, "no record of any frame"),
         ];
         for (number, start) in words {
             let refusal = Refusal::new(number, 3);
@@ -132,7 +152,7 @@ mod tests {
 
     #[test]
     fn numbers_beyond_the_table_still_print() {
-        for number in [0, 29, u64::MAX] {
+        for number in [0, 29, 35, 42, u64::MAX] {
             let text = Refusal::new(number, 4).to_string();
             assert!(
                 text.starts_with(&format!("refused {number} at 4: a cause")),

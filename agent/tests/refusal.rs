@@ -5,7 +5,7 @@ use generator::frames::Scene;
 use generator::Rng;
 use std::collections::{BTreeMap, HashSet};
 use std::error::Error;
-use treskibben::{check, Frame, MoveTable, Refusal};
+use treskibben::{check, flat, Frame, MoveTable, Refusal};
 
 /// A section of 16 bytes with these counts, `rest` after it.
 fn section(counts: [u8; 3], rest: &[u8]) -> Vec<u8> {
@@ -179,14 +179,33 @@ fn refused_threads() -> [Refusal; 2] {
     [refused(4_097), refused(2)]
 }
 
-/// Each number from 1 to 28, as a call gives it, has the words of its line in docs/REFUSALS.md; and the
-/// table has no other number.
+/// A refusal of a flat section for each number: too short, of another version, misplaced, with a range that
+/// reaches past its array, with a reserved bit, and an address that no record has.
+fn refused_flat() -> [Refusal; 6] {
+    let sample = include_bytes!("../../samples/worked.flat");
+    let refused = |place: usize, byte: u8| {
+        let mut section = sample.to_vec();
+        section[place] = byte;
+        flat::check(&section).unwrap_err()
+    };
+    [
+        flat::check(&sample[..31]).unwrap_err(),
+        refused(0, 3),
+        refused(4, 40),
+        refused(94, 2),
+        refused(3, 128),
+        flat::find(sample, 0).unwrap_err(),
+    ]
+}
+
+/// Each number, as a call gives it, has the words of its line in docs/REFUSALS.md; and the table has no
+/// other number.
 #[test]
 fn the_words_are_those_of_the_table() {
     let table = table(include_str!("../../docs/REFUSALS.md"));
     assert_eq!(
         table.keys().copied().collect::<Vec<u64>>(),
-        (1..=28).collect::<Vec<u64>>()
+        (1..=28).chain(36..=41).collect::<Vec<u64>>()
     );
     let section = section([0, 0, 0], &[]);
     let record = with_location([0; 8], [1, 0, 8, 0, 3, 0, 0, 0, 0, 0, 0, 0]);
@@ -199,6 +218,7 @@ fn the_words_are_those_of_the_table() {
     told.extend(refused_listings());
     told.extend(refused_frames());
     told.extend(refused_threads());
+    told.extend(refused_flat());
     let told: BTreeMap<u64, String> = told
         .iter()
         .map(|it| (it.number(), it.cause().to_string()))

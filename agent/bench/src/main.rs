@@ -2,9 +2,11 @@
 //! plain read or copy of the bytes. All rows of a table are measured in turn, because only ratios of one run say anything.
 //!
 //! `cargo --offline run --release -p bench [ROUNDS] [--svg DIR]`; with a folder, the rows are drawn there too.
-//! `cargo --offline run --release -p bench reads [ROUNDS]` measures the two ways to read eight bytes, and nothing else.
+//! `cargo --offline run --release -p bench reads [ROUNDS]` measures the two ways to read eight bytes, and nothing else;
+//! with `flat` instead of `reads`, flat sections and nothing else.
 
 mod conversions;
+mod flat;
 mod frame;
 mod measure;
 mod parser;
@@ -43,6 +45,7 @@ fn main() {
     match words[..] {
         ["reads", "--once", way] => reads::once(way, &section::build(LIMIT)),
         ["reads", ref rest @ ..] => reads::rows(rounds(rest), &section::build(LIMIT)),
+        ["flat", ref rest @ ..] => flat::rows(rounds(rest), LIMIT),
         ref rest => all(rounds(rest)),
     }
 }
@@ -60,7 +63,7 @@ fn rounds(words: &[&str]) -> usize {
     match asked {
         Some(rounds) if rounds >= FEWEST => return rounds,
         Some(_) => eprintln!("bench: fewer than {FEWEST} rounds give no steady median"),
-        None => eprintln!("bench: [reads] [ROUNDS] is what can be asked, and not `{}`", words.join(" ")),
+        None => eprintln!("bench: [reads|flat] [ROUNDS] is what can be asked, and not `{}`", words.join(" ")),
     }
     std::process::exit(2);
 }
@@ -75,6 +78,7 @@ fn all(rounds: usize) {
     frame::rows(rounds, &bytes);
     version_1::rows(rounds, &bytes);
     thread::rows(rounds, &bytes, LIMIT);
+    flat::rows(rounds, LIMIT);
 }
 
 /// The last record: its number and its address, which is the highest.

@@ -5,6 +5,7 @@ mod check;
 mod completions;
 mod cut;
 mod find;
+mod flat;
 mod list;
 mod restore;
 
@@ -18,6 +19,7 @@ pub enum Command {
     Build(build::Arguments),
     Find(find::Arguments),
     Cut(cut::Arguments),
+    Flat(flat::Arguments),
     Restore(restore::Arguments),
     Completions(completions::Arguments),
 }
@@ -30,6 +32,7 @@ impl Command {
             Command::List(arguments) => arguments.json,
             Command::Find(arguments) => arguments.json,
             Command::Cut(arguments) => arguments.json,
+            Command::Flat(arguments) => arguments.json(),
             Command::Restore(arguments) => arguments.json,
             Command::Build(_) | Command::Completions(_) => false,
         };
@@ -48,6 +51,7 @@ impl Command {
             Command::Build(arguments) => build::run(&arguments),
             Command::Find(arguments) => find::run(&arguments, voice),
             Command::Cut(arguments) => cut::run(&arguments, voice),
+            Command::Flat(arguments) => flat::run(&arguments, voice),
             Command::Restore(arguments) => restore::run(&arguments, voice),
             Command::Completions(arguments) => completions::run(&arguments),
         }

@@ -24,6 +24,7 @@ pub fn of_section(path: &Path, section: &[u8], refusal: Refusal) -> Option<Strin
     match refusal.number {
         1 | 2 if section.starts_with(b"\x7fELF") => Some(elf(path)),
         1 => Some(format!("it has {}", length(path, section, files::SECTION))),
+        2 if section.first() == Some(&2) => Some(FLAT.to_string()),
         2 => Some(format!("its first byte is {}", section.first()?)),
         3 | 6 => Some(format!("it is {:#04x}", section.get(at)?)),
         9 => {
@@ -31,6 +32,21 @@ pub fn of_section(path: &Path, section: &[u8], refusal: Refusal) -> Option<Strin
             let way = "'treskibben cut' takes apart what a linker put one after the other";
             Some(format!("{more} from there on: {way}"))
         }
+        _ => None,
+    }
+}
+
+/// What a section that may be flat is told.
+const FLAT: &str =
+    "its first byte is 2, as in a flat section: 'treskibben flat check' says whether it \
+    is one, 'flat list' what is in it, 'flat find' which record is at an address";
+
+/// What was found in a flat section.
+pub fn of_flat(path: &Path, section: &[u8], refusal: Refusal) -> Option<String> {
+    match refusal.number {
+        36 | 37 if section.starts_with(b"\x7fELF") => Some(elf(path)),
+        36 => Some(format!("it has {}", length(path, section, files::SECTION))),
+        37 => Some(format!("its first byte is {}", section.first()?)),
         _ => None,
     }
 }

@@ -54,6 +54,17 @@ pub fn section_of(listing: &[u8]) -> Result<Vec<u8>, Refusal> {
     Ok(treskibben::section_of(listing)?)
 }
 
+/// The check of a flat section: refusals 36 to 40.
+pub fn flat_check(section: &[u8]) -> Result<(), Refusal> {
+    Ok(treskibben::flat::check(section)?)
+}
+
+/// The numbers of frame and record at an address in a flat section: 41 where there is none.
+pub fn flat_find(section: &[u8], address: u64) -> Result<[usize; 2], Refusal> {
+    let found = treskibben::flat::find(section, address)?;
+    Ok([found.frame as usize, found.record as usize])
+}
+
 /// Moves all frames of a thread or none, and gives the sum of their pairs. A refusal comes with the
 /// position of the frame to blame, if it is one frame.
 pub fn relocate_thread(

@@ -9,6 +9,7 @@
 mod beside;
 mod commands;
 mod files;
+mod flat;
 mod found;
 mod frames;
 mod json;

@@ -9,6 +9,8 @@ ghost use Rattle.treskibben.specs.Answer.{answer, converted, moveAnswer,
 ghost use Rattle.treskibben.specs.Version.{version};
 use stackmap::Verdict;
 
+pub mod flat_sections;
+
 const VERSION: u32 = 1;
 
 // The number of this interface, which include/treskibben.h has as TRESKIBBEN_VERSION.

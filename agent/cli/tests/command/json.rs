@@ -34,14 +34,14 @@ fn small(value: &Value) {
 fn check() {
     let folder = Folder::new();
     folder.put("good", row_h());
-    folder.put("bad\n", with(row_h(), 0, 2));
+    folder.put("bad\n", with(row_h(), 0, 4));
     let ran = folder.run(["check", "--json", "good", "bad\n", "missing"]);
     assert_eq!((ran.status, ran.err.as_str()), (Some(2), ""));
     let objects = objects(&ran);
     assert_eq!(objects[0], json!({"answer": "accepted", "file": "good"}));
     let refused = json!({
         "answer": "refused", "file": "bad\n", "number": 2, "place": 0,
-        "cause": "version neither 1 nor 3", "found": "its first byte is 2",
+        "cause": "version neither 1 nor 3", "found": "its first byte is 4",
     });
     assert_eq!(objects[1], refused);
     assert_eq!(objects[2]["answer"], "failed");

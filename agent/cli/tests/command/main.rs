@@ -5,6 +5,7 @@ mod check;
 mod cut;
 mod document;
 mod fixtures;
+mod flat;
 mod full;
 mod json;
 mod list;

@@ -5,12 +5,13 @@ use crate::run::{Folder, Ran, PROGRAM};
 use std::path::Path;
 use std::process::{Command, Stdio};
 
-const COMMANDS: [&str; 7] = [
+const COMMANDS: [&str; 8] = [
     "check",
     "list",
     "build",
     "find",
     "cut",
+    "flat",
     "restore",
     "completions",
 ];
