@@ -69,7 +69,7 @@ pub fn record_at(s: &[u8], old: bool, constants: u32, function: usize, at: usize
 }
 
 // The same for `all_records` alone: with two callers `quick::record` stays a function of its own, and what is around it is compiled into
-// each walk, so that no place goes through memory.
+// each walk.
 fn next_record(s: &[u8], old: bool, constants: u32, function: usize, at: usize) -> Verdict
     requires { ⌜ (old ≡ isOld (now s)) × (constantsAt (now s) ≤ length (now s)) × (isOld (now s) ≡ false → function < numFunctions (now s)) × (at ≤ length (now s)) ⌝ }
     ensures { λ r. ⌜ r ≡ shift at (recordCheck (isOld (now (s .entry))) (drop at (now (s .entry))) constants (ownerAt (now (s .entry)) function .function .address)) ⌝ }
