@@ -1,3 +1,4 @@
+-- For the code alone: nothing here has to be believed.
 -- The parts of a section, by the places of the listing that they are written from.
 use Prim.Native.Nat.{ℕ, _+_}
 use mathlib.Core.Bool.{Bool}

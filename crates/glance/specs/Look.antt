@@ -1,3 +1,4 @@
+-- For the code alone: nothing here has to be believed.
 -- What a quick look at locations and live-outs tells, in words of bytes. A crate above holds it to its own definitions; no contract of an
 -- entry point speaks of it.
 use Prim.Native.Nat.{ℕ, _+_, _*_, _-_, _%_, _^_, _≤_, _<_}

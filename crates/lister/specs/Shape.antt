@@ -1,3 +1,4 @@
+-- For the code alone: nothing here has to be believed.
 -- What is read of a section's layout. `old` is true for version 1.
 use Prim.Native.Nat.{ℕ}
 use mathlib.Core.Path.{_≡_}

@@ -1,3 +1,4 @@
+-- For the code alone: nothing here has to be believed.
 -- What a function that writes into the output leaves there.
 use Prim.Native.Nat.{ℕ, _+_}
 use mathlib.Core.Path.{_≡_}

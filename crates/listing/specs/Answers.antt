@@ -1,3 +1,4 @@
+-- For the code alone: nothing here has to be believed.
 -- What a conversion's code answers and leaves in the output is what its definition says.
 use mathlib.Core.Path.{_≡_}
 use mathlib.Core.List.{List}

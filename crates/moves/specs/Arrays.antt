@@ -1,3 +1,4 @@
+-- For the code alone: nothing here has to be believed.
 -- What the code's arrays and values hold. Pair k is null where `live` is 0 at k; `bases` and `derived` are its slots.
 use Prim.Native.Nat.{ℕ, zero, suc, _+_, _≤_, _<_}
 use mathlib.Core.Path.{_≡_}

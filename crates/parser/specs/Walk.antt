@@ -1,3 +1,4 @@
+-- For the code alone: nothing here has to be believed.
 -- Where a walk over the records of a listing stands among its functions, and what it relies on. `old` is true for version 1.
 use Prim.Native.Nat.{ℕ, _+_, _*_, _-_, _≤_, _<_}
 use mathlib.Core.Path.{_≡_}

@@ -1,3 +1,4 @@
+-- For the code alone: nothing here has to be believed.
 -- What counting the items of a listing gives.
 use Prim.Native.Nat.{ℕ, _+_, _*_, _≤_}
 use mathlib.Core.Path.{_≡_}

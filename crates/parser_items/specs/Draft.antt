@@ -1,3 +1,4 @@
+-- For the code alone: nothing here has to be believed.
 -- What the items of a listing come to: refused, or all that was counted in them.
 use Prim.Native.Nat.{ℕ, _≤_}
 use mathlib.Core.Path.{_≡_}

@@ -1,3 +1,4 @@
+-- For the code alone: nothing here has to be believed.
 -- Refusals 22 and 23 of a listing whose records begin at a place.
 use Prim.Native.Nat.{ℕ, _+_, _≤_}
 use mathlib.Core.List.{List}

@@ -1,3 +1,4 @@
+-- For the code alone: nothing here has to be believed.
 -- What a pass over the records of a listing finds. Here and in the other modules the listing is what follows the version's item.
 use Prim.Native.Nat.{ℕ, _+_, _*_, _≤_}
 use mathlib.Core.Path.{_≡_}

@@ -1,3 +1,4 @@
+-- For the code alone: nothing here has to be believed.
 -- What a walk keeps of the entries that it has passed, to answer a question in one pass; and what one search tells in both versions.
 use Prim.Native.Nat.{ℕ, suc}
 use mathlib.Core.Bool.{Bool, true, false, cond, not, _&&_}

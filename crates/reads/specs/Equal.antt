@@ -1,3 +1,4 @@
+-- For the code alone: nothing here has to be believed.
 -- At how many places of a list of bytes a number of eight bytes stands.
 use Prim.Native.Nat.{ℕ, _+_}
 use mathlib.Core.Bool.{cond, _&&_}

@@ -1,3 +1,4 @@
+-- For the code alone: nothing here has to be believed.
 -- What the code's steps rely on, and what their values mean.
 use Prim.Native.Nat.{ℕ, _+_, _*_, _-_, _≤_, _<_}
 use mathlib.Core.Path.{_≡_}

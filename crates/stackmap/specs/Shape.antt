@@ -1,3 +1,4 @@
+-- For the code alone: nothing here has to be believed.
 -- What is told of the layout of a record that stands at the start of s. `old` is true for version 1.
 use Prim.Native.Nat.{ℕ}
 use mathlib.Core.Path.{_≡_}

@@ -1,3 +1,4 @@
+-- For the code alone: nothing here has to be believed.
 -- Where a walk over the records stands among the functions.
 use Prim.Native.Nat.{ℕ, _+_, _*_, _-_, _≤_, _<_}
 use mathlib.Core.Path.{_≡_}

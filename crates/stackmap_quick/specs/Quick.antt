@@ -1,3 +1,4 @@
+-- For the code alone: nothing here has to be believed.
 -- What a quick look at the end of a record tells.
 use Prim.Native.Nat.{ℕ, _+_, _*_, _≤_}
 use mathlib.Core.Path.{_≡_}
