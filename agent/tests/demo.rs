@@ -107,12 +107,20 @@ fn the_live_restore_comes_first() {
     assert!(said.lines().all(|line| bytes(line) < 4), "{said}");
 }
 
-/// A small repository with `tools/library`, and an `rt` that only writes down that it was called.
+/// A small repository with `tools/library`, and an `rt` that only writes down that it was called. It stands outside this one, and
+/// goes with the test: `rt` refuses a repository that has a source in no listed crate.
 struct Repository(PathBuf);
+
+impl Drop for Repository {
+    fn drop(&mut self) {
+        let _ = fs::remove_dir_all(&self.0);
+    }
+}
 
 impl Repository {
     fn new(name: &str, rt: &str) -> Repository {
-        let root = Path::new(env!("CARGO_TARGET_TMPDIR")).join(name);
+        let own = format!("treskibben-{name}.{}", std::process::id());
+        let root = std::env::temp_dir().join(own);
         let _ = fs::remove_dir_all(&root);
         for folder in [
             "tools",
