@@ -1,4 +1,5 @@
 // Runs of items of one kind, each written in the section's layout, which is that of version 1 where `old` is true.
+// No entry point: `builder` shows that the items are inside the listing and that the output is long enough.
 ghost use mathlib.Core.Path.{_≡_};
 ghost use Prim.Native.Nat.{_+_, _*_, _≤_};
 ghost use lib.ListN.{length};

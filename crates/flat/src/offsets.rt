@@ -1,4 +1,5 @@
 // Where the arrays begin, how many items each has, and the test of refusal 38.
+// No entry point: the functions require a length within the limits of 36, which the check has tested; those above 38 what 38 has shown.
 ghost use mathlib.Core.Path.{_≡_};
 ghost use mathlib.Core.Bool.{true};
 ghost use Prim.Native.Nat.{_+_, _*_, _-_, _/_, _≤_, _<_, max};

@@ -1,5 +1,6 @@
 // A quick look at the locations and live-outs of a record: many by one test. It says that they are right, or nothing; what is wrong is
 // named by the exact check above. Where the versions differ, `old` is true for version 1.
+// No entry point: the crate above shows that what is looked at is inside.
 //
 // The eight bytes of a location, less one, are low if its kind is 1 to 4 and the zero bytes of version 3 are zero. Numbers put together
 // bit by bit are low only if each of them is, so that one test answers for all. It serves the crate above and is no entry point: each
