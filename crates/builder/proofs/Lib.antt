@@ -1,3 +1,2 @@
-pub mod RecordPut
 pub mod SectionPut
 pub mod Converted

@@ -25,7 +25,7 @@ use Rattle.listing.proofs.Writes.{give-short, give-all}
 use Rattle.lister_items.specs.Put.{Put}
 use Rattle.lister.specs.Shape.{Tabled}
 use Rattle.lister_items.proofs.Puts.{put-join, put-long}
-use Rattle.lister.proofs.Passes.{inSection, inListing}
+use Rattle.lister_records.proofs.Passes.{inSection, inListing}
 
 -- what a part has taken of the output, by its count
 module _ {o o′ : List ℕ} {to end : ℕ} where

@@ -16,8 +16,6 @@ use listing::numbers;
 use stackmap::Verdict;
 use stackmap::layout;
 
-mod records;
-
 // How a section is laid out: whether it is of version 1, how many functions, constants and records, where the constants begin
 // (the pool), and where the first record stands.
 struct Tables {
@@ -55,7 +53,7 @@ fn listing_length(s: &[u8]) -> usize
     ensures { λ r. ⌜ r ≡ length (encodeListing (readSection (now (s .entry)))) ⌝ }
 {
     let tables = section_tables(s);
-    let records = records::records_length(s, tables.old, tables.first, tables.records);
+    let records = lister_records::records_length(s, tables.old, tables.first, tables.records);
     listing::version_length(tables.old)
         + numbers::FUNCTION_ITEM_SIZE * tables.functions
         + numbers::CONSTANT_ITEM_SIZE * tables.constants
@@ -79,7 +77,7 @@ fn put_listing(s: &[u8], out: &mut [u8]) -> usize
         next,
     );
     next = runs::put_constants(s, tables.pool, tables.constants, out, next);
-    next = records::put_records(s, tables.old, tables.first, tables.records, out, next);
+    next = lister_records::put_records(s, tables.old, tables.first, tables.records, out, next);
     out[next] = numbers::END_KIND;
     next + numbers::END_ITEM_SIZE
 }

@@ -16,7 +16,6 @@ use moves::Move;
 use moves::PAIRS_MOST;
 
 mod collisions;
-mod contents;
 mod slots;
 
 // Refusals 20 and 21 of the pairs of a window, or their move: all is read before any of it is written. Where `write` is false the
@@ -43,7 +42,7 @@ fn settle_pairs(
             count: 0,
         };
     }
-    let unknown = contents::unknown(live, &old_bases, olds, news, pairs);
+    let unknown = moves_table::contents::unknown(live, &old_bases, olds, news, pairs);
     if unknown < pairs {
         return Move {
             number: 21,
@@ -53,7 +52,14 @@ fn settle_pairs(
     }
     if write {
         let old_derived = slots::words(window, live, derived, pairs);
-        let new_derived = contents::moved(live, &old_derived, &old_bases, olds, news, pairs);
+        let new_derived = moves_table::contents::moved(
+            live,
+            &old_derived,
+            &old_bases,
+            olds,
+            news,
+            pairs,
+        );
         slots::put_all(window, live, derived, &new_derived, pairs);
     }
     Move {

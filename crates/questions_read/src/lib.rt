@@ -1,3 +1,2 @@
-// The questions by record number, by location and by live-out.
-pub mod locate;
+// The questions by location and by live-out.
 pub mod read;

@@ -6,7 +6,6 @@ ghost use lib.ListN.{length, drop, getElem?};
 ghost use Rattle.stackmap.specs.Layout.{headerSize, locationSize};
 ghost use Rattle.stackmap.specs.Section.{recordsAt, isOld, readLocation, recordLength, readRecord, readSection};
 ghost use Rattle.questions.specs.Questions.{among, constantOf, noLocation, thisLocation, locationAnswer, noLiveOut, thisLiveOut, liveOutAnswer};
-use crate::locate;
 use questions::LiveOutAnswer;
 use questions::LocationAnswer;
 use stackmap::layout;
@@ -118,7 +117,7 @@ pub fn location_in(s: &[u8], first: usize, number: u64) -> LocationAnswer
 pub fn location(s: &[u8], wanted: u64, number: u64) -> LocationAnswer
     ensures { λ r. ⌜ r ≡ locationAnswer (now (s .entry)) wanted number ⌝ }
 {
-    let l = locate::locate(s, wanted);
+    let l = questions_locate::locate(s, wanted);
     if l.number != 0 {
         return no_location(l.number, l.place);
     }
@@ -159,7 +158,7 @@ fn live_out_in(s: &[u8], first: usize, number: u64) -> LiveOutAnswer
 pub fn live_out(s: &[u8], wanted: u64, number: u64) -> LiveOutAnswer
     ensures { λ r. ⌜ r ≡ liveOutAnswer (now (s .entry)) wanted number ⌝ }
 {
-    let l = locate::locate(s, wanted);
+    let l = questions_locate::locate(s, wanted);
     if l.number != 0 {
         return no_live_out(l.number, l.place);
     }

@@ -5,7 +5,7 @@ use mathlib.Core.Path.{_≡_, ap, _∙_}
 use lib.ListN.{length}
 use Rattle.stackmap.specs.Section.{isOld, numRecords, recordsAt, readSection}
 use Rattle.listing.specs.Listing.{encodeListing, versionLength}
-use Rattle.lister.proofs.Passes.{inListing}
+use Rattle.lister_records.proofs.Passes.{inListing}
 use Rattle.lister.proofs.Whole.{laid, listing-length}
 use borrow.Author.Needs.{needs}
 use Rattle.lister.proofs.listing_length.Statement.{statement}

@@ -1,6 +1,5 @@
--- The answer of the question, field by field.
 use mathlib.Core.Path.{ap, _∙_}
-use Rattle.treskibben.specs.Answer.{foundAt}
+use Rattle.treskibben_answers.specs.Answer.{foundAt}
 use borrow.Author.Needs.{needs}
 use Rattle.treskibben.proofs.treskibben_find_in_function.Statement.{statement}
 use Rattle.treskibben.proofs.treskibben_find_in_function.Tie as tie

@@ -1,4 +1,5 @@
--- The answer of the question, field by field.
+use mathlib.Core.Path.{ap, _∙_}
+use Rattle.treskibben_answers.specs.Answer.{locationOf}
 use borrow.Author.Needs.{needs}
 use Rattle.treskibben.proofs.treskibben_location.Statement.{statement}
 use Rattle.treskibben.proofs.treskibben_location.Tie as tie
@@ -6,11 +7,11 @@ use Rattle.treskibben.proofs.treskibben_location.Tie as tie
 location-requires : tie.Need-location-requires
 location-requires c κs = search needs
 
-cast-t5 : tie.Need-cast-t5
-cast-t5 c = search needs
+location-answer-requires : tie.Need-location-answer-requires
+location-answer-requires c κs = search needs
 
 returns : tie.Need-returns
-returns c = rw (← c .before .location .ensures)
+returns c = c .location-answer .ensures ∙ ap locationOf (c .before .location .ensures)
 
 pub treskibben-location-spec : {M : Type 1} → statement M
-treskibben-location-spec = tie.close (tie.spec location-requires cast-t5 returns)
+treskibben-location-spec = tie.close (tie.spec location-requires location-answer-requires returns)

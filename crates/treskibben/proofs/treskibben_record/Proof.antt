@@ -1,4 +1,5 @@
--- The answer of the question, field by field.
+use mathlib.Core.Path.{ap, _∙_}
+use Rattle.treskibben_answers.specs.Answer.{standsAt}
 use borrow.Author.Needs.{needs}
 use Rattle.treskibben.proofs.treskibben_record.Statement.{statement}
 use Rattle.treskibben.proofs.treskibben_record.Tie as tie
@@ -6,11 +7,11 @@ use Rattle.treskibben.proofs.treskibben_record.Tie as tie
 locate-requires : tie.Need-locate-requires
 locate-requires c κs = search needs
 
-cast-t4 : tie.Need-cast-t4
-cast-t4 c = search needs
+record-answer-requires : tie.Need-record-answer-requires
+record-answer-requires c κs = search needs
 
 returns : tie.Need-returns
-returns c = rw (← c .before .locate .ensures .0)
+returns c = c .record-answer .ensures ∙ ap standsAt (c .before .locate .ensures .0)
 
 pub treskibben-record-spec : {M : Type 1} → statement M
-treskibben-record-spec = tie.close (tie.spec locate-requires cast-t4 returns)
+treskibben-record-spec = tie.close (tie.spec locate-requires record-answer-requires returns)

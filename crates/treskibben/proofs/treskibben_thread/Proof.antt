@@ -1,4 +1,5 @@
--- The answer of the thread's call, field by field, and the image as it leaves it.
+use mathlib.Core.Path.{ap, _∙_}
+use Rattle.treskibben_answers.specs.Answer.{moveAnswer}
 use borrow.Author.Needs.{needs}
 use Rattle.treskibben.proofs.treskibben_thread.Statement.{statement}
 use Rattle.treskibben.proofs.treskibben_thread.Tie as tie
@@ -6,8 +7,8 @@ use Rattle.treskibben.proofs.treskibben_thread.Tie as tie
 relocate-thread-requires : tie.Need-relocate-thread-requires
 relocate-thread-requires c κs = search needs
 
-cast-t10 : tie.Need-cast-t10
-cast-t10 c = search needs
+move-answer-requires : tie.Need-move-answer-requires
+move-answer-requires c κs = search needs
 
 same-length : tie.Need-same-length
 same-length c = search needs
@@ -15,7 +16,7 @@ same-length c = search needs
 returns : tie.Need-returns
 returns c =
     let t = c .before .before .before .relocate-thread .ensures in
-    (rw (← t .answer-is), t .image-is)
+    (c .move-answer .ensures ∙ ap moveAnswer (t .answer-is), t .image-is)
 
 pub treskibben-thread-spec : {M : Type 1} → statement M
-treskibben-thread-spec = tie.close (tie.spec relocate-thread-requires cast-t10 same-length returns)
+treskibben-thread-spec = tie.close (tie.spec relocate-thread-requires move-answer-requires same-length returns)

@@ -1,0 +1,2 @@
+pub mod RecordPut
+pub mod RecordsPut

@@ -1,0 +1,55 @@
+-- The answers that cross the C boundary: number, place, and what was asked for.
+use Rattle.stackmap.specs.declared.Verdict.{Verdict}
+use Rattle.stackmap.specs.Verdict.{numberOf, placeOf}
+use Rattle.questions.specs.declared.Found.{Found}
+use Rattle.questions.specs.declared.Located.{Located}
+use Rattle.questions.specs.declared.LocationAnswer.{LocationAnswer}
+use Rattle.questions.specs.declared.LiveOutAnswer.{LiveOutAnswer}
+use Rattle.listing.specs.Listing.{Converted}
+use Rattle.moves.specs.declared.Move.{Move}
+use Rattle.relocate.specs.declared.Frame.{Frame}
+use Rattle.treskibben_answers.specs.declared.Frame
+use Rattle.treskibben_answers.specs.declared.Answer.{Answer}
+use Rattle.treskibben_answers.specs.declared.Found
+use Rattle.treskibben_answers.specs.declared.Stands.{Stands}
+use Rattle.treskibben_answers.specs.declared.Location.{Location}
+use Rattle.treskibben_answers.specs.declared.LiveOut.{LiveOut}
+
+-- the answer of the check: document 01's number and place of the verdict, and the value 0
+abbrev pub answer : Verdict → Answer
+answer v = record { number = numberOf v; place = placeOf v; value = 0 }
+
+-- the answer of a conversion; its value is the length written
+abbrev pub converted : Converted → Answer
+converted c = record { number = c .number; place = c .place; value = c .written }
+
+-- the answer of a move; its value is the count of an accepted one
+abbrev pub moveAnswer : Move → Answer
+moveAnswer m = record { number = m .number; place = m .place; value = m .count }
+
+abbrev pub frameOf : Frame.Frame → Frame
+frameOf f = record { address = f .address; rbp = f .rbp; rsp = f .rsp; function = f .function }
+
+-- The answers of the questions, field by field.
+
+abbrev pub foundAt : Found → Found.Found
+foundAt f = record { number = f .number; place = f .place; index = f .index; function = f .function; sharing = f .sharing }
+
+abbrev pub standsAt : Located → Stands
+standsAt l = record { number = l .number; place = l .place; first = l .first; length = l .size }
+
+-- the offset is its 32 bits: `asOffset` says which signed number they are
+abbrev pub locationOf : LocationAnswer → Location
+locationOf l =
+    record {
+      number = l .number;
+      place = l .place;
+      constant = l .constant;
+      offset = l .offset;
+      size = l .size;
+      register = l .register;
+      kind = l .kind;
+    }
+
+abbrev pub liveOutOf : LiveOutAnswer → LiveOut
+liveOutOf l = record { number = l .number; place = l .place; register = l .register; size = l .size }
