@@ -34,9 +34,10 @@ same-length-2 c = search needs
 returns-2 : tie.Need-returns-2
 returns-2 c =
     let a = c .before .before .before .before .before .before .before .before .before .before .before .args in
+    let w = c .before .before .before .before .before .before .words in
+    let k = c .before .before .before .before .collision in
     stop21 (a .live .now) (a .bases .now) (a .derived .now) (a .pairs) (lookUp (a .olds .now) (a .news .now)) (a .window .now)
-    (c .before .before .before .before .before .before .words .result) (c .before .before .before .before .before .before .words .ensures) (a .write) (c .before .before .before .before .collision .result) (c .before .unknown .result) (c .before .before .before .before .collision .ensures) (c .before .before .before .if1 .left)
-    (c .before .unknown .ensures) (c .if2 .taken)
+    (w .result) (w .ensures) (a .write) (k .result) (c .before .unknown .result) (k .ensures) (c .before .before .before .if1 .left) (c .before .unknown .ensures) (c .if2 .taken)
 
 words-requires-2 : tie.Need-words-requires-2
 words-requires-2 c κs = search needs
@@ -55,9 +56,14 @@ same-length-3 c = search needs
 returns-3 : tie.Need-returns-3
 returns-3 c =
     let a = c .before .before .before .before .before .before .before .before .before .before .before .before .before .before .before .before .before .before .before .before .before .before .args in
+    let d = c .before .before .before .before .before .before .before .before .words2 in
+    let m = c .before .before .before .before .before .moved in
+    let b = c .before .before .before .before .before .before .before .before .before .before .before in
+    let u = b .before .unknown in
+    let k = b .before .before .before .before .collision in
+    let w = b .before .before .before .before .before .before .words in
     let o = done (a .live .now) (a .bases .now) (a .derived .now) (a .pairs) (lookUp (a .olds .now) (a .news .now)) (a .window .now)
-    (c .before .before .before .before .before .before .before .before .before .before .before .before .before .before .before .before .before .words .result) (c .before .before .before .before .before .before .before .before .before .before .before .before .before .before .before .before .before .words .ensures) (c .before .before .before .before .before .before .before .before .words2 .result) (c .before .before .before .before .before .moved .result) (c .before .before .before .before .before .before .before .before .words2 .ensures) (c .before .before .before .before .before .moved .ensures)
-    (c .before .before .before .before .before .before .before .before .before .before .before .before .before .before .before .collision .result) (c .before .before .before .before .before .before .before .before .before .before .before .before .unknown .result) (c .before .before .before .before .before .before .before .before .before .before .before .before .before .before .before .collision .ensures) (c .before .before .before .before .before .before .before .before .before .before .before .before .before .before .if1 .left) (c .before .before .before .before .before .before .before .before .before .before .before .before .unknown .ensures) (c .before .before .before .before .before .before .before .before .before .before .before .if2 .left) in
+    (w .result) (w .ensures) (d .result) (m .result) (d .ensures) (m .ensures) (k .result) (u .result) (k .ensures) (b .before .before .before .if1 .left) (u .ensures) (b .if2 .left) in
     rw (c .before .before .before .before .before .before .before .before .before .before .if3 .taken) (record { answer = o .answer; left = c .before .before .put-all .ensures ∙ o .left })
 
 same-length-4 : tie.Need-same-length-4
@@ -66,9 +72,12 @@ same-length-4 c = search needs
 returns-4 : tie.Need-returns-4
 returns-4 c =
     let a = c .before .before .before .before .before .before .before .before .before .before .before .before .args in
+    let w = c .before .before .before .before .before .before .before .words in
+    let k = c .before .before .before .before .before .collision in
+    let u = c .before .before .unknown in
     rw (c .if3 .left)
     (fine (a .live .now) (a .bases .now) (a .derived .now) (a .pairs) (lookUp (a .olds .now) (a .news .now)) (a .window .now)
-    (c .before .before .before .before .before .before .before .words .result) (c .before .before .before .before .before .before .before .words .ensures) (c .before .before .before .before .before .collision .result) (c .before .before .unknown .result) (c .before .before .before .before .before .collision .ensures) (c .before .before .before .before .if1 .left) (c .before .before .unknown .ensures) (c .before .if2 .left))
+    (w .result) (w .ensures) (k .result) (u .result) (k .ensures) (c .before .before .before .before .if1 .left) (u .ensures) (c .before .if2 .left))
 
 pub settle-pairs-spec : {M : Type 1} → statement M
 settle-pairs-spec =

@@ -22,14 +22,18 @@ overlap-requires-3 c κs = search needs
 
 returns-3 : tie.Need-returns-3
 unfolding anyOverlap
-returns-3 c = rw (← c .before .before .before .before .before .overlap .ensures, c .before .before .before .before .if1 .left, ← c .before .before .before .overlap2 .ensures, c .before .before .if2 .left, ← c .before .overlap3 .ensures, c .if3 .taken)
+returns-3 c =
+    let b = c .before .before .before in
+    rw (← b .before .before .overlap .ensures, b .before .if1 .left, ← b .overlap2 .ensures, c .before .before .if2 .left, ← c .before .overlap3 .ensures, c .if3 .taken)
 
 overlap-requires-4 : tie.Need-overlap-requires-4
 overlap-requires-4 c κs = search needs
 
 returns-4 : tie.Need-returns-4
 unfolding anyOverlap
-returns-4 c = rw (← c .before .before .before .before .before .before .overlap .ensures, c .before .before .before .before .before .if1 .left, ← c .before .before .before .before .overlap2 .ensures, c .before .before .before .if2 .left, ← c .before .before .overlap3 .ensures, c .before .if3 .left) (c .overlap4 .ensures)
+returns-4 c =
+    let b = c .before .before .before .before in
+    rw (← b .before .before .overlap .ensures, b .before .if1 .left, ← b .overlap2 .ensures, c .before .before .before .if2 .left, ← c .before .before .overlap3 .ensures, c .before .if3 .left) (c .overlap4 .ensures)
 
 pub any-overlap-spec : {M : Type 1} → statement M
 any-overlap-spec =

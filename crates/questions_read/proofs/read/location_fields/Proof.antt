@@ -39,7 +39,9 @@ u32-at-requires c κs =
 returns : tie.Need-returns
 unfolding readLocation
 returns c =
-    let q = c .before .before .before .before .before .before .before .args in rw (c .before .before .before .before .before .if1 .taken, byte-word (q .s .now) (q .at), byte-word (q .s .now) (q .at + 1), c .u32-at .ensures, c .before .u16-at .ensures, c .before .before .wide .ensures)
+    let q = c .before .before .before .before .before .before .before .args in
+    let old = c .before .before .before .before .before .if1 .taken in
+    rw (old, byte-word (q .s .now) (q .at), byte-word (q .s .now) (q .at + 1), c .u32-at .ensures, c .before .u16-at .ensures, c .before .before .wide .ensures)
 
 shared-slice-read-t16 : tie.Need-shared-slice-read-t16
 shared-slice-read-t16 c = let q = c .before .before .before in let z = rw (c .before .if1 .left) at (q .pre) in omega arith

@@ -26,7 +26,8 @@ no-location-requires c κs = search needs
 
 returns : tie.Need-returns
 returns c =
-    rw (c .no-location .ensures, location-past (isOld (c .before .before .before .before .args .s .now)) (c .before .before .before .before .args .s .now) (c .before .before .before .before .args .first) _ (c .before .before .u16-at .ensures) (c .before .before .before .before .args .number) (c .before .if1 .taken))
+    let q = c .before .before .before .before .args in
+    rw (c .no-location .ensures, location-past (isOld (q .s .now)) (q .s .now) (q .first) _ (c .before .before .u16-at .ensures) (q .number) (c .before .if1 .taken))
 
 is-old-requires : tie.Need-is-old-requires
 is-old-requires c κs = let i = c .before .before .before .pre .0 in omega arith

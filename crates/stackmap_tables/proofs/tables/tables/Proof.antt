@@ -51,7 +51,10 @@ div-t13 : tie.Need-div-t13
 div-t13 c = let h = function-least (c .before .before .is-old .result) in omega (arith, c .before .function-size .ensures .0)
 
 -- the functions that are wholly inside take no more than there is
-whole : (c : tie.Then1) → c .before .function-size .result * ((length (c .before .before .before .before .before .before .before .args .s .now) - 16) / c .before .function-size .result) ≤ length (c .before .before .before .before .before .before .before .args .s .now) - 16
+whole :
+    (c : tie.Then1) →
+    c .before .function-size .result * ((length (c .before .before .before .before .before .before .before .args .s .now) - 16) / c .before .function-size .result)
+    ≤ length (c .before .before .before .before .before .before .before .args .s .now) - 16
 whole c = rw (c .before .function-size .ensures .0) (functions-most (c .before .before .is-old .result) (length (c .before .before .before .before .before .before .before .args .s .now) - 16))
 
 mul-t14 : tie.Need-mul-t14
@@ -87,11 +90,14 @@ returns-2 : tie.Need-returns-2
 unfolding tablesCheck must
 returns-2 c =
     let a = c .before .before .before .before .before .before .before .before in
+    let b = c .before .before in
+    let n = b .before .before .before .u32-at2 .ensures in
+    let m = b .before .before .before .before .u32-at .ensures in
     let l : constantsAt (a .args .s .now) ≤ length (a .args .s .now) =
-    rw (← c .before .before .before .before .before .before .u32-at .ensures, ← c .before .before .before .is-old .ensures, ← c .before .before .function-size .ensures .0) (omega arith) in
+    rw (← m, ← b .before .is-old .ensures, ← b .function-size .ensures .0) (omega arith) in
     let h : length (a .args .s .now) < recordsAt (a .args .s .now) =
-    rw (← c .before .before .before .before .before .before .u32-at .ensures, ← c .before .before .before .before .before .u32-at2 .ensures, ← c .before .before .before .is-old .ensures, ← c .before .before .function-size .ensures .0) (omega arith) in
-    rw (constant-cut (a .args .s .now) l h, ← c .before .before .before .before .before .before .u32-at .ensures, ← c .before .before .before .before .before .u32-at2 .ensures, ← c .before .before .before .is-old .ensures, ← c .before .before .function-size .ensures .0) (search tests)
+    rw (← m, ← n, ← b .before .is-old .ensures, ← b .function-size .ensures .0) (omega arith) in
+    rw (constant-cut (a .args .s .now) l h, ← m, ← n, ← b .before .is-old .ensures, ← b .function-size .ensures .0) (search tests)
 
 is-old-requires-2 : tie.Need-is-old-requires-2
 is-old-requires-2 c κs = search needs
@@ -100,17 +106,24 @@ returns-3 : tie.Need-returns-3
 unfolding tablesCheck countsRight must
 returns-3 c =
     let v = c .before .before .before .before .before .is-old .ensures ∙ sym (c .before .is-old2 .ensures) ∙ c .if3 .taken in
-    rw (← c .before .before .before .before .before .before .before .before .u32-at .ensures, ← c .before .before .before .before .before .before .before .u32-at2 .ensures, ← c .before .before .before .before .before .is-old .ensures, ← c .before .before .before .before .function-size .ensures .0, v) (search tests)
+    let b = c .before .before .before .before in
+    rw (← b .before .before .before .before .u32-at .ensures, ← b .before .before .before .u32-at2 .ensures, ← b .before .is-old .ensures, ← b .function-size .ensures .0, v) (search tests)
 
 counts-add-up-requires : tie.Need-counts-add-up-requires
 counts-add-up-requires c κs =
-    let w : c .before .before .before .before .function-size .result ≡ 24 = c .before .before .before .before .function-size .ensures .0 ∙ ap functionSize (c .before .before .before .before .before .is-old .ensures ∙ sym (c .before .is-old2 .ensures) ∙ c .if3 .left) in
+    let b = c .before .before .before .before in
+    let w : b .function-size .result ≡ 24 =
+    b .function-size .ensures .0 ∙ ap functionSize (b .before .is-old .ensures ∙ sym (c .before .is-old2 .ensures) ∙ c .if3 .left) in
     let h = rw w at (c .before .before .before .if1 .left) in omega arith
 
 -- version 3's test of the record counts
 counts :
     (c : tie.After-counts-add-up) →
-    countsRight (isOld (c .before .before .before .before .before .before .before .before .before .before .before .args .s .now)) (readFunctions (c .before .before .before .before .before .before .before .before .before .before .before .args .s .now)) (numRecords (c .before .before .before .before .before .before .before .before .before .before .before .args .s .now)) ≡ c .counts-add-up .result
+    countsRight
+    (isOld (c .before .before .before .before .before .before .before .before .before .before .before .args .s .now))
+    (readFunctions (c .before .before .before .before .before .before .before .before .before .before .before .args .s .now))
+    (numRecords (c .before .before .before .before .before .before .before .before .before .before .before .args .s .now))
+    ≡ c .counts-add-up .result
 unfolding countsRight readFunctions
 counts c =
     let v : isOld (c .before .before .before .before .before .before .before .before .before .before .before .args .s .now) ≡ false = sym (c .before .before .is-old2 .ensures) ∙ c .before .if3 .left in
@@ -120,13 +133,15 @@ returns-4 : tie.Need-returns-4
 unfolding tablesCheck must
 returns-4 c =
     let k = counts (c .before) in
-    rw (k, c .if4 .taken, ← c .before .before .before .before .before .before .before .before .before .before .u32-at .ensures, ← c .before .before .before .before .before .before .before .before .before .u32-at2 .ensures, ← c .before .before .before .before .before .before .before .is-old .ensures, ← c .before .before .before .before .before .before .function-size .ensures .0) (search tests)
+    let b = c .before .before .before .before .before .before in
+    rw (k, c .if4 .taken, ← b .before .before .before .before .u32-at .ensures, ← b .before .before .before .u32-at2 .ensures, ← b .before .is-old .ensures, ← b .function-size .ensures .0) (search tests)
 
 returns-5 : tie.Need-returns-5
 unfolding tablesCheck must
 returns-5 c =
     let k = counts (c .before) in
-    rw (k, c .if4 .left, ← c .before .before .before .before .before .before .before .before .before .before .u32-at .ensures, ← c .before .before .before .before .before .before .before .before .before .u32-at2 .ensures, ← c .before .before .before .before .before .before .before .is-old .ensures, ← c .before .before .before .before .before .before .function-size .ensures .0) (search tests)
+    let b = c .before .before .before .before .before .before in
+    rw (k, c .if4 .left, ← b .before .before .before .before .u32-at .ensures, ← b .before .before .before .u32-at2 .ensures, ← b .before .is-old .ensures, ← b .function-size .ensures .0) (search tests)
 
 pub tables-spec : {M : Type 1} → statement M
 tables-spec =
