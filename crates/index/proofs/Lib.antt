@@ -1,0 +1,4 @@
+pub mod Numbers
+pub mod Index
+pub mod Lookup
+pub mod Same

@@ -1,0 +1,4 @@
+pub mod Rows
+pub mod Index
+pub mod Answers
+pub mod Laws
