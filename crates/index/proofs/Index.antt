@@ -11,7 +11,8 @@ use lib.Dec.{ltb, eqb}
 use lib.ListN.{length, getD, drop, length-drop}
 use lib.Seq.{getD-drop}
 use Rattle.sorted_pairs.specs.Pairs.{firstAt, secondAt, rankAt, Stepped}
-use Rattle.index.specs.Rows.{Row, precedes, place, ordered, flat, rowsOf, Numbered}
+use Rattle.index.specs.Rows.{Row, precedes, place, ordered, flat}
+use Rattle.index.specs.Numbered.{rowsOf, Numbered}
 use Rattle.sorted_pairs.proofs.All.{Different, perm-mem, all-found, different-perm}
 
 -- the order as one number

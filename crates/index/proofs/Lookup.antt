@@ -10,7 +10,8 @@ use borrow.Author.Tests.{lt-ltb, le-ltb, eq-eqb, ne-eqb}
 use lib.Dec.{ltb, eqb}
 use lib.ListN.{length, getD, drop}
 use Rattle.sorted_pairs.specs.Pairs.{firstAt, secondAt, rankAt, LowerBy}
-use Rattle.index.specs.Rows.{Row, rowsOf, Numbered}
+use Rattle.index.specs.Rows.{Row}
+use Rattle.index.specs.Numbered.{rowsOf, Numbered}
 use Rattle.index.proofs.Index.{rank, Small, rowAt, next-row, numbered-small}
 
 -- how many rows rank below x
