@@ -281,7 +281,7 @@ unfolding ordered
 ordered-length [] = refl
 ordered-length (x ∷ xs) = place-length x (ordered xs) ∙ ap suc (ordered-length xs)
 
-flat-length : (xs : List Row) → length (flat xs) ≡ 2 * length xs
+pub flat-length : (xs : List Row) → length (flat xs) ≡ 2 * length xs
 unfolding flat
 flat-length [] = refl
 flat-length (x ∷ xs) = let h = flat-length xs in omega arith
@@ -289,7 +289,7 @@ flat-length (x ∷ xs) = let h = flat-length xs in omega arith
 pub index-length : (rows : List Row) → length (flat (ordered rows)) ≡ 2 * length rows
 index-length rows = flat-length (ordered rows) ∙ ap (λ (n : ℕ). 2 * n) (ordered-length rows)
 
-rows-flat : (xs : List Row) → rowsOf (length xs) (flat xs) ≡ xs
+pub rows-flat : (xs : List Row) → rowsOf (length xs) (flat xs) ≡ xs
 unfolding rowsOf flat
 rows-flat [] = refl
 rows-flat (x ∷ xs) = rw (rows-flat xs)
