@@ -124,18 +124,20 @@ pub fn fill(section: &[u8], index: &mut [u64]) -> Written
     match stackmap_check::check(section) {
         Verdict::Refused(number, place) => refused(number, place),
         Verdict::Valid(_) => {
-            if tables::is_old(section) {
+            let old = tables::is_old(section);
+            let records = wire::u32_at(section, layout::NUM_RECORDS_AT) as usize;
+            let entries = 2 * records;
+            if old {
                 return refused(OTHER_VERSION, 0);
             }
-            let records = wire::u32_at(section, layout::NUM_RECORDS_AT) as usize;
-            if index.len() < 2 * records {
+            if index.len() < entries {
                 return refused(TOO_SHORT, 0);
             }
             put_index(section, index, records);
             Written {
                 number: 0,
                 place: 0,
-                written: 2 * records,
+                written: entries,
             }
         }
     }

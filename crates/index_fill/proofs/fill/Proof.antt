@@ -25,26 +25,26 @@ is-old-requires c κs =
     let i = t .inside in
     omega arith
 
-refused-requires-2 : tie.Need-refused-requires-2
-refused-requires-2 c κs = search needs
-
-returns : tie.Need-returns
-returns c =
-    let r = c .refused2 .ensures in
-    let k = accepted _ (c .before .before .before .before .before .check .ensures) (c .before .before .before .enum-told .given .1) in
-    answers (rw (r .0, r .1, r .2) (fill-old _ k _ (sym (c .before .before .is-old .ensures) ∙ c .before .if1 .taken)))
-
 u32-at-requires : tie.Need-u32-at-requires
 u32-at-requires c κs =
-    let t = tabled _ (accepted _ (c .before .before .before .before .check .ensures) (c .before .before .enum-told .given .1)) in
+    let t = tabled _ (accepted _ (c .before .before .before .check .ensures) (c .before .enum-told .given .1)) in
     let i = t .inside in
     omega arith
 
 cast-records : tie.Need-cast-records
 cast-records c = search needs
 
-mul-if2 : tie.Need-mul-if2
-mul-if2 c = search needs
+mul-entries : tie.Need-mul-entries
+mul-entries c = search needs
+
+refused-requires-2 : tie.Need-refused-requires-2
+refused-requires-2 c κs = search needs
+
+returns : tie.Need-returns
+returns c =
+    let r = c .refused2 .ensures in
+    let k = accepted _ (c .before .before .before .before .before .before .check .ensures) (c .before .before .before .before .enum-told .given .1) in
+    answers (rw (r .0, r .1, r .2) (fill-old _ k _ (sym (c .before .before .before .is-old .ensures) ∙ c .before .if1 .taken)))
 
 refused-requires-3 : tie.Need-refused-requires-3
 refused-requires-3 c κs = search needs
@@ -53,16 +53,14 @@ returns-2 : tie.Need-returns-2
 returns-2 c =
     let r = c .refused3 .ensures in
     let k = accepted _ (c .before .before .before .before .before .before .before .check .ensures) (c .before .before .before .before .before .enum-told .given .1) in
-    let w = c .before .before .before .before in
-    answers (rw (r .0, r .1, r .2) (fill-short _ k _ (sym (w .is-old .ensures) ∙ c .before .before .before .if1 .left) (rw (c .before .before .u32-at .ensures) at (c .before .if2 .taken))))
+    let new = sym (c .before .before .before .before .is-old .ensures) ∙ c .before .before .if1 .left in
+    answers (rw (r .0, r .1, r .2) (fill-short _ k _ new (rw (c .before .before .before .u32-at .ensures) at (c .before .if2 .taken))))
 
 put-index-requires : tie.Need-put-index-requires
 put-index-requires c κs =
     let k = accepted _ (c .before .before .before .before .before .before .before .check .ensures) (c .before .before .before .before .before .enum-told .given .1) in
-    (k, sym (c .before .before .before .before .is-old .ensures) ∙ c .before .before .before .if1 .left, c .before .before .u32-at .ensures, omega arith, omega arith)
-
-mul-t10 : tie.Need-mul-t10
-mul-t10 c = search needs
+    let new = sym (c .before .before .before .before .is-old .ensures) ∙ c .before .before .if1 .left in
+    (k, new, c .before .before .before .u32-at .ensures, omega arith, omega arith)
 
 returns-3 : tie.Need-returns-3
 returns-3 c =
@@ -74,11 +72,9 @@ same-length c = search needs
 
 returns-4 : tie.Need-returns-4
 returns-4 c =
-    let w = c .before .before .before .before .before .before .before .before .before .before in
-    let k = accepted _ (w .check .ensures) (c .before .before .before .before .before .before .before .before .enum-told .given .1) in
-    let w = c .before .before .before .before .before .before .before in
-    let v = c .before .before .before .before .before .before in
-    answers (fill-all _ k _ _ (sym (w .is-old .ensures) ∙ v .if1 .left) (c .before .before .before .before .before .u32-at .ensures) (omega arith) (c .before .before .put-index .ensures))
+    let k = accepted _ (c .before .before .before .before .before .before .before .before .before .before .check .ensures) (c .before .before .before .before .before .before .before .before .enum-told .given .1) in
+    let new = sym (c .before .before .before .before .before .before .before .is-old .ensures) ∙ c .before .before .before .before .before .if1 .left in
+    answers (fill-all _ k _ _ new (c .before .before .before .before .before .before .u32-at .ensures) (omega arith) (c .before .before .put-index .ensures))
 
 pub fill-spec : {M : Type 1} → statement M
 fill-spec =
@@ -89,15 +85,14 @@ fill-spec =
     refused-requires
     enum-told
     is-old-requires
-    refused-requires-2
-    returns
     u32-at-requires
     cast-records
-    mul-if2
+    mul-entries
+    refused-requires-2
+    returns
     refused-requires-3
     returns-2
     put-index-requires
-    mul-t10
     returns-3
     same-length
     returns-4)
