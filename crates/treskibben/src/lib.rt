@@ -9,6 +9,7 @@ ghost use Rattle.treskibben_answers.specs.Answer.{answer, converted, moveAnswer
 ghost use Rattle.treskibben_answers.specs.Version.{version};
 use treskibben_answers as answers;
 
+pub mod address_index;
 pub mod flat_sections;
 
 // The number of this interface, which include/treskibben.h has as TRESKIBBEN_VERSION.

@@ -1,0 +1,3 @@
+pub mod Steps
+pub mod All
+pub mod Halving
