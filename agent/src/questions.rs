@@ -182,7 +182,7 @@ pub fn live_out(section: &[u8], record: u64, number: u64) -> Result<LiveOut, Ref
 }
 
 /// The answer of a search, or its refusal.
-fn found(answer: ffi::Found) -> Result<Found, Refusal> {
+pub(crate) fn found(answer: ffi::Found) -> Result<Found, Refusal> {
     answer.verdict.accepted()?;
     Ok(Found {
         record: answer.index,
