@@ -9,7 +9,8 @@ use crate::{ffi, Refusal};
 ///
 /// A record's address is its function's address plus its instruction offset. Several records may
 /// have the same; the answer says how many. The question is for version 3: version 1 doesn't say which
-/// function has a record, and has [`find_in_function`] instead.
+/// function has a record, and has [`find_in_function`] instead. Many addresses are asked for at a time
+/// through an [`Index`](crate::Index).
 ///
 /// # Errors
 ///

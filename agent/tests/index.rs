@@ -93,6 +93,19 @@ fn section(rng: &mut Rng) -> (Section, Option<usize>) {
     }
 }
 
+/// A random index of a section, right as often as not, and the number of its change.
+fn index(rng: &mut Rng, section: &Section) -> (Vec<u64>, usize) {
+    let change = match rng.below(2) {
+        0 => rng.below(Change::ALL.len()),
+        _ => 0,
+    };
+    let index = match section.version {
+        Version::One => indexes::any(rng, section),
+        Version::Three => indexes::changed(rng, section, Change::ALL[change]),
+    };
+    (index, change)
+}
+
 /// Asks all there is to ask of a random section, whole or damaged.
 fn ask(rng: &mut Rng, counts: &mut Counts) {
     let (section, order) = section(rng);
@@ -100,14 +113,7 @@ fn ask(rng: &mut Rng, counts: &mut Counts) {
         0 => case_of(rng, &section),
         _ => Case::known("whole", section.encode(), 0, 0),
     };
-    let change = match rng.below(2) {
-        0 => rng.below(Change::ALL.len()),
-        _ => 0,
-    };
-    let index = match section.version {
-        Version::One => indexes::any(rng, &section),
-        Version::Three => indexes::changed(rng, &section, Change::ALL[change]),
-    };
+    let (index, change) = index(rng, &section);
     let count = rng.pick(&[0, 1, 2, 3, 5, 9]);
     let addresses: Vec<u64> = (0..count).map(|_| address(rng, &section)).collect();
     let calls = Calls {

@@ -76,11 +76,7 @@ fn on(rounds: usize, name: &str, bytes: &[u8]) {
     let (stack, other) = (Stack::new(&read), Stack::crossed(&read));
     println!("\n{name}: {} bytes, {} records; {FRAMES} frames with {} pairs", bytes.len(), read.records.len(), stack.pairs);
     let [one, rising, falling, mixed] = stack.lists();
-    for list in [&rising, &falling, &mixed] {
-        let mut image = stack.image.clone();
-        assert_eq!(stack.moved(bytes, list, &mut image), stack.pairs, "the pairs on {name}");
-        assert!(image == stack.image, "objects that stay where they were change no byte");
-    }
+    [&rising, &falling, &mixed].iter().for_each(|list| stack.assert_moved(name, bytes, list));
     let action = |list| {
         let (stack, mut image) = (&stack, stack.image.clone());
         move || {
@@ -88,6 +84,9 @@ fn on(rounds: usize, name: &str, bytes: &[u8]) {
         }
     };
     let ([_, crossed, ..], mut others) = (other.lists(), other.image.clone());
+    let mut crossed = || {
+        black_box(other.moved(bytes, &crossed, &mut others));
+    };
     let mut image = stack.image.clone();
     let mut alone = || {
         let _ = black_box(treskibben::relocate(black_box(bytes), &mut image, STACK, stack.table(), one[0]));
@@ -102,9 +101,7 @@ fn on(rounds: usize, name: &str, bytes: &[u8]) {
             (RISING, &mut action(&rising)),
             (FALLING, &mut action(&falling)),
             (MIXED, &mut action(&mixed)),
-            (CROSSED, &mut || {
-                black_box(other.moved(bytes, &crossed, &mut others));
-            }),
+            (CROSSED, &mut crossed),
         ],
     );
     println!("\n{}", table(&rows, &[CHECK]));
@@ -168,7 +165,14 @@ impl Stack {
         moved.unwrap_or_else(|refusal| panic!("the library refuses the thread: {refusal}"))
     }
 
-    /// The same with an index of the section.
+    /// All pairs of the list are moved, and no byte changes: the objects stay where they were.
+    fn assert_moved(&self, name: &str, section: &[u8], frames: &[Frame]) {
+        let mut image = self.image.clone();
+        assert_eq!(self.moved(section, frames, &mut image), self.pairs, "the pairs on {name}");
+        assert!(image == self.image, "objects that stay where they were change no byte");
+    }
+
+    /// Moves the frames with an index of the section.
     pub fn moved_by(&self, index: &Index, frames: &[Frame], image: &mut [u8]) -> usize {
         let moved = black_box(index).relocate_thread(image, STACK, self.table(), frames);
         moved.unwrap_or_else(|refusal| panic!("the library refuses the thread: {refusal}"))

@@ -29,49 +29,37 @@ fn sections() -> impl Iterator<Item = Section> {
 fn indexes_of_the_largest_sections() {
     let mut rng = Rng::new(3);
     for section in sections() {
-        let case = Case::known("largest", section.encode(), 0, 0);
         let index = right(&section);
         let entries = index.len();
         let own = |nth: usize| index[2 * nth];
         let mut addresses = vec![0, own(0), own(entries / 2 - 1), u64::MAX];
         addresses.extend((0..16).map(|_| own(rng.below(entries / 2)) + rng.pick(&[0, 0, 1])));
-        let asks = |index: &[u64]| {
+        let case = Case::known("largest", section.encode(), 0, 0);
+        let ask = |index: &[u64], fills: bool| {
             let calls = Calls {
                 case: &case,
                 known: Known::of(&case, &section, index),
                 index,
                 addresses: &addresses,
             };
+            if fills {
+                assert_eq!((calls.fill(entries - 1), calls.fill(entries + 3)), (24, 0));
+            }
             calls.find_all(5 * addresses.len()).0
         };
-        let calls = Calls {
-            case: &case,
-            known: Known::of(&case, &section, &index),
-            index: &index,
-            addresses: &addresses,
-        };
-        assert_eq!((calls.fill(entries - 1), calls.fill(entries + 3)), (24, 0));
-        assert_eq!(asks(&index), 0);
-        assert_eq!(asks(&index[..entries - 1]), 29);
-        assert_eq!(asks(&index[..entries - 2]), 29);
-        assert_eq!(asks(&[&index[..], &[0]].concat()), 29);
-        for at in [
-            0,
-            1,
-            entries / 2,
-            entries - 2,
-            entries - 1,
-            rng.below(entries),
-        ] {
+        assert_eq!(ask(&index, true), 0);
+        let longer = [&index[..], &[0]].concat();
+        for other in [&index[..entries - 1], &index[..entries - 2], &longer] {
+            assert_eq!(ask(other, false), 29);
+        }
+        for at in [0, 1, entries / 2, entries - 2, entries - 1] {
             let mut changed = index.clone();
             changed[at] = changed[at].wrapping_add(1);
-            assert_eq!(asks(&changed), 29, "{at}");
+            assert_eq!(ask(&changed, false), 29, "{at}");
         }
     }
-    say(&format!(
-        "{} sections of the largest length",
-        SECTIONS.len()
-    ));
+    let count = SECTIONS.len();
+    say(&format!("{count} sections of the largest length"));
 }
 
 /// The answers to 100,000 addresses in one call are those of the plain walk of the index that the

@@ -18,7 +18,8 @@ const DUE: [usize; 23] = [
     0, 1, 2, 3, 4, 5, 6, 7, 8, 9, 10, 12, 13, 14, 15, 16, 17, 18, 19, 20, 21, 25, 26,
 ];
 
-/// How often each number was the answer; how often 27, 29 and 25 came where the list was bad too.
+/// How often each number was the answer; how often 27 was that of a list which is refused without an index
+/// too, and 29 that of one which is 25.
 type Counts = [u64; NUMBERS + 2];
 
 /// The frames of a thread, and the index that is handed in.
@@ -52,23 +53,38 @@ impl Moves for Indexed<'_> {
     }
 }
 
-/// A random list, the bytes of its section, an index, and what is known: number and place.
-fn case(rng: &mut Rng) -> (Thread, Vec<u8>, Vec<u64>, Option<(u64, u64)>) {
-    let mut thread = Thread::any(rng);
-    // Version 1 is only ever 27: most are of version 3.
-    while thread.scene.section.version == Version::One && !rng.one_in(8) {
-        thread = Thread::any(rng);
-    }
+/// A list, the bytes of its section, an index, and what is known: number and place.
+struct Case {
+    thread: Thread,
+    section: Vec<u8>,
+    index: Vec<u64>,
+    known: Option<(u64, u64)>,
+}
+
+/// An index of the list's section, mostly the right one, and the answer where nothing else is wrong.
+fn index(rng: &mut Rng, thread: &Thread) -> (Vec<u64>, (u64, u64)) {
     let section = &thread.scene.section;
     let index = match rng.below(3) {
         0 => indexes::any(rng, section),
         _ => right(section),
     };
-    let mut known = Some(match section.version {
+    let known = match section.version {
         Version::One => (27, 0),
         Version::Three if index != right(section) => (29, 0),
         Version::Three => thread.answer(),
-    });
+    };
+    (index, known)
+}
+
+/// A random one.
+fn case(rng: &mut Rng) -> Case {
+    let mut thread = Thread::any(rng);
+    // Version 1 is only ever 27: most are of version 3.
+    while thread.scene.section.version == Version::One && !rng.one_in(8) {
+        thread = Thread::any(rng);
+    }
+    let (index, known) = index(rng, &thread);
+    let mut known = Some(known);
     for number in [14, 13] {
         if rng.one_in(24) && aim(rng, number, &mut thread.scene, 0).is_some() {
             known = Some((number, 0));
@@ -89,12 +105,22 @@ fn case(rng: &mut Rng) -> (Thread, Vec<u8>, Vec<u64>, Option<(u64, u64)>) {
         }
         _ => {}
     }
-    (thread, built.bytes, index, known)
+    Case {
+        thread,
+        section: built.bytes,
+        index,
+        known,
+    }
 }
 
 /// Moves a random list with an index, and compares all that is known of it.
 fn run(rng: &mut Rng, counts: &mut Counts) {
-    let (thread, section, index, known) = case(rng);
+    let Case {
+        thread,
+        section,
+        index,
+        known,
+    } = case(rng);
     let list = thread.list();
     let frames = Indexed {
         frames: &list,
@@ -114,7 +140,8 @@ fn run(rng: &mut Rng, counts: &mut Counts) {
     }
 }
 
-/// With the right index the answer and the image are those without one; with another the list is as it was.
+/// With the right index the answer and the image are those without one; and what comes before 27 and 29 is
+/// no answer without one.
 fn expect_as_without(call: &Call<Indexed>, outcome: &Outcome, plain: &Outcome) {
     let as_without = match outcome.number {
         27 | 29 => ![1, 2, 3, 4, 5, 6, 7, 8, 9, 13, 14].contains(&plain.number),

@@ -112,11 +112,10 @@ fn a_lookup_gives_the_first_record_its_function_and_how_many_share_it() {
     assert_eq!(by_index(&row_c(), &[], 0), refusal(10, 0));
 }
 
-/// An index handed in is the section's, to the last entry, or it is 29; and 29
-/// comes before 10.
-#[test]
-fn every_other_index_is_29() {
-    let mut wrong = vec![vec![], SHUFFLED.repeat(2), vec![0; 14]];
+/// Lists with a number changed, numbers cut off at either end, and a record left
+/// out.
+fn changed_and_cut() -> Vec<Vec<u64>> {
+    let mut wrong = vec![];
     for nth in 0..14 {
         for other in [SHUFFLED[nth] ^ 1, SHUFFLED[nth] + 1, u64::MAX] {
             let mut changed = SHUFFLED.to_vec();
@@ -129,6 +128,12 @@ fn every_other_index_is_29() {
         missing.drain(nth / 2 * 2..nth / 2 * 2 + 2);
         wrong.push(missing);
     }
+    wrong
+}
+
+/// Lists with two numbers or two records exchanged, and with a record twice.
+fn exchanged_and_doubled() -> Vec<Vec<u64>> {
+    let mut wrong = vec![];
     for (one, other) in (0..14).flat_map(|one| (0..one).map(move |other| (one, other))) {
         let mut exchanged = SHUFFLED.to_vec();
         exchanged.swap(one, other);
@@ -145,6 +150,16 @@ fn every_other_index_is_29() {
             wrong.push(doubled);
         }
     }
+    wrong
+}
+
+/// An index handed in is the section's, to the last entry, or it is 29; and 29
+/// comes before 10.
+#[test]
+fn every_other_index_is_29() {
+    let mut wrong = vec![vec![], SHUFFLED.repeat(2), vec![0; 14]];
+    wrong.extend(changed_and_cut());
+    wrong.extend(exchanged_and_doubled());
     for more in [&[0][..], &[0x310, 1], &[0x310, 0], &[u64::MAX, u64::MAX]] {
         wrong.push([&SHUFFLED[..], more].concat());
     }
