@@ -181,6 +181,83 @@ treskibben_live_out_answer treskibben_live_out(const uint8_t *section, size_t le
                                                uint64_t record, uint64_t live_out);
 
 /*
+ * An address index.
+ *
+ * An index of a section is a list of 64-bit numbers, two a record: its address and its number, by turns,
+ * ordered by address and then by number. One is filled once and then asked many addresses at a time, by
+ * halving, in one walk of the section: treskibben_find walks it anew for each. Only version 3 has addresses;
+ * version 1 gives 27, whatever else is lent.
+ *
+ * An index that is lent to a call has to be the written part of the list and nothing beyond it: any
+ * other list than exactly the entries that this section yields is refused by 29, also one that is
+ * longer, shorter or in another order. Each call tests it, in the walk of the check. The index of a
+ * section without records is empty.
+ *
+ * `section` is lent as to treskibben_check; an index and a list of addresses as a list to
+ * treskibben_relocate, and may share their bytes; a list that is written as an output to a conversion: no
+ * pointer may be NULL, all of them must be aligned, and a written list shares no byte with anything else
+ * that is lent.
+ */
+
+/*
+ * Fills an index of a section. `index` has room for `index_length` numbers; `value` is how many are
+ * written, twice the number of records. Numbers beyond those are left untouched, and all are on a
+ * refusal. A list of (length - 16) / 12 numbers is never too short. The answer is the first of these that
+ * holds, in this order:
+ *
+ *   number  when                                                     place
+ *   1 to 9  the refusal that treskibben_check gives the section      as there
+ *   27      the section is of version 1                              0
+ *   24      index_length below twice the number of records           0
+ *   0       the index is written                                     0
+ *
+ * Records that lie in address order already are not sorted, which is the cheaper case by far.
+ */
+treskibben_answer treskibben_fill_index(const uint8_t *section, size_t length, uint64_t *index,
+                                        size_t index_length);
+
+/*
+ * The question by address, asked through an index of `index_length` numbers: all fields are those of
+ * treskibben_find. The answer is the first of these that holds, in this order:
+ *
+ *   number  when                                                     place
+ *   1 to 9  the refusal that treskibben_check gives the section      as there
+ *   27      the section is of version 1                              0
+ *   29      index isn't exactly the entries that the section yields  0
+ *   10      no record has the address                                0
+ *   0       the question is answered                                 0
+ *
+ * The section is checked and the index tested at each call, so that a single question is not faster
+ * than by treskibben_find. Ask many by treskibben_find_all_by_index.
+ */
+treskibben_find_answer treskibben_find_by_index(const uint8_t *section, size_t length,
+                                                const uint64_t *index, size_t index_length,
+                                                uint64_t address);
+
+/*
+ * The question by address for each of `address_count` addresses, asked through an index. The section is
+ * checked and the index tested once.
+ *
+ * `answers` has room for `answers_length` numbers. Five are written for each address, in the order of the
+ * addresses: number, place, index, function and sharing, the fields of a treskibben_find_answer, so that an
+ * array of those can be lent. Where no record has the address, the number in the list is 10 and the others
+ * are 0; that is no refusal of the call. `value` is how many numbers are written, five times
+ * `address_count`. Numbers beyond those are left untouched, and all are on a refusal. The answer is the
+ * first of these that holds, in this order:
+ *
+ *   number  when                                                     place
+ *   1 to 9  the refusal that treskibben_check gives the section      as there
+ *   27      the section is of version 1                              0
+ *   29      index isn't exactly the entries that the section yields  0
+ *   24      answers_length below five times address_count            0
+ *   0       the answers are written                                  0
+ */
+treskibben_answer treskibben_find_all_by_index(const uint8_t *section, size_t length,
+                                               const uint64_t *index, size_t index_length,
+                                               const uint64_t *addresses, size_t address_count,
+                                               uint64_t *answers, size_t answers_length);
+
+/*
  * Conversions between a section and its listing.
  *
  * A listing says what a section says, without header, counts of locations and live-outs, zeros and
@@ -362,6 +439,29 @@ treskibben_answer treskibben_thread(const uint8_t *section, size_t length, uint8
                                     const uint64_t *old_starts, size_t old_count,
                                     const uint64_t *new_starts, size_t new_count,
                                     const uint64_t *frames, size_t frames_length);
+
+/*
+ * Moves the pointers of a whole thread as treskibben_thread does, all of its frames or none, with an index
+ * of the section: `index_length` numbers at `index`, lent as the other lists are. With the right index the
+ * answer and the image are those of treskibben_thread, whatever the frames.
+ *
+ * The index is tested once, between 14 and 25:
+ *
+ *   number  when                                                     place
+ *   1 to 9, 13, 14                                                   as for treskibben_thread
+ *   27      the section is of version 1                              0
+ *   29      index isn't exactly the entries that the section yields  0
+ *   25, the first refused frame's own, 26, 0                         as for treskibben_thread
+ *
+ * An empty index is one that is handed in: it is the right one of a section without records, and 29 for any
+ * other. To hand in none, call treskibben_thread.
+ */
+treskibben_answer treskibben_thread_by_index(const uint8_t *section, size_t length, uint8_t *image,
+                                             size_t image_length, uint64_t first,
+                                             const uint64_t *old_starts, size_t old_count,
+                                             const uint64_t *new_starts, size_t new_count,
+                                             const uint64_t *frames, size_t frames_length,
+                                             const uint64_t *index, size_t index_length);
 
 /*
  * Flat sections.

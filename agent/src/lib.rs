@@ -3,8 +3,9 @@
 //!
 //! [`check`] says whether a section keeps the layout, and of one that doesn't, which rule it breaks
 //! and at which byte. The questions read a section without decoding it: [`find`] a record by its
-//! address, [`record()`] its bytes, [`location()`] and [`live_out`] what they say. [`to_listing`]
-//! writes a section as a plain row of items, and [`to_section`] writes the section again.
+//! address, [`record()`] its bytes, [`location()`] and [`live_out`] what they say. An [`Index`] of a
+//! section is for many addresses at a time. [`to_listing`] writes a section as a plain row of items,
+//! and [`to_section`] writes the section again.
 //! [`relocate()`] moves the pointers of one stopped frame in a copy of its stack, and
 //! [`relocate_thread`] those of a whole thread, all of its frames or none. Every slice of bytes gets
 //! an answer; none makes a function panic, read or write beyond its slices or run without end.
@@ -34,6 +35,7 @@ mod conversions;
 #[allow(unsafe_code)]
 mod ffi;
 pub mod flat;
+mod index;
 mod questions;
 mod refusal;
 mod relocate;
@@ -41,6 +43,7 @@ mod thread;
 
 pub use answers::{Found, LiveOut, Location, LocationKind};
 pub use conversions::{listing_of, section_of, to_listing, to_section};
+pub use index::{fill_index, Index};
 pub use questions::{find, find_in_function, live_out, location, record};
 pub use refusal::Refusal;
 pub use relocate::{relocate, Frame, MoveTable};

@@ -9,7 +9,8 @@ use crate::{ffi, Refusal};
 ///
 /// A record's address is its function's address plus its instruction offset. Several records may
 /// have the same; the answer says how many. The question is for version 3: version 1 doesn't say which
-/// function has a record, and has [`find_in_function`] instead.
+/// function has a record, and has [`find_in_function`] instead. Many addresses are asked for at a time
+/// through an [`Index`](crate::Index).
 ///
 /// # Errors
 ///
@@ -182,7 +183,7 @@ pub fn live_out(section: &[u8], record: u64, number: u64) -> Result<LiveOut, Ref
 }
 
 /// The answer of a search, or its refusal.
-fn found(answer: ffi::Found) -> Result<Found, Refusal> {
+pub(crate) fn found(answer: ffi::Found) -> Result<Found, Refusal> {
     answer.verdict.accepted()?;
     Ok(Found {
         record: answer.index,

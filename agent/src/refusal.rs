@@ -15,7 +15,7 @@ pub struct Refusal {
 }
 
 /// The cause of each refusal; the first is number 1.
-const CAUSES: [&str; 28] = [
+const CAUSES: [&str; 29] = [
     "section under 16 or over 16,777,216 bytes, or listing over 33,554,432 bytes",
     "version neither 1 nor 3",
     "a byte required to be zero isn't",
@@ -44,6 +44,7 @@ const CAUSES: [&str; 28] = [
     "extent shares a byte with that of an earlier frame",
     "question by address of version 1, or by function and offset of version 3",
     "version 1 listing with a record count not 0 or a size over 255",
+    "index isn't exactly the entries that the section yields",
 ];
 
 /// The causes of a flat section's refusals; the first is number 36.
@@ -134,6 +135,7 @@ mod tests {
             (26, "earlier frame"),
             (27, "question by address"),
             (28, "version 1 listing"),
+            (29, "index isn't exactly"),
             (36, "under 32"),
             (37, "version not 2"),
             (38, "aligned place"),
@@ -152,7 +154,7 @@ mod tests {
 
     #[test]
     fn numbers_beyond_the_table_still_print() {
-        for number in [0, 29, 35, 42, u64::MAX] {
+        for number in [0, 30, 35, 42, u64::MAX] {
             let text = Refusal::new(number, 4).to_string();
             assert!(
                 text.starts_with(&format!("refused {number} at 4: a cause")),

@@ -85,7 +85,7 @@ impl ThreadRefusal {
     }
 
     /// The position in the list of the frame that is to blame, counted from 0. `None` where the
-    /// section, the image, the table or the list as a whole is.
+    /// section, the image, the table, an index or the list as a whole is.
     pub fn position(&self) -> Option<usize> {
         let of_frame = matches!(self.number(), 10 | 12 | 15..=21 | 26);
         let position = usize::try_from(self.place()).ok();
@@ -172,7 +172,12 @@ pub fn relocate_thread<'a>(
     frames: impl Into<Frames<'a>>,
 ) -> Result<usize, ThreadRefusal> {
     let (olds, news) = (table.old_starts(), table.new_starts());
-    let answer = ffi::thread(section, image, first, olds, news, frames.into().numbers);
+    let frames = frames.into().numbers;
+    pairs(ffi::thread(section, image, first, olds, news, frames))
+}
+
+/// The sum of the pairs of a thread that is moved, or the refusal.
+pub(crate) fn pairs(answer: ffi::Answer) -> Result<usize, ThreadRefusal> {
     let pairs = answer
         .outcome()
         .map_err(|refusal| ThreadRefusal { refusal })?;

@@ -1,5 +1,5 @@
 //! Sections that LLVM itself wrote. `llvm/build` compiles small programs for two targets at two levels, and for each
-//! section the proved check, questions and conversions, the second implementation and llvm-readobj must agree.
+//! section the proved check, questions, index and conversions, the second implementation and llvm-readobj must agree.
 
 #[path = "llvm/asked.rs"]
 mod asked;
@@ -7,6 +7,8 @@ mod asked;
 mod compare;
 #[path = "llvm/coverage.rs"]
 mod coverage;
+#[path = "llvm/indexed.rs"]
+mod indexed;
 #[path = "llvm/listed.rs"]
 mod listed;
 #[path = "llvm/readobj.rs"]
@@ -45,6 +47,23 @@ fn every_section_is_accepted_and_read_as_llvm_prints_it() {
         assert_eq!(verdict(name, bytes), None, "{name}");
         compared(name, bytes, printed);
     }
+}
+
+/// The index is what the printed text yields, by both implementations, and no list that is nearly so is one.
+#[test]
+fn every_section_has_the_index_that_llvm_prints() {
+    let mut records = 0;
+    for Built { name, bytes, printed, .. } in sections::single() {
+        let printed = readobj::parse(printed).unwrap();
+        let told = |fault| panic!("{name}, index: {fault}");
+        indexed::compare(bytes, &printed).unwrap_or_else(told);
+        indexed::refuses_others(bytes, &printed).unwrap_or_else(told);
+        let mut second = vec![0; 2 * printed.records.len()];
+        assert_eq!(reference::fill_index(bytes, &mut second), Ok(second.len() as u64), "{name}");
+        assert_eq!(second, indexed::entries(&printed), "{name}");
+        records += printed.records.len();
+    }
+    assert!(records > 100, "only {records} records");
 }
 
 /// Without this the tests could become empty unseen.

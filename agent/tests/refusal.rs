@@ -179,6 +179,14 @@ fn refused_threads() -> [Refusal; 2] {
     [refused(4_097), refused(2)]
 }
 
+/// A list that is no index of its section.
+fn refused_index() -> Refusal {
+    let section = section([0, 0, 0], &[]);
+    treskibben::Index::from_entries(&section, vec![0, 0])
+        .find(0)
+        .unwrap_err()
+}
+
 /// A refusal of a flat section for each number: too short, of another version, misplaced, with a range that
 /// reaches past its array, with a reserved bit, and an address that no record has.
 fn refused_flat() -> [Refusal; 6] {
@@ -205,7 +213,7 @@ fn the_words_are_those_of_the_table() {
     let table = table(include_str!("../../docs/REFUSALS.md"));
     assert_eq!(
         table.keys().copied().collect::<Vec<u64>>(),
-        (1..=28).chain(36..=41).collect::<Vec<u64>>()
+        (1..=29).chain(36..=41).collect::<Vec<u64>>()
     );
     let section = section([0, 0, 0], &[]);
     let record = with_location([0; 8], [1, 0, 8, 0, 3, 0, 0, 0, 0, 0, 0, 0]);
@@ -218,6 +226,7 @@ fn the_words_are_those_of_the_table() {
     told.extend(refused_listings());
     told.extend(refused_frames());
     told.extend(refused_threads());
+    told.push(refused_index());
     told.extend(refused_flat());
     let told: BTreeMap<u64, String> = told
         .iter()

@@ -3,11 +3,12 @@
 //!
 //! `cargo --offline run --release -p bench [ROUNDS] [--svg DIR]`; with a folder, the rows are drawn there too.
 //! `cargo --offline run --release -p bench reads [ROUNDS]` measures the two ways to read eight bytes, and nothing else;
-//! with `flat` instead of `reads`, flat sections and nothing else.
+//! with `flat` instead of `reads`, flat sections and nothing else, and with `index`, address indexes.
 
 mod conversions;
 mod flat;
 mod frame;
+mod index;
 mod measure;
 mod parser;
 mod reads;
@@ -46,6 +47,7 @@ fn main() {
         ["reads", "--once", way] => reads::once(way, &section::build(LIMIT)),
         ["reads", ref rest @ ..] => reads::rows(rounds(rest), &section::build(LIMIT)),
         ["flat", ref rest @ ..] => flat::rows(rounds(rest), LIMIT),
+        ["index", ref rest @ ..] => index::rows(rounds(rest), LIMIT),
         ref rest => all(rounds(rest)),
     }
 }
@@ -63,7 +65,7 @@ fn rounds(words: &[&str]) -> usize {
     match asked {
         Some(rounds) if rounds >= FEWEST => return rounds,
         Some(_) => eprintln!("bench: fewer than {FEWEST} rounds give no steady median"),
-        None => eprintln!("bench: [reads|flat] [ROUNDS] is what can be asked, and not `{}`", words.join(" ")),
+        None => eprintln!("bench: [reads|flat|index] [ROUNDS] is what can be asked, and not `{}`", words.join(" ")),
     }
     std::process::exit(2);
 }
@@ -78,6 +80,7 @@ fn all(rounds: usize) {
     frame::rows(rounds, &bytes);
     version_1::rows(rounds, &bytes);
     thread::rows(rounds, &bytes, LIMIT);
+    index::rows(rounds, LIMIT);
     flat::rows(rounds, LIMIT);
 }
 

@@ -6,6 +6,7 @@ mod completions;
 mod cut;
 mod find;
 mod flat;
+mod index;
 mod list;
 mod restore;
 
@@ -18,6 +19,7 @@ pub enum Command {
     List(list::Arguments),
     Build(build::Arguments),
     Find(find::Arguments),
+    Index(index::Arguments),
     Cut(cut::Arguments),
     Flat(flat::Arguments),
     Restore(restore::Arguments),
@@ -34,7 +36,7 @@ impl Command {
             Command::Cut(arguments) => arguments.json,
             Command::Flat(arguments) => arguments.json(),
             Command::Restore(arguments) => arguments.json,
-            Command::Build(_) | Command::Completions(_) => false,
+            Command::Build(_) | Command::Index(_) | Command::Completions(_) => false,
         };
         if json {
             Voice::Json
@@ -50,6 +52,7 @@ impl Command {
             Command::List(arguments) => list::run(&arguments, voice),
             Command::Build(arguments) => build::run(&arguments),
             Command::Find(arguments) => find::run(&arguments, voice),
+            Command::Index(arguments) => index::run(&arguments),
             Command::Cut(arguments) => cut::run(&arguments, voice),
             Command::Flat(arguments) => flat::run(&arguments, voice),
             Command::Restore(arguments) => restore::run(&arguments, voice),

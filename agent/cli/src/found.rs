@@ -3,7 +3,7 @@
 
 use crate::frames::Naming;
 use crate::json;
-use crate::library::{Frame, Refusal};
+use crate::library::{Frame, Index, Refusal};
 use crate::listing::{functions, Listing};
 use crate::lists::Entry;
 use crate::names::shown;
@@ -58,6 +58,30 @@ fn elf(path: &Path) -> String {
         "it is an ELF file: \
          'objcopy --dump-section .llvm_stackmaps=FILE {name} /dev/null' writes its section to FILE"
     )
+}
+
+/// What was found in a section that an index is wanted of.
+pub fn of_indexed(path: &Path, section: &[u8], refusal: Refusal) -> Option<String> {
+    match refusal.number {
+        27 => Some("a section of version 1 has no addresses, and so no index".to_string()),
+        _ => of_section(path, section, refusal),
+    }
+}
+
+/// What 29 found: the first entry of an index that is another than the section's.
+pub fn of_index(index: &Index) -> Option<String> {
+    let (own, right) = (index.entries(), library::index_of(index.section()).ok()?);
+    let right = right.entries();
+    let all = own.len().max(right.len());
+    let other = (0..all).find(|nth| own.get(*nth) != right.get(*nth))?;
+    let found = match (own.get(other), right.get(other)) {
+        (Some(own), Some(right)) => format!("entry {other} is {own:#x}, and not {right:#x}"),
+        _ => {
+            let (own, due) = (count(own.len() as u64, "number"), right.len());
+            format!("it has {own}, and that of the section {due}")
+        }
+    };
+    Some(format!("{found}: 'treskibben index' makes it anew"))
 }
 
 /// What was found in a listing.

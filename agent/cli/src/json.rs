@@ -52,6 +52,15 @@ pub enum Answer<'a> {
         function: Function,
         record: Record,
     },
+    /// `find`: what is found at an address of a list.
+    Located {
+        file: &'a str,
+        line: usize,
+        asked: &'a str,
+        record: u64,
+        function: u64,
+        sharing: u64,
+    },
     /// `cut`: a part, and where it lies in the file.
     Part {
         file: &'a str,

@@ -12,8 +12,8 @@ pub struct Refusal {
     pub cause: &'static str,
 }
 
-/// The record that is found, and a stopped frame.
-pub use treskibben::{Found, Frame};
+/// The record that is found, a stopped frame, and an index with its section.
+pub use treskibben::{Found, Frame, Index};
 
 impl From<treskibben::Refusal> for Refusal {
     fn from(refusal: treskibben::Refusal) -> Refusal {
@@ -42,6 +42,22 @@ pub fn find(section: &[u8], address: u64) -> Result<Found, Refusal> {
 /// no record at the offset.
 pub fn find_in_function(section: &[u8], function: u64, offset: u64) -> Result<Found, Refusal> {
     Ok(treskibben::find_in_function(section, function, offset)?)
+}
+
+/// The index of a section: 27 of version 1.
+pub fn index_of(section: &[u8]) -> Result<Index<'_>, Refusal> {
+    Ok(Index::of(section)?)
+}
+
+/// The question by address through an index: 27 of a version 1 section, 29 of a list that is no index of
+/// it, 10 where no record has the address.
+pub fn find_by_index(index: &Index, address: u64) -> Result<Found, Refusal> {
+    Ok(index.find(address)?)
+}
+
+/// The same for many addresses; none where no record has one.
+pub fn find_all(index: &Index, addresses: &[u64]) -> Result<Vec<Option<Found>>, Refusal> {
+    Ok(index.find_all(addresses)?)
 }
 
 /// The listing of a section.

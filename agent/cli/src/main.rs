@@ -12,6 +12,7 @@ mod files;
 mod flat;
 mod found;
 mod frames;
+mod index;
 mod json;
 mod library;
 mod listing;

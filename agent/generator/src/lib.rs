@@ -1,16 +1,18 @@
-//! Random stack map sections and listings for tests and benchmarks, of versions 1 and 3, and flat
-//! sections: whole ones, and damaged ones.
+//! Random stack map sections, listings and address indexes for tests and benchmarks, of versions 1 and
+//! 3, and flat sections: whole ones, and damaged ones.
 //!
 //! Everything is made from a seed, so that a run can be had again. The encoder is this package's
 //! own: where it says what a section must be answered, that is one more opinion beside those of
 //! the library and of the second implementation.
 
 pub mod aimed;
+pub mod arranged;
 pub mod asked;
 pub mod damage;
 pub mod edges;
 pub mod flat;
 pub mod frames;
+pub mod indexes;
 pub mod largest;
 pub mod layout;
 pub mod listings;

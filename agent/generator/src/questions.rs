@@ -213,7 +213,7 @@ fn number(rng: &mut Rng, count: usize) -> u64 {
 
 /// The address of a record; or one beside it, one where a narrower number would be equal, that of
 /// a function, or one that has nothing to do with the section.
-fn address(rng: &mut Rng, section: &Section) -> u64 {
+pub fn address(rng: &mut Rng, section: &Section) -> u64 {
     let nth = rng.below(section.records.len().max(1));
     let there = addresses(section).nth(nth).map_or(0, |(_, own)| own);
     match rng.below(16) {

@@ -2,9 +2,9 @@
 //! alone and compared with the proved one.
 //!
 //! It reads sections in the stack map layouts of versions 1 and 3, answers
-//! questions on them, turns them into listings and back, relocates the pointers
-//! of one stopped frame or of a whole thread, and holds what the small program
-//! writes. It also reads and looks up the flat proposal's sections, which have
+//! questions on them, also through an address index, turns them into listings
+//! and back, relocates the pointers of one stopped frame or of a whole thread,
+//! and holds what the small program writes. It also reads and looks up the flat proposal's sections, which have
 //! a layout of their own ([`flat`]).
 //!
 //! Every function answers every input: with a result, or with a [`Refusal`]
@@ -16,6 +16,7 @@
 
 mod bytes;
 pub mod flat;
+pub mod index;
 pub mod listing;
 pub mod program;
 pub mod questions;
@@ -26,19 +27,20 @@ pub mod thread;
 #[cfg(test)]
 mod fixtures;
 
+pub use index::{all_by_index, by_index, fill_index};
 pub use listing::{to_listing, to_section};
 pub use program::run;
 pub use questions::{by_address, by_function, live_out, location, record, Found, LocationAnswer};
 pub use relocate::{extent, relocate, Frame};
 pub use section::{check, encode, encode_version_1, read};
 pub use section::{Function, LiveOut, Location, Record, RecordData, Section, Version};
-pub use thread::thread;
+pub use thread::{thread, thread_by_index};
 
 /// Why a call was refused: the number of the line in the refusal table, and
 /// the place that line names.
 #[derive(Clone, Copy, Debug, PartialEq, Eq)]
 pub struct Refusal {
-    /// The refusal's number, 1 to 28 or, of a flat section, 36 to 41.
+    /// The refusal's number, 1 to 29 or, of a flat section, 36 to 41.
     pub number: u64,
     /// The refusal's place: a byte, a pair, a frame's position in a list, or 0
     /// where its line has none.

@@ -7,8 +7,11 @@
 #[cfg(test)]
 mod tests;
 #[cfg(test)]
+mod tests_index;
+#[cfg(test)]
 mod tests_version_1;
 
+use crate::index::check_index;
 use crate::relocate::{check_image, check_table, judge, Frame, Plan};
 use crate::section::read;
 use crate::Refusal;
@@ -33,9 +36,43 @@ pub fn thread(
     new_starts: &[u64],
     list: &[u64],
 ) -> Result<u64, Refusal> {
+    moved(section, image, first, [old_starts, new_starts], list, None)
+}
+
+/// Relocates the frames of a list as [`thread`] does, and tests an index that
+/// is handed in with them, once: 27 and then 29 come between 14 and 25. With
+/// the right index the answer and the image are those of [`thread`].
+///
+/// The empty list is an index too, the right one of a section without records.
+pub fn thread_by_index(
+    section: &[u8],
+    image: &mut [u8],
+    first: u64,
+    old_starts: &[u64],
+    new_starts: &[u64],
+    list: &[u64],
+    index: &[u64],
+) -> Result<u64, Refusal> {
+    let table = [old_starts, new_starts];
+    moved(section, image, first, table, list, Some(index))
+}
+
+/// Relocates the frames of a list, with an index or without. The table is the
+/// old starts and the new ones.
+fn moved(
+    section: &[u8],
+    image: &mut [u8],
+    first: u64,
+    [old_starts, new_starts]: [&[u64]; 2],
+    list: &[u64],
+    index: Option<&[u64]>,
+) -> Result<u64, Refusal> {
     let section = read(section)?;
     check_image(image, first)?;
     check_table(old_starts, new_starts)?;
+    if let Some(index) = index {
+        check_index(&section, index)?;
+    }
     let (frames, rest) = list.as_chunks::<4>();
     if !rest.is_empty() || frames.len() > MAX_FRAMES {
         return Err(Refusal::at(25, 0));

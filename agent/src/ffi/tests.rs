@@ -4,8 +4,9 @@ use super::*;
 use generator::frames::faults::{aim, NUMBERS};
 use generator::frames::thread::Thread;
 use generator::frames::Scene;
+use generator::indexes;
 use generator::layout::Version;
-use generator::questions::{question, Question};
+use generator::questions::{address, question, Question};
 use generator::{case_of, crowded_in, listings, section_in, Rng};
 
 /// The verdict of a search, and whether all other fields are 0.
@@ -60,6 +61,41 @@ fn a_refused_answer_has_zeros_and_an_accepted_one_no_place() {
         assert_eq!(answer.value, 0, "{:?}", case.bytes);
     }
     for number in (0..12).chain([27]) {
+        assert!(counts[number] > 100, "{number}: {counts:?}");
+    }
+}
+
+#[test]
+fn a_refused_call_with_an_index_has_zeros_and_an_accepted_one_no_place() {
+    let mut rng = Rng::new(1);
+    let mut counts = [0; 30];
+    for _ in 0..20_000 {
+        let version = rng.pick(&[Version::One, Version::Three, Version::Three]);
+        let section = crowded_in(&mut rng, version);
+        let bytes = case_of(&mut rng, &section).bytes;
+        let own = indexes::any(&mut rng, &section);
+        let asked = [address(&mut rng, &section), address(&mut rng, &section)];
+        let (mut list, mut answers) = (vec![9; rng.below(20)], vec![9; 8 + rng.below(3)]);
+        let (it, zeros) = found(index::find(&bytes, &own, asked[0]));
+        counts[it.number as usize] += 1;
+        assert!(it.number == 0 || zeros, "{own:x?} of {bytes:?}");
+        assert!(it.number != 0 || it.place == 0, "{own:x?} of {bytes:?}");
+        for (answer, written) in [
+            (index::fill(&bytes, &mut list), 2 * section.records.len()),
+            (index::find_all(&bytes, &own, &asked, &mut answers), 10),
+        ] {
+            counts[answer.verdict.number as usize] += 1;
+            let (place, value) = match answer.verdict.number {
+                0 => (0, written as u64),
+                _ => (answer.verdict.place, 0),
+            };
+            let told = (answer.verdict.place, answer.value);
+            // What is damaged and yet accepted may have another number of records.
+            let known = bytes == section.encode() || answer.verdict.number != 0;
+            assert!(!known || told == (place, value), "{own:x?} of {bytes:?}");
+        }
+    }
+    for number in (0..11).chain([24, 27, 29]) {
         assert!(counts[number] > 100, "{number}: {counts:?}");
     }
 }
@@ -125,8 +161,8 @@ fn a_refused_move_has_0_pairs_and_an_accepted_one_no_place() {
 #[test]
 fn a_refused_thread_has_0_pairs_and_an_accepted_one_no_place() {
     let mut rng = Rng::new(1);
-    let mut counts = [0; 27];
-    for _ in 0..20_000 {
+    let mut counts = [0; 30];
+    for _ in 0..30_000 {
         let mut list = Thread::any(&mut rng);
         if rng.one_in(4) {
             let number = rng.pick(&[13, 14]);
@@ -135,21 +171,21 @@ fn a_refused_thread_has_0_pairs_and_an_accepted_one_no_place() {
         let (section, frames) = (list.scene.section.encode(), list.list());
         let mut image = list.scene.image.clone();
         let (first, table) = (list.scene.first, &list.scene.table);
-        let answer = thread(
-            &section,
-            &mut image,
-            first,
-            &table.olds,
-            &table.news,
-            &frames,
-        );
+        let (olds, news) = (&table.olds, &table.news);
+        let answer = match rng.below(2) {
+            0 => thread(&section, &mut image, first, olds, news, &frames),
+            _ => {
+                let own = indexes::any(&mut rng, &list.scene.section);
+                index::thread(&section, &mut image, first, olds, news, &frames, &own)
+            }
+        };
         counts[answer.verdict.number as usize] += 1;
         match answer.verdict.number {
             0 => assert_eq!(answer.verdict.place, 0, "{list:?}"),
             _ => assert_eq!(answer.value, 0, "{list:?}"),
         }
     }
-    for number in NUMBERS.into_iter().chain([0, 25, 26]) {
+    for number in NUMBERS.into_iter().chain([0, 25, 26, 27, 29]) {
         assert!(counts[number as usize] > 100, "{number}: {counts:?}");
     }
 }

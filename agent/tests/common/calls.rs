@@ -119,6 +119,7 @@ impl Moves for &[u64] {
 
 impl<'a> Call<'a, Frame> {
     /// The move of a frame of the scene, whose section has these bytes.
+    #[allow(dead_code)] // Not every test moves single frames.
     pub fn of(scene: &'a Scene, section: &'a [u8], stop: usize) -> Call<'a, Frame> {
         let Stop {
             address,
@@ -150,7 +151,7 @@ impl<'a, F> Call<'a, F> {
         }
     }
 
-    fn table(&self) -> MoveTable<'a> {
+    pub fn table(&self) -> MoveTable<'a> {
         MoveTable::new(self.olds, self.news)
     }
 }

@@ -1,20 +1,26 @@
-//! `find`: the record at an address, or at an offset in a function.
+//! `find`: the record at an address, or at an offset in a function; or those at many addresses.
 
-use crate::library::{Found, Refusal};
+mod many;
+
+use crate::library::{Found, Index, Refusal};
 use crate::listing::Listing;
 use crate::numbers::{address, in_function};
 use crate::registers::Machine;
 use crate::text::{self, Title};
 use crate::trouble::{Status, Trouble, Voice};
-use crate::{files, found, json, library, output};
+use crate::{files, found, index, json, library, output};
 use std::fmt;
 use std::io::{self, Write};
-use std::path::PathBuf;
+use std::path::{Path, PathBuf};
 
 /// Say which record has an address, and what it says
 ///
 /// Looks for the first record of a section that has the address, and tells how many have it; then
 /// what the section says of the record and of its function. 10 is said where no record has it.
+///
+/// With --addresses all addresses of a list are looked up at once, through an index of the section. A
+/// line tells what is found at each; where there is no record, 10 is said on standard error, with the
+/// record that lies nearest. The worst answer is the exit status.
 ///
 /// A section of version 1 is asked by the number of a function, in decimal, and an offset, in
 /// hexadecimal: 0+0x20. It doesn't say which function has a record, so that every function finds the
@@ -26,35 +32,72 @@ pub struct Arguments {
     #[arg(value_name = "FILE")]
     file: PathBuf,
     /// An address, hexadecimal with or without 0x; of version 1 FUNCTION+OFFSET
-    #[arg(value_name = "ADDRESS", value_parser = asked)]
-    asked: Asked,
+    #[arg(value_name = "ADDRESS", value_parser = asked, required_unless_present = "addresses")]
+    asked: Option<Asked>,
+    /// A list of addresses, one a line, instead of the one; '-' is standard input
+    #[arg(long, value_name = "LIST", conflicts_with_all = ["asked", "machine"])]
+    addresses: Option<PathBuf>,
+    /// An index of the section, as 'treskibben index' writes it; 29 is said of any other
+    #[arg(long, value_name = "INDEX")]
+    index: Option<PathBuf>,
     /// Whose register names the text has [default: x86-64]
     #[arg(long, value_name = "NAME", value_enum)]
     machine: Option<Machine>,
-    /// Tell the answer on standard output as one JSON object
+    /// Tell the answer on standard output as one JSON object, and of a list one a line
     #[arg(long)]
     pub json: bool,
 }
 
 pub fn run(arguments: &Arguments, voice: Voice) -> Result<Status, Trouble> {
-    let (file, asked) = (&arguments.file, &arguments.asked);
+    let (file, kept) = (&arguments.file, arguments.index.as_ref());
+    let list = arguments.addresses.as_ref();
+    files::standard_input_once([Some(file), kept, list].into_iter().flatten())?;
+    let kept = kept.map(PathBuf::as_path);
+    match (&arguments.asked, list) {
+        (_, Some(list)) => many::run(file, kept, list, voice),
+        (Some(asked), None) => one(arguments, kept, asked, voice),
+        (None, None) => Err(Trouble::Usage("no address".to_string())),
+    }
+}
+
+/// Tells all of the record that is asked for.
+fn one(
+    arguments: &Arguments,
+    kept: Option<&Path>,
+    asked: &Asked,
+    voice: Voice,
+) -> Result<Status, Trouble> {
+    let file = &arguments.file;
     let machine = arguments.machine.unwrap_or_default();
     let section = files::read(file, files::SECTION)?;
-    let refused = |refusal: Refusal| {
-        let found = match refusal.number {
-            10 => Some(asked.not_there(&section)),
-            _ => found::of_section(file, &section, refusal),
-        };
-        Trouble::refused(file, refusal, found)
+    let index = kept.map(|kept| asked.index(&section, kept)).transpose()?;
+    let told = |refusal: Refusal| match refusal.number {
+        10 => {
+            let none = asked.not_there(&section, index.as_ref());
+            Trouble::refused(file, refusal, Some(none))
+        }
+        _ if index.is_some() => refused(file, kept.zip(index.as_ref()), &section, refusal),
+        _ => Trouble::refused(file, refusal, found::of_section(file, &section, refusal)),
     };
-    let found = asked.find(&section).map_err(refused)?;
-    let listing = library::listing_of(&section).map_err(refused)?;
+    let found = asked.find(&section, index.as_ref()).map_err(told)?;
+    let listing = library::listing_of(&section).map_err(told)?;
     let listing = Listing::read(&listing);
     output::to(None, |out| match voice {
         Voice::Text => describe(out, &listing, asked, &found, machine),
         Voice::Json => json::found(out, file, &asked.to_string(), &listing, &found, machine),
     })?;
     Ok(Status::Done)
+}
+
+/// A file that holds an index, and what it holds.
+type Kept<'a> = Option<(&'a Path, &'a Index<'a>)>;
+
+/// The refusal of a section that is asked through an index, or by 29 of the index.
+fn refused(file: &Path, kept: Kept, section: &[u8], refusal: Refusal) -> Trouble {
+    match (refusal.number, kept) {
+        (29, Some((kept, index))) => Trouble::refused(kept, refusal, found::of_index(index)),
+        _ => Trouble::refused(file, refusal, found::of_indexed(file, section, refusal)),
+    }
 }
 
 /// Where a record is looked for: each version of a section has its own question.
@@ -86,21 +129,55 @@ impl fmt::Display for Asked {
 }
 
 impl Asked {
-    /// Asks the library.
-    fn find(&self, section: &[u8]) -> Result<Found, Refusal> {
-        match *self {
-            Asked::At(address) => library::find(section, address),
-            Asked::In { function, offset } => library::find_in_function(section, function, offset),
+    /// The index that a file holds, which is for addresses alone.
+    fn index<'a>(&self, section: &'a [u8], kept: &Path) -> Result<Index<'a>, Trouble> {
+        match self {
+            Asked::At(_) => Ok(Index::from_entries(section, index::read(kept)?)),
+            Asked::In { .. } => {
+                let why = "an index is for addresses, and not for FUNCTION+OFFSET";
+                Err(Trouble::Usage(why.to_string()))
+            }
         }
     }
 
-    /// What 10 is about, as it was read.
-    fn not_there(&self, section: &[u8]) -> String {
+    /// Asks the library, by the index where there is one.
+    fn find(&self, section: &[u8], index: Option<&Index>) -> Result<Found, Refusal> {
+        match (*self, index) {
+            (Asked::At(address), Some(index)) => library::find_by_index(index, address),
+            (Asked::At(address), None) => library::find(section, address),
+            (Asked::In { function, offset }, _) => {
+                library::find_in_function(section, function, offset)
+            }
+        }
+    }
+
+    /// What 10 is about, as it was read; by an index, with what lies nearest.
+    fn not_there(&self, section: &[u8], index: Option<&Index>) -> String {
         match *self {
-            Asked::At(address) => format!("no record at address {address:#x}"),
+            Asked::At(address) => {
+                let none = format!("no record at address {address:#x}");
+                let near = index.map(|index| index::nearest_records(index, &[address]));
+                [vec![none], near.unwrap_or_default()].concat().join(": ")
+            }
             Asked::In { function, offset } => found::not_in_function(section, function, offset),
         }
     }
+}
+
+/// Which record is found, in one line.
+fn first_line(asked: &Asked, found: &Found) -> String {
+    let (owner, place) = match asked {
+        Asked::At(_) => (format!(" of function {}", found.function), "address"),
+        Asked::In { .. } => (String::new(), "offset"),
+    };
+    let which = match found.sharing {
+        1 => "the only record".to_string(),
+        sharing => format!("the first of {sharing} records"),
+    };
+    format!(
+        "{asked}: record {}{owner}, {which} at this {place}",
+        found.record
+    )
 }
 
 fn describe(
@@ -111,20 +188,11 @@ fn describe(
     machine: Machine,
 ) -> io::Result<()> {
     let (index, function) = (found.record, found.function);
-    let (owner, place, address) = match *asked {
-        Asked::At(address) => (format!(" of function {function}"), "address", Some(address)),
-        Asked::In { .. } => (String::new(), "offset", None),
+    let address = match *asked {
+        Asked::At(address) => Some(address),
+        Asked::In { .. } => None,
     };
-    match found.sharing {
-        1 => writeln!(
-            out,
-            "{asked}: record {index}{owner}, the only record at this {place}"
-        )?,
-        sharing => writeln!(
-            out,
-            "{asked}: record {index}{owner}, the first of {sharing} records at this {place}"
-        )?,
-    }
+    writeln!(out, "{}", first_line(asked, found))?;
     let at = |number: u64| usize::try_from(number).unwrap_or(usize::MAX);
     let Some((_, record)) = listing.records().nth(at(index)) else {
         return Ok(());

@@ -252,11 +252,11 @@ fn wrong_calls_of_find() {
         (vec!["find", "h", "1", "2"], "'2'"),
         (
             vec!["find", "h", "rip"],
-            "'rip' for '<ADDRESS>': not a hexadecimal number of at most 64 bits",
+            "'rip' for '[ADDRESS]': not a hexadecimal number of at most 64 bits",
         ),
         (
             vec!["find", "h", "10000000000000000"],
-            "'10000000000000000' for '<ADDRESS>': not a hexadecimal number of at most 64 bits",
+            "'10000000000000000' for '[ADDRESS]': not a hexadecimal number of at most 64 bits",
         ),
     ] {
         folder.run(arguments).failed("", why);

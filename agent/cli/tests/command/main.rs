@@ -7,6 +7,7 @@ mod document;
 mod fixtures;
 mod flat;
 mod full;
+mod index;
 mod json;
 mod list;
 mod restore;

@@ -5,11 +5,12 @@ use crate::run::{Folder, Ran, PROGRAM};
 use std::path::Path;
 use std::process::{Command, Stdio};
 
-const COMMANDS: [&str; 8] = [
+const COMMANDS: [&str; 9] = [
     "check",
     "list",
     "build",
     "find",
+    "index",
     "cut",
     "flat",
     "restore",
@@ -125,11 +126,14 @@ fn a_reader_that_wants_no_more_is_no_fault() {
     let folder = Folder::new();
     let many = vec![[rsp(8), rsp(8)]; 20_000];
     folder.put("large", of_pairs(24, &many));
+    folder.put("list", "1020\n".repeat(10_000));
     folder.put("maps", row_h().repeat(5_000));
     for line in [
         "$0 list large",
         "$0 list --text large",
         "$0 find large 1020",
+        "$0 find large --addresses list",
+        "$0 index large",
         "$0 build listing",
         "$0 cut maps",
         "$0 check large large large",
@@ -165,10 +169,13 @@ fn a_full_disk_under_standard_output_is_a_fault() {
         "list h",
         "list --text h",
         "find h 1020",
+        "find h --addresses list",
+        "index h",
         "check h",
         "cut h",
         "--help",
     ] {
+        folder.put("list", "1020\n");
         let ran = shell(&folder, &format!("$0 {line} >/dev/full"));
         assert_eq!(ran.status, Some(2), "{line}");
         let start = "treskibben: standard output: cannot be written: No space left";

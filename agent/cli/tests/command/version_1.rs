@@ -138,7 +138,7 @@ fn each_version_has_its_question() {
         let why = "not a decimal number, '+' and a hexadecimal one";
         folder
             .run(["find", "older", asked])
-            .failed("", &format!("'{asked}' for '<ADDRESS>': {why}"));
+            .failed("", &format!("'{asked}' for '[ADDRESS]': {why}"));
     }
 }
 
