@@ -7,7 +7,8 @@ use native.Mathlib.Decide.{decLt, ℕ-discrete}
 use lib.ListN.{length, getD}
 use Rattle.wire.specs.Word.{word}
 use Rattle.flat.specs.Places.{framesAt}
-use Rattle.sorted.specs.Sorted.{LowerBound}
+use Rattle.sorted.specs.Sorted.{Sorted, EntryOf, LowerBound}
+use Rattle.sorted_numbers.specs.Numbers.{Rearranged}
 use Rattle.flat_find.specs.declared.Found.{Found}
 use Rattle.flat_find.specs.Find.{addressOf, inFrame, notFound, firstOf}
 use Rattle.flat_find.specs.Keys.{offsetOf, Filled, Keyed}
@@ -20,6 +21,15 @@ keyed-none s keys =
       sorted = record { order = λ i j l m. absurd (omega arith) };
       each = λ j l. absurd (omega arith);
       small = λ j l. absurd (omega arith);
+    }
+
+-- keys filled in and put in order
+pub keyed-sorted : (s before after : List ℕ) (m : ℕ) → Filled s before m → Rearranged before after m → Sorted after m → Keyed s after m
+keyed-sorted s before after m f r o =
+    record {
+      sorted = o;
+      each = λ j l. record { place = r .place j; inside = r .inside j l; same = r .same j l ∙ f .each j l };
+      small = f .small;
     }
 
 -- records without a match are passed over

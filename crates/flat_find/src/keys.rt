@@ -5,6 +5,7 @@ ghost use Prim.Native.Nat.{_+_, _*_, _≤_, _<_};
 ghost use lib.ListN.{length};
 ghost use Rattle.flat.specs.Layout.{sectionLeast, frameSize, recordSize};
 ghost use Rattle.flat.specs.Places.{framesAt, recordsAt};
+ghost use Rattle.flat_check.specs.Check.{Accepted};
 ghost use Rattle.flat_find.specs.Find.{inFrame, firstOf};
 ghost use Rattle.flat_find.specs.Keys.{keysMost, Filled, Keyed};
 use crate::Found;
@@ -17,6 +18,12 @@ pub const KEYS_MOST: usize = 131072;
 const KEY_STEP: u64 = 131072;
 
 const OFFSETS: u64 = 4294967296;
+
+fn smaller(a: usize, b: usize) -> usize
+    ensures { λ r. ⌜ (r ≤ a) × (r ≤ b) ⌝ }
+{
+    if a < b { a } else { b }
+}
 
 // The keys of the first `count` records: the offset, and the record's number after it.
 pub fn fill(s: &[u8], keys: &mut [u64], count: usize)
@@ -33,6 +40,18 @@ pub fn fill(s: &[u8], keys: &mut [u64], count: usize)
         keys[j] = offset * KEY_STEP + j as u64;
         j += 1;
     }
+}
+
+// Puts the keys of the first records in order, as many as there are and a frame can name. Answers their number.
+pub fn order(s: &[u8], keys: &mut [u64]) -> usize
+    requires { ⌜ Accepted (now s) × (keysMost ≤ length (now keys)) ⌝ }
+    ensures { λ r. ⌜ (length (now (keys .exit)) ≡ length (now (keys .entry))) × (r ≤ keysMost) × Keyed (now (s .entry)) (now (keys .exit)) r ⌝ }
+{
+    let records = offsets::num_records(s);
+    let count = smaller(records, KEYS_MOST);
+    fill(s, keys, count);
+    sorted_numbers::sort(keys, count);
+    count
 }
 
 // The first of n records from k on that has the address in the frame i, by the keys of the first `count` records where these are among

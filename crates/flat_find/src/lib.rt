@@ -73,10 +73,10 @@ fn named(s: &[u8]) -> u64
     let frames = offsets::offset(s, layout::FRAMES_OFFSET_AT);
     let n = offsets::num_frames(s);
     let mut sum: u64 = 0;
-    let mut i: usize = 0;
-    while i < n {
-        sum += wire::u16_at(s, frames + layout::FRAME_SIZE * i + layout::RECORD_COUNT_AT) as u64;
-        i += 1;
+    let mut k: usize = 0;
+    while k < n {
+        sum += wire::u16_at(s, frames + layout::FRAME_SIZE * k + layout::RECORD_COUNT_AT) as u64;
+        k += 1;
     }
     sum
 }
@@ -111,6 +111,16 @@ fn one_by_one(s: &[u8], address: u64) -> Found
     in_frames(s, address, &none, 0)
 }
 
+// The same by the keys of all records that a frame can name.
+fn by_keys(s: &[u8], address: u64) -> Found
+    requires { ⌜ Accepted (now s) ⌝ }
+    ensures { λ r. ⌜ r ≡ firstOf (matches (now (s .entry)) address) ⌝ }
+{
+    let mut ordered = [0u64; keys::KEYS_MOST];
+    let count = keys::order(s, &mut ordered);
+    in_frames(s, address, &ordered, count)
+}
+
 // A record by its address: 36 to 40, then 41.
 pub fn find(s: &[u8], address: u64) -> Found
     ensures { λ r. ⌜ r ≡ byAddress (now (s .entry)) address ⌝ }
@@ -120,7 +130,7 @@ pub fn find(s: &[u8], address: u64) -> Found
         return not_found(refusal);
     }
     if named(s) > NAMED_MOST {
-        return one_by_one(s, address);
+        return by_keys(s, address);
     }
     one_by_one(s, address)
 }

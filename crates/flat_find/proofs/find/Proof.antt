@@ -18,19 +18,19 @@ returns c = c .not-found .ensures ∙ ask-refused notFound _ _ _ (c .before .bef
 named-requires : tie.Need-named-requires
 named-requires c κs = sym (c .before .check .ensures) ∙ c .if1 .left
 
-one-by-one-requires : tie.Need-one-by-one-requires
-one-by-one-requires c κs = sym (c .before .before .before .check .ensures) ∙ c .before .before .if1 .left
+by-keys-requires : tie.Need-by-keys-requires
+by-keys-requires c κs = sym (c .before .before .before .check .ensures) ∙ c .before .before .if1 .left
 
 returns-2 : tie.Need-returns-2
 unfolding byAddress
-returns-2 c = c .one-by-one .ensures ∙ ask-accepted notFound _ _ _ (c .before .before .before .before .check .ensures) (c .before .before .before .if1 .left)
+returns-2 c = c .by-keys .ensures ∙ ask-accepted notFound _ _ _ (c .before .before .before .before .check .ensures) (c .before .before .before .if1 .left)
 
-one-by-one-requires-2 : tie.Need-one-by-one-requires-2
-one-by-one-requires-2 c κs = sym (c .before .before .before .check .ensures) ∙ c .before .before .if1 .left
+one-by-one-requires : tie.Need-one-by-one-requires
+one-by-one-requires c κs = sym (c .before .before .before .check .ensures) ∙ c .before .before .if1 .left
 
 returns-3 : tie.Need-returns-3
 unfolding byAddress
-returns-3 c = c .one-by-one2 .ensures ∙ ask-accepted notFound _ _ _ (c .before .before .before .before .check .ensures) (c .before .before .before .if1 .left)
+returns-3 c = c .one-by-one .ensures ∙ ask-accepted notFound _ _ _ (c .before .before .before .before .check .ensures) (c .before .before .before .if1 .left)
 
 pub find-spec : {M : Type 1} → statement M
 find-spec =
@@ -40,7 +40,7 @@ find-spec =
     not-found-requires
     returns
     named-requires
-    one-by-one-requires
+    by-keys-requires
     returns-2
-    one-by-one-requires-2
+    one-by-one-requires
     returns-3)

@@ -45,8 +45,8 @@ cast-sum c = search needs
 add-sum : tie.Need-add-sum Inv-loop μ-loop
 add-sum c = let t = accepted-told _ (c .before .before .before .before .before .before .pre) in let a = told-arranged _ t in omega (arith, c .before .before .before .num-frames .ensures, c .before .before .before .before .offset .ensures .0, c .before .before .before .before .offset .ensures .1, c .before .before .loop .inv .0, c .before .before .loop .inv .1)
 
-add-i : tie.Need-add-i Inv-loop μ-loop
-add-i c = search needs
+add-k : tie.Need-add-k Inv-loop μ-loop
+add-k c = search needs
 
 loop-less : tie.Need-loop-less Inv-loop μ-loop
 loop-less c = search needs
@@ -72,7 +72,7 @@ named-spec =
     u16-at-requires
     cast-sum
     add-sum
-    add-i
+    add-k
     loop-less
     loop-again
     returns)
