@@ -203,7 +203,7 @@ fn largest_sections() {
 #[test]
 fn slow_sections() {
     for kind in Kind::ALL {
-        for length in (LEAST_SLOW..LEAST_SLOW + 300).chain([20_000, 400_000]) {
+        for length in (LEAST_SLOW..LEAST_SLOW + 300).chain([20_000, 400_000, 16_777_216]) {
             for found in [false, true] {
                 let slow = slow::section(kind, length, found);
                 let bytes = slow.flat.encode();

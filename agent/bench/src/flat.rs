@@ -1,13 +1,12 @@
 //! Flat sections: the check beside a plain read of the same bytes, on sections of the largest length; and the lookup on
 //! sections that are made to be slow, beside their check.
 
-use crate::measure::{measure, say, table, Row};
+use crate::measure::{measure, say, table};
 use crate::words;
 use generator::flat::edges::of_counts;
-use generator::flat::slow::{section, Kind, Slow};
+use generator::flat::slow::{section, Kind};
 use generator::flat::{largest, Flat};
 use std::hint::black_box;
-use std::time::{Duration, Instant};
 use treskibben::flat;
 
 /// The ratio to reach.
@@ -62,30 +61,14 @@ fn mixed(limit: usize) -> Flat {
     of_counts([rest / 16, rest / 56, REACH, REACH, REACH, REACH])
 }
 
-/// How long a lookup may take, so that a table is measured in seconds.
-const PATIENCE: Duration = Duration::from_millis(40);
-
-/// The longest slow section, up to the limit, whose lookup ends in time: four times as long as the one before it.
-fn in_time(kind: Kind, limit: usize) -> (Slow, Vec<u8>) {
-    let mut length = limit / 256;
-    loop {
-        let slow = section(kind, length, false);
-        let bytes = slow.flat.encode();
-        let begun = Instant::now();
-        assert_eq!(flat::find(&bytes, slow.address).map_err(|refusal| refusal.number()), Err(41));
-        if length >= limit || 16 * begun.elapsed() > PATIENCE {
-            return (slow, bytes);
-        }
-        length *= 4;
-    }
-}
-
 const LOOKUP: &str = "lookup, not found";
 const CHECK: &str = "flat check";
 
-/// The lookup on a slow section, which tries every record of every frame, or fewer.
+/// The lookup on the largest slow section. It is bounded by the section's size, however often the frames name the same records.
 fn lookups(rounds: usize, kind: Kind, limit: usize) {
-    let (slow, bytes) = in_time(kind, limit);
+    let slow = section(kind, limit, false);
+    let bytes = slow.flat.encode();
+    assert_eq!(flat::find(&bytes, slow.address).map_err(|refusal| refusal.number()), Err(41));
     let rows = measure(
         rounds,
         &mut [
@@ -96,12 +79,7 @@ fn lookups(rounds: usize, kind: Kind, limit: usize) {
     let (frames, records) = (slow.flat.frames.len(), slow.flat.records.len());
     println!("\na section of {} bytes made to be slow ({kind:?}): {frames} frames, {records} records", bytes.len());
     println!("\n{}", table(&rows, &[CHECK]));
-    println!("{:.3} ns for each of {} records that frames name", by_step(&rows, &slow), slow.steps());
-}
-
-/// What the lookup costs beyond the check, by the record.
-fn by_step(rows: &[Row], slow: &Slow) -> f64 {
-    (rows[0].median - rows[1].median) * 1e6 / slow.steps() as f64
+    println!("the frames name {} records in all", slow.steps());
 }
 
 #[cfg(test)]

@@ -1,7 +1,7 @@
 -- Refusal 38 as equations, and the plain bounds that follow from them.
 use Prim.Native.Nat.{ℕ, _+_, _*_, _-_, _/_, _%_, _≤_, _<_}
 use mathlib.Core.Path.{_≡_, refl, sym, _∙_}
-use mathlib.Core.Bool.{Bool, true, false, _&&_}
+use mathlib.Core.Bool.{Bool, true, false, _&&_, true≢false}
 use mathlib.Core.List.{List}
 use native.Mathlib.Omega.{arith}
 use borrow.Author.Tests.{eqb-true, eq-eqb}
@@ -9,6 +9,7 @@ use lib.Dec.{eqb}
 use lib.ListN.{length}
 use Rattle.flat.specs.Layout.{align}
 use Rattle.flat.specs.Places.{constantsAt, framesAt, registersAt, recordsAt, locationsAt, liveOutsAt, numConstants, numFrames, numRegisters, numRecords, numLocations, numLiveOuts, offsetsRight}
+use Rattle.flat.specs.Fronts.{Fronts}
 use Rattle.flat.proofs.Steps.{and-true}
 
 pub record Right (s : List ℕ) : Type 0 where
@@ -77,3 +78,13 @@ arranged s r =
 -- the frames are not inside
 pub right-outside : (s : List ℕ) → (registersAt s ≤ length s → ⊥) → false ≡ offsetsRight s
 right-outside s f = right-not s (λ r. f (let a = arranged s r in omega arith))
+
+-- what the first half of the test tells, either way
+pub fronts-not : (s : List ℕ) → false ≡ offsetsRight s → (_≡_ {A = Bool} false true → Fronts s) × (_≡_ {A = Bool} false false → false ≡ offsetsRight s)
+fronts-not s e = ((λ z. absurd (true≢false (sym z))), (λ z. e))
+
+pub fronts-told : (s : List ℕ) → Fronts s → (_≡_ {A = Bool} true true → Fronts s) × (_≡_ {A = Bool} true false → false ≡ offsetsRight s)
+fronts-told s f = ((λ z. f), (λ z. absurd (true≢false z)))
+
+pub not-live-outs : (s : List ℕ) (l o n a : ℕ) → o ≡ liveOutsAt s → l ≡ locationsAt s → n ≡ numLocations s → a ≡ align 2 (l + 8 * n) → (o ≡ a → ⊥) → false ≡ offsetsRight s
+not-live-outs s l o n a e f g h k = right-not s (λ r. k (let x = r .live-outs in omega arith))

@@ -7,6 +7,7 @@ use native.Mathlib.Nat.{mul-le-mul-left, mul-suc}
 use native.Mathlib.Numerals.{add-one}
 use native.Mathlib.Decide.{ℕ-discrete}
 use Rattle.flat.specs.Places.{greatest, every}
+use Rattle.flat.specs.Steps.{Testing}
 
 pub and-true : (a b : Bool) → (a && b) ≡ true → (a ≡ true) × (b ≡ true)
 and-true true b h = (refl, h)
@@ -46,11 +47,6 @@ every-step p i n l =
     let k : n - i ≡ suc (n - (i + 1)) = omega arith in
     rw (k, add-one)
 
--- what is left gives what the whole gives
-pub record Testing (p : ℕ → Bool) (n i : ℕ) : Type 0 where
-  pub most : i ≤ n
-  pub same : every p 0 n ≡ every p i (n - i)
-
 pub test-start : (p : ℕ → Bool) (n : ℕ) → Testing p n 0
 test-start p n = let z : n - 0 ≡ n = omega arith in record { most = omega arith; same = rw z }
 
@@ -72,3 +68,28 @@ every-told p i (suc n) h j l m = go (λ k. every-told p (suc i) n (and-true (p i
     go : (suc i ≤ j → p j ≡ true) → Dec (i ≡ j) → p j ≡ true
     go rest (yes e) = rw e at (and-true (p i) (every p (suc i) n) h .0)
     go rest (no f) = rest (omega arith)
+
+-- two tests of every item are one
+pub every-both : (p q : ℕ → Bool) (i n : ℕ) → (every p i n && every q i n) ≡ every (λ k. p k && q k) i n
+unfolding every
+every-both p q i zero = refl
+every-both p q i (suc n) = crossed (p i) (every p (suc i) n) (q i) (every q (suc i) n) ∙ ap (λ (b : Bool). (p i && q i) && b) (every-both p q (suc i) n)
+  where
+    crossed : (a b c d : Bool) → ((a && b) && (c && d)) ≡ ((a && c) && (b && d))
+    crossed true true c d = truth c d
+      where
+        truth : (c d : Bool) → (c && d) ≡ (c && d)
+        truth c d = refl
+    crossed true false true d = refl
+    crossed true false false d = refl
+    crossed false b c d = refl
+
+pub test-four : (p : ℕ → Bool) (n i : ℕ) → Testing p n i → i + 4 ≤ n → p i ≡ true → p (i + 1) ≡ true → p (i + 2) ≡ true → p (i + 3) ≡ true → Testing p n (i + 4)
+test-four p n i t l a b c d =
+    let x : i + 1 + 1 ≡ i + 2 = omega arith in
+    let y : i + 2 + 1 ≡ i + 3 = omega arith in
+    let z : i + 3 + 1 ≡ i + 4 = omega arith in
+    let u = test-on p n i t (omega arith) a in
+    let v = rw x at (test-on p n (i + 1) u (omega arith) b) in
+    let w = rw y at (test-on p n (i + 2) v (omega arith) c) in
+    rw z at (test-on p n (i + 3) w (omega arith) d)

@@ -1,2 +1,4 @@
 pub mod Layout
 pub mod Places
+pub mod Fronts
+pub mod Steps

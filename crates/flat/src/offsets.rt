@@ -1,11 +1,12 @@
 // Where the arrays begin, how many items each has, and the test of refusal 38.
 // No entry point: the functions require a length within the limits of 36, which the check has tested; those above 38 what 38 has shown.
 ghost use mathlib.Core.Path.{_≡_};
-ghost use mathlib.Core.Bool.{true};
+ghost use mathlib.Core.Bool.{true, false};
 ghost use Prim.Native.Nat.{_+_, _*_, _-_, _/_, _≤_, _<_, max};
 ghost use lib.ListN.{length};
 ghost use Rattle.wire.specs.Word.{word};
 ghost use Rattle.flat.specs.Layout.{sectionLeast, sectionMost, headerSize, frameSize, align};
+ghost use Rattle.flat.specs.Fronts.{Fronts};
 ghost use Rattle.flat.specs.Places.{greatest, rangeEnd, registersUsed, numConstants, numFrames, numRegisters, numRecords, numLocations, numLiveOuts, offsetsRight};
 use crate::layout;
 
@@ -133,17 +134,14 @@ fn after(from: usize, size: usize, n: usize, alignment: usize) -> usize
     (from + size * n + (alignment - 1)) / alignment * alignment
 }
 
-// The test of refusal 38. Frames are read only where they are inside.
-pub fn offsets_right(s: &[u8]) -> bool
+// The first half of the test of refusal 38, up to where the frame registers begin. Where it holds, the frames are inside.
+pub fn fronts_right(s: &[u8]) -> bool
     requires { ⌜ (sectionLeast ≤ length (now s)) × (length (now s) ≤ sectionMost) ⌝ }
-    ensures { λ r. ⌜ r ≡ offsetsRight (now (s .entry)) ⌝ }
+    ensures { λ r. ⌜ (r ≡ true → Fronts (now (s .entry))) × (r ≡ false → false ≡ offsetsRight (now (s .entry))) ⌝ }
 {
     let constants = offset(s, layout::CONSTANTS_OFFSET_AT);
     let frames = offset(s, layout::FRAMES_OFFSET_AT);
     let registers = offset(s, layout::REGISTERS_OFFSET_AT);
-    let records = offset(s, layout::RECORDS_OFFSET_AT);
-    let locations = offset(s, layout::LOCATIONS_OFFSET_AT);
-    let live_outs = offset(s, layout::LIVE_OUTS_OFFSET_AT);
     if s.len() < registers {
         return false;
     }
@@ -170,11 +168,23 @@ pub fn offsets_right(s: &[u8]) -> bool
     {
         return false;
     }
+    true
+}
+
+// The whole test of refusal 38, of a section whose first half is right and which has so many frame registers.
+pub fn offsets_right(s: &[u8], number: usize) -> bool
+    requires { ⌜ (sectionLeast ≤ length (now s)) × (length (now s) ≤ sectionMost) × Fronts (now s) × (number ≡ numRegisters (now s)) × (number ≤ 131070) ⌝ }
+    ensures { λ r. ⌜ r ≡ offsetsRight (now (s .entry)) ⌝ }
+{
+    let registers = offset(s, layout::REGISTERS_OFFSET_AT);
+    let records = offset(s, layout::RECORDS_OFFSET_AT);
+    let locations = offset(s, layout::LOCATIONS_OFFSET_AT);
+    let live_outs = offset(s, layout::LIVE_OUTS_OFFSET_AT);
     if records
         != after(
             registers,
             layout::REGISTER_SIZE,
-            num_registers(s),
+            number,
             layout::RECORD_ALIGN,
         )
     {

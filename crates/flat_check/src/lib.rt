@@ -20,13 +20,17 @@ pub fn check(s: &[u8]) -> u8
     if s[0] != layout::VERSION {
         return 37;
     }
-    if !offsets::offsets_right(s) {
+    if !offsets::fronts_right(s) {
+        return 38;
+    }
+    let registers = offsets::num_registers(s);
+    if !offsets::offsets_right(s, registers) {
         return 38;
     }
     if !ranges::ranges_right(s) {
         return 39;
     }
-    if !reserved::reserved_clear(s) {
+    if !reserved::reserved_clear(s, registers) {
         return 40;
     }
     0

@@ -1,2 +1,4 @@
 pub mod Lookup
 pub mod Firsts
+pub mod Ordered
+pub mod Filling

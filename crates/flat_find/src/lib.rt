@@ -5,9 +5,12 @@ ghost use lib.ListN.{length};
 ghost use Rattle.flat.specs.Layout.{sectionLeast, frameSize, recordSize};
 ghost use Rattle.flat.specs.Places.{framesAt, recordsAt};
 ghost use Rattle.flat_check.specs.Check.{Accepted};
+ghost use Rattle.flat_find.specs.Keys.{keysMost, Keyed};
 ghost use Rattle.flat_find.specs.Find.{inFrame, matches, notFound, firstOf, byAddress};
 use flat::layout;
 use flat::offsets;
+
+mod keys;
 
 // The number of a refusal, or 0 and the numbers of frame and record. The place is always 0.
 pub struct Found {
@@ -16,6 +19,9 @@ pub struct Found {
     pub frame: usize,
     pub index: usize,
 }
+
+// Where the frames name more records than this, the records' offsets are put in order first: to do so takes less than to try them all.
+const NAMED_MOST: u64 = 16777216;
 
 fn not_found(number: u8) -> Found
     ensures { λ r. ⌜ r ≡ notFound number ⌝ }
@@ -60,9 +66,24 @@ fn in_frame(s: &[u8], address: u64, i: usize, k: usize, n: usize) -> Found
     not_found(41)
 }
 
-// The first match in frame order, then record order.
-fn in_frames(s: &[u8], address: u64) -> Found
+// How many records the frames name in all, each as often as it is named.
+fn named(s: &[u8]) -> u64
     requires { ⌜ Accepted (now s) ⌝ }
+{
+    let frames = offsets::offset(s, layout::FRAMES_OFFSET_AT);
+    let n = offsets::num_frames(s);
+    let mut sum: u64 = 0;
+    let mut k: usize = 0;
+    while k < n {
+        sum += wire::u16_at(s, frames + layout::FRAME_SIZE * k + layout::RECORD_COUNT_AT) as u64;
+        k += 1;
+    }
+    sum
+}
+
+// The first match in frame order, then record order, by the keys of the first `count` records.
+fn in_frames(s: &[u8], address: u64, keys: &[u64], count: usize) -> Found
+    requires { ⌜ Accepted (now s) × (count ≤ length (now keys)) × (count ≤ keysMost) × Keyed (now s) (now keys) count ⌝ }
     ensures { λ r. ⌜ r ≡ firstOf (matches (now (s .entry)) address) ⌝ }
 {
     let frames = offsets::offset(s, layout::FRAMES_OFFSET_AT);
@@ -71,14 +92,33 @@ fn in_frames(s: &[u8], address: u64) -> Found
     while i < n {
         let at = frames + layout::FRAME_SIZE * i;
         let k = wire::u16_at(s, at + layout::RECORD_INDEX_AT) as usize;
-        let count = wire::u16_at(s, at + layout::RECORD_COUNT_AT) as usize;
-        let hit = in_frame(s, address, i, k, count);
+        let number = wire::u16_at(s, at + layout::RECORD_COUNT_AT) as usize;
+        let hit = keys::in_frame(s, address, i, k, number, keys, count);
         if hit.number == 0 {
             return hit;
         }
         i += 1;
     }
     not_found(41)
+}
+
+// The same without keys.
+fn one_by_one(s: &[u8], address: u64) -> Found
+    requires { ⌜ Accepted (now s) ⌝ }
+    ensures { λ r. ⌜ r ≡ firstOf (matches (now (s .entry)) address) ⌝ }
+{
+    let none = [0u64; 1];
+    in_frames(s, address, &none, 0)
+}
+
+// The same by the keys of all records that a frame can name.
+fn by_keys(s: &[u8], address: u64) -> Found
+    requires { ⌜ Accepted (now s) ⌝ }
+    ensures { λ r. ⌜ r ≡ firstOf (matches (now (s .entry)) address) ⌝ }
+{
+    let mut ordered = [0u64; keys::KEYS_MOST];
+    let count = keys::order(s, &mut ordered);
+    in_frames(s, address, &ordered, count)
 }
 
 // A record by its address: 36 to 40, then 41.
@@ -89,5 +129,8 @@ pub fn find(s: &[u8], address: u64) -> Found
     if refusal != 0 {
         return not_found(refusal);
     }
-    in_frames(s, address)
+    if named(s) > NAMED_MOST {
+        return by_keys(s, address);
+    }
+    one_by_one(s, address)
 }

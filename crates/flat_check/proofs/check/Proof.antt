@@ -18,34 +18,35 @@ shared-slice-read-if3 c = search needs
 returns-3 : tie.Need-returns-3
 returns-3 c = wrong-version _ (omega arith) (omega arith) (c .if3 .taken)
 
-offsets-right-requires : tie.Need-offsets-right-requires
-offsets-right-requires c κs = search needs
+fronts-right-requires : tie.Need-fronts-right-requires
+fronts-right-requires c κs = search needs
 
 returns-4 : tie.Need-returns-4
-returns-4 c = wrong-offsets _ (omega arith) (omega arith) (omega arith) (sym (c .before .offsets-right .ensures) ∙ not-true _ (c .if4 .taken))
+returns-4 c = wrong-offsets _ (omega arith) (omega arith) (omega arith) (sym (c .before .fronts-right .ensures .1 (not-true _ (c .if4 .taken))))
 
-ranges-right-requires : tie.Need-ranges-right-requires
-ranges-right-requires c κs = (omega arith, sym (c .before .offsets-right .ensures) ∙ not-false _ (c .if4 .left))
+num-registers-requires : tie.Need-num-registers-requires
+num-registers-requires c κs = let f = c .before .fronts-right .ensures .0 (not-false _ (c .if4 .left)) in (omega arith, omega (arith, f .registers, f .inside))
+
+offsets-right-requires : tie.Need-offsets-right-requires
+offsets-right-requires c κs = (omega arith, omega arith, c .before .before .fronts-right .ensures .0 (not-false _ (c .before .if4 .left)), c .num-registers .ensures .0, c .num-registers .ensures .1)
 
 returns-5 : tie.Need-returns-5
-returns-5 c =
-    wrong-ranges _ (omega arith) (omega arith) (omega arith) (sym (c .before .before .before .offsets-right .ensures) ∙ not-false _ (c .before .before .if4 .left)) (sym
-    (c .before .ranges-right .ensures) ∙ not-true _ (c .if5 .taken))
+returns-5 c = wrong-offsets _ (omega arith) (omega arith) (omega arith) (sym (c .before .offsets-right .ensures) ∙ not-true _ (c .if5 .taken))
 
-reserved-clear-requires : tie.Need-reserved-clear-requires
-reserved-clear-requires c κs = (omega arith, sym (c .before .before .before .offsets-right .ensures) ∙ not-false _ (c .before .before .if4 .left))
+ranges-right-requires : tie.Need-ranges-right-requires
+ranges-right-requires c κs = (omega arith, (sym (c .before .offsets-right .ensures) ∙ not-false _ (c .if5 .left)))
 
 returns-6 : tie.Need-returns-6
-returns-6 c =
-    wrong-reserved _ (omega arith) (omega arith) (omega arith) (sym (c .before .before .before .before .before .offsets-right .ensures) ∙ not-false _
-    (c .before .before .before .before .if4 .left)) (sym (c .before .before .before .ranges-right .ensures) ∙ not-false _ (c .before .before .if5 .left)) (sym
-    (c .before .reserved-clear .ensures) ∙ not-true _ (c .if6 .taken))
+returns-6 c = wrong-ranges _ (omega arith) (omega arith) (omega arith) (sym (c .before .before .before .offsets-right .ensures) ∙ not-false _ (c .before .before .if5 .left)) (sym (c .before .ranges-right .ensures) ∙ not-true _ (c .if6 .taken))
+
+reserved-clear-requires : tie.Need-reserved-clear-requires
+reserved-clear-requires c κs = (omega arith, (sym (c .before .before .before .offsets-right .ensures) ∙ not-false _ (c .before .before .if5 .left)), c .before .before .before .before .num-registers .ensures .0)
 
 returns-7 : tie.Need-returns-7
-returns-7 c =
-    all-right _ (omega arith) (omega arith) (omega arith) (sym (c .before .before .before .before .before .offsets-right .ensures) ∙ not-false _
-    (c .before .before .before .before .if4 .left)) (sym (c .before .before .before .ranges-right .ensures) ∙ not-false _ (c .before .before .if5 .left)) (sym
-    (c .before .reserved-clear .ensures) ∙ not-false _ (c .if6 .left))
+returns-7 c = wrong-reserved _ (omega arith) (omega arith) (omega arith) (sym (c .before .before .before .before .before .offsets-right .ensures) ∙ not-false _ (c .before .before .before .before .if5 .left)) (sym (c .before .before .before .ranges-right .ensures) ∙ not-false _ (c .before .before .if6 .left)) (sym (c .before .reserved-clear .ensures) ∙ not-true _ (c .if7 .taken))
+
+returns-8 : tie.Need-returns-8
+returns-8 c = all-right _ (omega arith) (omega arith) (omega arith) (sym (c .before .before .before .before .before .offsets-right .ensures) ∙ not-false _ (c .before .before .before .before .if5 .left)) (sym (c .before .before .before .ranges-right .ensures) ∙ not-false _ (c .before .before .if6 .left)) (sym (c .before .reserved-clear .ensures) ∙ not-false _ (c .if7 .left))
 
 pub check-spec : {M : Type 1} → statement M
 check-spec =
@@ -55,10 +56,13 @@ check-spec =
     returns-2
     shared-slice-read-if3
     returns-3
-    offsets-right-requires
+    fronts-right-requires
     returns-4
-    ranges-right-requires
+    num-registers-requires
+    offsets-right-requires
     returns-5
-    reserved-clear-requires
+    ranges-right-requires
     returns-6
-    returns-7)
+    reserved-clear-requires
+    returns-7
+    returns-8)

@@ -15,12 +15,32 @@ returns : tie.Need-returns
 unfolding byAddress
 returns c = c .not-found .ensures ∙ ask-refused notFound _ _ _ (c .before .before .check .ensures) (c .before .if1 .taken)
 
-in-frames-requires : tie.Need-in-frames-requires
-in-frames-requires c κs = sym (c .before .check .ensures) ∙ c .if1 .left
+named-requires : tie.Need-named-requires
+named-requires c κs = sym (c .before .check .ensures) ∙ c .if1 .left
+
+by-keys-requires : tie.Need-by-keys-requires
+by-keys-requires c κs = sym (c .before .before .before .check .ensures) ∙ c .before .before .if1 .left
 
 returns-2 : tie.Need-returns-2
 unfolding byAddress
-returns-2 c = c .in-frames .ensures ∙ ask-accepted notFound _ _ _ (c .before .before .check .ensures) (c .before .if1 .left)
+returns-2 c = c .by-keys .ensures ∙ ask-accepted notFound _ _ _ (c .before .before .before .before .check .ensures) (c .before .before .before .if1 .left)
+
+one-by-one-requires : tie.Need-one-by-one-requires
+one-by-one-requires c κs = sym (c .before .before .before .check .ensures) ∙ c .before .before .if1 .left
+
+returns-3 : tie.Need-returns-3
+unfolding byAddress
+returns-3 c = c .one-by-one .ensures ∙ ask-accepted notFound _ _ _ (c .before .before .before .before .check .ensures) (c .before .before .before .if1 .left)
 
 pub find-spec : {M : Type 1} → statement M
-find-spec = tie.close (tie.spec check-requires not-found-requires returns in-frames-requires returns-2)
+find-spec =
+    tie.close
+    (tie.spec
+    check-requires
+    not-found-requires
+    returns
+    named-requires
+    by-keys-requires
+    returns-2
+    one-by-one-requires
+    returns-3)

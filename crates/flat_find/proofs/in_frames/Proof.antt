@@ -8,23 +8,23 @@ use Rattle.flat_find.proofs.in_frames.Statement.{statement}
 use Rattle.flat_find.proofs.in_frames.Tie as tie
 
 abbrev Inv-loop : tie.InvT-loop
-Inv-loop s address frames n i₀ i = Going s address i
+Inv-loop s address keys count frames n i₀ i = Going s address i
 
 abbrev μ-loop : tie.MeasureT-loop
-μ-loop s address frames n i₀ i = n - i
+μ-loop s address keys count frames n i₀ i = n - i
 
 offset-requires : tie.Need-offset-requires Inv-loop μ-loop
-offset-requires c κs = (omega arith, accepted-told _ (c .before .pre) .least)
+offset-requires c κs = (omega arith, accepted-told _ (c .before .before .pre .0) .least)
 
 num-frames-requires : tie.Need-num-frames-requires Inv-loop μ-loop
-num-frames-requires c κs = accepted-told _ (c .before .before .pre) .least
+num-frames-requires c κs = accepted-told _ (c .before .before .before .pre .0) .least
 
 loop-holds : tie.Need-loop-holds Inv-loop μ-loop
 loop-holds c = go-start _ _
 
 mul-at : tie.Need-mul-at Inv-loop μ-loop
 mul-at c =
-    let t = accepted-told _ (c .before .before .before .before .before .pre) in let a = told-arranged _ t in omega (
+    let t = accepted-told _ (c .before .before .before .before .before .before .pre .0) in let a = told-arranged _ t in omega (
       arith,
       c .before .before .num-frames .ensures,
       c .before .before .before .offset .ensures .0,
@@ -33,7 +33,7 @@ mul-at c =
 
 add-at : tie.Need-add-at Inv-loop μ-loop
 add-at c =
-    let t = accepted-told _ (c .before .before .before .before .before .pre) in let a = told-arranged _ t in omega (
+    let t = accepted-told _ (c .before .before .before .before .before .before .pre .0) in let a = told-arranged _ t in omega (
       arith,
       c .before .before .num-frames .ensures,
       c .before .before .before .offset .ensures .0,
@@ -42,7 +42,7 @@ add-at c =
 
 add-u16-at : tie.Need-add-u16-at Inv-loop μ-loop
 add-u16-at c =
-    let t = accepted-told _ (c .before .before .before .before .before .pre) in let a = told-arranged _ t in omega (
+    let t = accepted-told _ (c .before .before .before .before .before .before .pre .0) in let a = told-arranged _ t in omega (
       arith,
       c .before .before .num-frames .ensures,
       c .before .before .before .offset .ensures .0,
@@ -51,7 +51,7 @@ add-u16-at c =
 
 u16-at-requires : tie.Need-u16-at-requires Inv-loop μ-loop
 u16-at-requires c κs =
-    let t = accepted-told _ (c .before .before .before .before .before .pre) in let a = told-arranged _ t in omega (
+    let t = accepted-told _ (c .before .before .before .before .before .before .pre .0) in let a = told-arranged _ t in omega (
       arith,
       c .before .before .num-frames .ensures,
       c .before .before .before .offset .ensures .0,
@@ -63,7 +63,7 @@ cast-k c = search needs
 
 add-u16-at-2 : tie.Need-add-u16-at-2 Inv-loop μ-loop
 add-u16-at-2 c =
-    let t = accepted-told _ (c .before .before .before .before .before .before .pre) in let a = told-arranged _ t in omega (
+    let t = accepted-told _ (c .before .before .before .before .before .before .before .pre .0) in let a = told-arranged _ t in omega (
       arith,
       c .before .before .before .num-frames .ensures,
       c .before .before .before .before .offset .ensures .0,
@@ -72,23 +72,23 @@ add-u16-at-2 c =
 
 u16-at-requires-2 : tie.Need-u16-at-requires-2 Inv-loop μ-loop
 u16-at-requires-2 c κs =
-    let t = accepted-told _ (c .before .before .before .before .before .before .pre) in let a = told-arranged _ t in omega (
+    let t = accepted-told _ (c .before .before .before .before .before .before .before .pre .0) in let a = told-arranged _ t in omega (
       arith,
       c .before .before .before .num-frames .ensures,
       c .before .before .before .before .offset .ensures .0,
       c .before .before .before .before .offset .ensures .1,
     )
 
-cast-count : tie.Need-cast-count Inv-loop μ-loop
-cast-count c = search needs
+cast-number : tie.Need-cast-number Inv-loop μ-loop
+cast-number c = search needs
 
 in-frame-requires : tie.Need-in-frame-requires Inv-loop μ-loop
 in-frame-requires c κs =
-    let t = accepted-told _ (c .before .before .before .before .before .before .before .pre) in let f = range-fits _ _ _ _ _
+    let t = accepted-told _ (c .before .before .before .before .before .before .before .before .pre .0) in let f = range-fits _ _ _ _ _
     (c .before .before .before .before .before .offset .ensures .0) (c .before .u16-at .ensures) (c .u16-at2 .ensures) t (omega (
       arith,
       c .before .before .before .before .num-frames .ensures,
-    )) in (t .least, f .0, f .1)
+    )) in (t .least, f .0, f .1, omega arith, omega arith, c .before .before .before .before .before .before .before .before .pre .3)
 
 returns : tie.Need-returns Inv-loop μ-loop
 returns c =
@@ -136,7 +136,7 @@ in-frames-spec =
     cast-k
     add-u16-at-2
     u16-at-requires-2
-    cast-count
+    cast-number
     in-frame-requires
     returns
     add-i

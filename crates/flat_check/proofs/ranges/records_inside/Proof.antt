@@ -3,7 +3,8 @@ use borrow.Author.Tests.{not-true, not-false}
 use native.Mathlib.Omega.{arith}
 use Prim.Native.Nat.{_+_, _*_, _-_}
 use mathlib.Core.Path.{sym, _∙_}
-use Rattle.flat.proofs.Steps.{Testing, test-start, test-on, test-stop, test-end}
+use Rattle.flat.specs.Steps.{Testing}
+use Rattle.flat.proofs.Steps.{test-start, test-on, test-stop, test-end}
 use Rattle.flat_check.specs.Check.{along, recordInside}
 use Rattle.flat_check.proofs.ranges.records_inside.Statement.{statement}
 use Rattle.flat_check.proofs.ranges.records_inside.Tie as tie

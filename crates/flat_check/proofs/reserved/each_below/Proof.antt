@@ -3,7 +3,8 @@ use borrow.Author.Tests.{lt-ltb, le-ltb}
 use native.Mathlib.Omega.{arith}
 use Prim.Native.Nat.{_+_, _*_, _-_}
 use mathlib.Core.Path.{sym}
-use Rattle.flat.proofs.Steps.{stride, Testing, test-start, test-on, test-stop, test-end}
+use Rattle.flat.specs.Steps.{Testing}
+use Rattle.flat.proofs.Steps.{stride, test-on, test-stop, test-end}
 use Rattle.flat_check.specs.Check.{along}
 use lib.Dec.{ltb}
 use lib.ListN.{getD}
@@ -16,17 +17,20 @@ Inv-loop s limit at step n i₀ i = Testing (λ k. ltb (getD s (at + step * k) 0
 abbrev μ-loop : tie.MeasureT-loop
 μ-loop s limit at step n i₀ i = n - i
 
+fours-below-requires : tie.Need-fours-below-requires Inv-loop μ-loop
+fours-below-requires c κs = search needs
+
 loop-holds : tie.Need-loop-holds Inv-loop μ-loop
-loop-holds c = test-start _ _
+loop-holds c = c .fours-below .ensures
 
 mul-p : tie.Need-mul-p Inv-loop μ-loop
-mul-p c = omega (arith, stride (c .before .before .args .step) (c .before .loop .i) (c .before .before .args .n) (omega arith))
+mul-p c = omega (arith, stride (c .before .before .before .before .args .step) (c .before .loop .i) (c .before .before .before .before .args .n) (omega arith))
 
 add-p : tie.Need-add-p Inv-loop μ-loop
-add-p c = omega (arith, stride (c .before .before .args .step) (c .before .loop .i) (c .before .before .args .n) (omega arith))
+add-p c = omega (arith, stride (c .before .before .before .before .args .step) (c .before .loop .i) (c .before .before .before .before .args .n) (omega arith))
 
 shared-slice-read-if1 : tie.Need-shared-slice-read-if1 Inv-loop μ-loop
-shared-slice-read-if1 c = omega (arith, stride (c .before .before .before .args .step) (c .before .before .loop .i) (c .before .before .before .args .n) (omega arith))
+shared-slice-read-if1 c = omega (arith, stride (c .before .before .before .before .before .args .step) (c .before .before .loop .i) (c .before .before .before .before .before .args .n) (omega arith))
 
 returns : tie.Need-returns Inv-loop μ-loop
 unfolding along
@@ -51,6 +55,7 @@ each-below-spec =
     (tie.spec
     Inv-loop
     μ-loop
+    fours-below-requires
     loop-holds
     mul-p
     add-p

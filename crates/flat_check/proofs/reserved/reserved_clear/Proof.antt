@@ -40,4 +40,16 @@ returns c =
     (c .before .before .before .records-clear .ensures)) (c .before .items-clear .ensures)
 
 pub reserved-clear-spec : {M : Type 1} → statement M
-reserved-clear-spec = tie.close (tie.spec header-clear-requires frames-clear-requires both-requires registers-clear-requires both-requires-2 records-clear-requires both-requires-3 items-clear-requires both-requires-4 returns)
+reserved-clear-spec =
+    tie.close
+    (tie.spec
+    header-clear-requires
+    frames-clear-requires
+    both-requires
+    registers-clear-requires
+    both-requires-2
+    records-clear-requires
+    both-requires-3
+    items-clear-requires
+    both-requires-4
+    returns)
