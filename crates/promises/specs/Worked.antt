@@ -13,6 +13,7 @@ use Rattle.listing.specs.Listing.{Converted, toListing, toSection}
 use Rattle.listing.specs.RoundTrip.{result}
 use Rattle.moves.specs.declared.Move.{Move}
 use Rattle.relocate.specs.declared.Frame.{Frame}
+use Rattle.relocate.specs.Restore.{restore}
 use Rattle.relocate.specs.Relocation.{answer, moved}
 
 -- what is asked: the check of a section, a section's listing, a listing's section, or a move of a frame at 0x1020 (in version 1: at the
@@ -56,8 +57,9 @@ got (check s) = checked (sectionCheck s)
 got (listingOf s) = let c = toListing s room in converted (c .number) c
 got (sectionOf l) = let c = toSection l room in converted (c .number) c
 got (moveIn s old new im) =
-    let a = answer s (old ∷ []) (new ∷ []) 0x7000 im (frame (isOld s)) in
-    shifted (a .number) a (moved s (old ∷ []) (new ∷ []) 0x7000 im (frame (isOld s)))
+    let R = restore s (old ∷ []) (new ∷ []) 0x7000 in
+    let a = answer R im (frame (isOld s)) in
+    shifted (a .number) a (moved R im (frame (isOld s)))
 
 -- a header of version v with three counts
 unfoldable pub header : ℕ → ℕ → ℕ → ℕ → List ℕ

@@ -21,6 +21,7 @@ use Rattle.moves.specs.Plan.{Plan, refuse, window}
 use Rattle.moves.proofs.Lists.{Sound}
 use Rattle.relocate.specs.declared.Frame.{Frame}
 use Rattle.questions.specs.Questions.{ask}
+use Rattle.relocate.specs.Restore.{Restore}
 use Rattle.relocate.specs.Statepoint.{isStatepoint, Pair, pairs, isNull, isSlot, rightForm, slotAddress, slotInside, slotAt, inside, pointerOf}
 use Rattle.relocate.specs.Plan.{recordsOf, only, every, stackSize, imageRight, extentRight, planPairs, planRecord, plan}
 use Rattle.relocate.specs.Relocation.{Lists}
@@ -145,31 +146,31 @@ form-slots : (old : Bool) (pool : List ℕ) (p : Pair) → rightForm old pool p 
 unfolding rightForm
 form-slots old pool p h e = and-true _ _ (rw e at h)
 
-module _ (s olds news : List ℕ) (first n : ℕ) (f : Frame) where
+module _ (R : Restore) (n : ℕ) (f : Frame) where
   abbrev pool : List ℕ
-  pool = readSection s .constants
+  pool = readSection (R .section) .constants
 
   pub record Planned (off size : ℕ) (ws : List Pointer) : Type 0 where
     pub entry : Entry
-    pub one : recordsOf s f ≡ entry ∷ []
+    pub one : recordsOf (R .section) f ≡ entry ∷ []
     pub known : stackSize entry ≡ stackSizeUnknown → ⊥
-    pub low : first ≤ f .rsp
-    pub high : f .rsp + stackSize entry ≤ first + n
-    pub off-is : off ≡ f .rsp - first
+    pub low : R .first ≤ f .rsp
+    pub high : f .rsp + stackSize entry ≤ R .first + n
+    pub off-is : off ≡ f .rsp - R .first
     pub size-is : size ≡ stackSize entry
     pub pairs-are : ws ≡ map (pointerOf pool f) (pairs (entry .body))
     pub statepoint : isStatepoint (entry .body) ≡ true
-    pub forms : (p : Pair) → List·Memᴰ p (pairs (entry .body)) → rightForm (isOld s) pool p ≡ true
+    pub forms : (p : Pair) → List·Memᴰ p (pairs (entry .body)) → rightForm (isOld (R .section)) pool p ≡ true
     pub insides : (p : Pair) → List·Memᴰ p (pairs (entry .body)) → inside pool f (stackSize entry) p ≡ true
 
-  pub planned : (e : ℕ) → sectionCheck s ≡ Valid e → (off size : ℕ) (ws : List Pointer) → plan s olds news first n f ≡ window off size ws → Planned off size ws
+  pub planned : (e : ℕ) → sectionCheck (R .section) ≡ Valid e → (off size : ℕ) (ws : List Pointer) → plan R n f ≡ window off size ws → Planned off size ws
   unfolding plan planRecord planPairs extentRight ask
   planned e k off size ws h =
-      let h₀ = need-held (tableRight olds news) 14 _ (need-held (imageRight first n) 13 _ (rw k at h) .1) in
+      let h₀ = need-held (tableRight (R .olds) (R .news)) 14 _ (need-held (imageRight (R .first) n) 13 _ (rw k at h) .1) in
       let o = only-held _ _ (h₀ .1) in
       let h₁ = need-held (isStatepoint (o .0 .body)) 12 _ (o .2) in
-      let h₂ = need-held (extentRight first n (f .rsp) (stackSize (o .0))) 16 _ (h₁ .1) in
-      let h₃ = need-held (leb (length (pairs (o .0 .body))) 256) 17 _ (h₂ .1) in
+      let h₂ = need-held (extentRight (R .first) n (f .rsp) (stackSize (o .0))) 16 _ (h₁ .1) in
+      let h₃ = need-held (leb (length (pairs (o .0 .body))) (R .most)) 17 _ (h₂ .1) in
       let h₄ = every-held _ _ _ _ _ (h₃ .1) in
       let h₅ = every-held _ _ _ _ _ (h₄ .1) in
       let x = and-true _ _ (h₂ .0) in
@@ -189,26 +190,26 @@ module _ (s olds news : List ℕ) (first n : ℕ) (f : Frame) where
         insides = h₅ .0;
       }
 
-  pub plan-above : (e : ℕ) → sectionCheck s ≡ Valid e → Above (plan s olds news first n f)
+  pub plan-above : (e : ℕ) → sectionCheck (R .section) ≡ Valid e → Above (plan R n f)
   unfolding plan planRecord planPairs ask
   plan-above e k =
       rw k
-      (need-above (imageRight first n) 12 _ (need-above (tableRight olds news) 13 _ (only-above _ _ (λ x.
-      need-above (isStatepoint (x .body)) 11 _ (need-above (extentRight first n (f .rsp) (stackSize x)) 15 _
-      (need-above (leb (length (pairs (x .body))) 256) 16 _ (every-above _ 17 0 _ _ (every-above _ 18 0 _ _ tt))))))))
+      (need-above (imageRight (R .first) n) 12 _ (need-above (tableRight (R .olds) (R .news)) 13 _ (only-above _ _ (λ x.
+      need-above (isStatepoint (x .body)) 11 _ (need-above (extentRight (R .first) n (f .rsp) (stackSize x)) 15 _
+      (need-above (leb (length (pairs (x .body))) (R .most)) 16 _ (every-above _ 17 0 _ _ (every-above _ 18 0 _ _ tt))))))))
 
-  pub window-pair : (e : ℕ) → sectionCheck s ≡ Valid e → (off size : ℕ) (ws : List Pointer) (q : Planned off size ws)
+  pub window-pair : (e : ℕ) → sectionCheck (R .section) ≡ Valid e → (off size : ℕ) (ws : List Pointer) (q : Planned off size ws)
       → (b d : ℕ) → List·Memᴰ (slots b d) ws → (p : Pair) × List·Memᴰ p (pairs (q .entry .body)) × From pool f size b d p
   window-pair e k off size ws q b d m =
       let o = Memᴰ·of-map (pointerOf pool f) (pairs (q .entry .body)) (rw (q .pairs-are) at m) in
       (o .0, o .1, rw (q .size-is) (pair-from pool f (stackSize (q .entry)) (o .0) b d (q .insides (o .0) (o .1)) (o .2)))
 
   -- and is listed
-  pub window-lists : (e : ℕ) → sectionCheck s ≡ Valid e → (off size : ℕ) (ws : List Pointer) (q : Planned off size ws)
-      → (b d : ℕ) → List·Memᴰ (slots b d) ws → Lists s f (f .rsp + b) (f .rsp + d)
+  pub window-lists : (e : ℕ) → sectionCheck (R .section) ≡ Valid e → (off size : ℕ) (ws : List Pointer) (q : Planned off size ws)
+      → (b d : ℕ) → List·Memᴰ (slots b d) ws → Lists (R .section) f (f .rsp + b) (f .rsp + d)
   window-lists e k off size ws q b d m =
       let v = window-pair e k off size ws q b d m in
-      let t = form-slots (isOld s) pool (v .0) (q .forms (v .0) (v .1)) (v .2 .not-null) in
+      let t = form-slots (isOld (R .section)) pool (v .0) (q .forms (v .0) (v .1)) (v .2 .not-null) in
       record {
         entry = q .entry;
         one = q .one;
@@ -222,10 +223,10 @@ module _ (s olds news : List ℕ) (first n : ℕ) (f : Frame) where
         derived-at = v .2 .derived-at;
       }
 
-  pub sound : (e : ℕ) → sectionCheck s ≡ Valid e → Sound n (plan s olds news first n f)
-  sound e k = go (plan s olds news first n f) refl
+  pub sound : (e : ℕ) → sectionCheck (R .section) ≡ Valid e → Sound n (plan R n f)
+  sound e k = go (plan R n f) refl
     where
-      go : (p : Plan) → plan s olds news first n f ≡ p → Sound n p
+      go : (p : Plan) → plan R n f ≡ p → Sound n p
       go (refuse m p) h = tt
       go (window off size ws) h =
           let q = planned e k off size ws h in

@@ -1,4 +1,5 @@
 pub mod Limits
+pub mod Restore
 pub mod Statepoint
 pub mod Plan
 pub mod Code

@@ -9,11 +9,11 @@ use Rattle.stackmap.specs.Layout.{addressMost, stackSizeUnknown}
 use Rattle.stackmap.specs.Verdict.{need}
 use Rattle.stackmap.specs.Section.{Record, Entry, isOld, readSection}
 use Rattle.stackmap.specs.Check.{sectionCheck}
-use Rattle.moves.specs.Limits.{pairsMost}
 use Rattle.moves.specs.Table.{tableRight}
 use Rattle.moves.specs.Plan.{Plan, refuse, window}
 use Rattle.relocate.specs.declared.Frame.{Frame}
 use Rattle.relocate.specs.Limits.{imageMost}
+use Rattle.relocate.specs.Restore.{Restore}
 use Rattle.questions.specs.Questions.{ask, sought}
 use Rattle.relocate.specs.Statepoint.{isStatepoint, Pair, pairs, rightForm, inside, pointerOf}
 
@@ -44,29 +44,30 @@ unfoldable pub extentRight : ℕ → ℕ → ℕ → ℕ → Bool
 extentRight first n rsp size =
     not (eqb size stackSizeUnknown) && (leb first rsp && leb (rsp + size) (first + n))
 
--- 18, 19, of the pairs of a frame whose extent is known: `size` bytes of the image, from `off`
-unfoldable pub planPairs : Bool → List ℕ → Frame → ℕ → ℕ → List Pair → Plan
-planPairs old pool f off size ps =
-    every (rightForm old pool) 18 0 ps
-    (every (inside pool f size) 19 0 ps
-    (window off size (map (pointerOf pool f) ps)))
+module _ (R : Restore) where
+  -- 18, 19, of the pairs of a frame whose extent is so many bytes
+  unfoldable pub planPairs : Frame → ℕ → List Pair → Plan
+  planPairs f size ps =
+      let pool = readSection (R .section) .constants in
+      every (rightForm (isOld (R .section)) pool) 18 0 ps
+      (every (inside pool f size) 19 0 ps
+      (window (f .rsp - R .first) size (map (pointerOf pool f) ps)))
 
--- 12, 16, 17, 18, 19, of a frame whose one record is r, of a function with this stack size
-unfoldable pub planRecord : Bool → List ℕ → ℕ → ℕ → Frame → ℕ → Record → Plan
-planRecord old pool first n f size r =
-    need (isStatepoint r) (refuse 12 0)
-    (need (extentRight first n (f .rsp) size) (refuse 16 0)
-    (need (leb (length (pairs r)) pairsMost) (refuse 17 0)
-    (planPairs old pool f (f .rsp - first) size (pairs r))))
+  -- 12, 16, 17, 18, 19, of a frame whose one record is r, of a function with this stack size, in an image of n bytes
+  unfoldable pub planRecord : ℕ → Frame → ℕ → Record → Plan
+  planRecord n f size r =
+      need (isStatepoint r) (refuse 12 0)
+      (need (extentRight (R .first) n (f .rsp) size) (refuse 16 0)
+      (need (leb (length (pairs r)) (R .most)) (refuse 17 0)
+      (planPairs f size (pairs r))))
 
-abbrev pub planEntry : Bool → List ℕ → ℕ → ℕ → Frame → Entry → Plan
-planEntry old pool first n f e = planRecord old pool first n f (stackSize e) (e .body)
+  abbrev pub planEntry : ℕ → Frame → Entry → Plan
+  planEntry n f e = planRecord n f (stackSize e) (e .body)
 
--- of a frame in an image of n bytes from `first`
-unfoldable pub plan : List ℕ → List ℕ → List ℕ → ℕ → ℕ → Frame → Plan
-plan s olds news first n f =
-    ask refuse
-    (need (imageRight first n) (refuse 13 0)
-    (need (tableRight olds news) (refuse 14 0)
-    (only (recordsOf s f) (planEntry (isOld s) (readSection s .constants) first n f))))
-    (sectionCheck s)
+  unfoldable pub plan : ℕ → Frame → Plan
+  plan n f =
+      ask refuse
+      (need (imageRight (R .first) n) (refuse 13 0)
+      (need (tableRight (R .olds) (R .news)) (refuse 14 0)
+      (only (recordsOf (R .section) f) (planEntry n f))))
+      (sectionCheck (R .section))

@@ -13,18 +13,18 @@ use Rattle.moves.specs.Table.{lookUp}
 use Rattle.moves.specs.Pointers.{newContent}
 use Rattle.moves.specs.Plan.{says, leaves}
 use Rattle.relocate.specs.declared.Frame.{Frame}
+use Rattle.relocate.specs.Restore.{Restore}
 use Rattle.relocate.specs.Statepoint.{isStatepoint, Pair, pairs, isNull, isSlot, slotAddress}
 use Rattle.relocate.specs.Plan.{plan, recordsOf, stackSize}
 
--- section, table and first address stay the same throughout
-module _ (s olds news : List ℕ) (first : ℕ) where
+module _ (R : Restore) where
   -- the answer: a refusal's number and place, or 0 and the number of pairs, null ones included
   unfoldable pub answer : List ℕ → Frame → Move
-  answer im f = says (lookUp olds news) im (plan s olds news first (length im) f)
+  answer im f = says (lookUp (R .olds) (R .news)) im (plan R (length im) f)
 
   -- the image that it leaves
   unfoldable pub moved : List ℕ → Frame → List ℕ
-  moved im f = leaves (lookUp olds news) im (plan s olds news first (length im) f)
+  moved im f = leaves (lookUp (R .olds) (R .news)) im (plan R (length im) f)
 
   -- an answer, and the image that is left, are those of a move
   pub record Relocates (im : List ℕ) (f : Frame) (r : Move) (after : List ℕ) : Type 0 where
@@ -70,5 +70,5 @@ pub record Lists (s : List ℕ) (f : Frame) (b d : ℕ) : Type 0 where
   pub derived-at : slotAddress f (pair .derived) ≡ some d
 
 -- the new content of a derived slot at the address d with its base slot at b, by the image's bytes
-abbrev pub newContentAt : List ℕ → List ℕ → ℕ → List ℕ → ℕ → ℕ → ℕ
-newContentAt olds news first im b d = newContent (lookUp olds news) im (b - first) (d - first)
+abbrev pub newContentAt : Restore → List ℕ → ℕ → ℕ → ℕ
+newContentAt R im b d = newContent (lookUp (R .olds) (R .news)) im (b - R .first) (d - R .first)

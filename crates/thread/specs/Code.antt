@@ -18,6 +18,7 @@ use Rattle.moves.specs.declared.Move.{Move}
 use Rattle.moves.specs.Table.{tableRight}
 use Rattle.moves.specs.Settle.{acceptedMove}
 use Rattle.relocate.specs.declared.Frame.{Frame}
+use Rattle.relocate.specs.Restore.{Restore}
 use Rattle.relocate.specs.Plan.{imageRight, stackSize}
 use Rattle.relocate.specs.Relocation.{moved, OneRecord, extentOf}
 use Rattle.relocate.specs.Lists.{final}
@@ -78,10 +79,10 @@ pub record Looked (s ns : List ℕ) (count : ℕ) (keys hits : List ℕ) : Type 
   pub found : Sought s keys count hits
 
 -- All that a frame's move relies on: 13 and 14 have passed too.
-pub record Ready (s olds news : List ℕ) (first long : ℕ) (ns : List ℕ) (count : ℕ) (keys hits : List ℕ) : Type 0 where
-  pub looked : Looked s ns count keys hits
-  pub image-right : imageRight first long ≡ true
-  pub table-right : tableRight olds news ≡ true
+pub record Ready (R : Restore) (long : ℕ) (ns : List ℕ) (count : ℕ) (keys hits : List ℕ) : Type 0 where
+  pub looked : Looked (R .section) ns count keys hits
+  pub image-right : imageRight (R .first) long ≡ true
+  pub table-right : tableRight (R .olds) (R .news) ≡ true
 
 -- a frame whose extent is known, and ends below 2^64
 pub record Sited (s : List ℕ) (f : Frame) : Type 0 where
@@ -95,14 +96,14 @@ pub record EachSited (s ns : List ℕ) (count : ℕ) : Type 0 where
   pub at : (k : ℕ) → k < count → Sited s (frameAt ns k)
 
 -- the image after a frame is moved, or is only judged
-abbrev pub movedIf : Bool → List ℕ → List ℕ → List ℕ → ℕ → List ℕ → Frame → List ℕ
-movedIf true s olds news first im f = moved s olds news first im f
-movedIf false s olds news first im f = im
+abbrev pub movedIf : Bool → Restore → List ℕ → Frame → List ℕ
+movedIf true R im f = moved R im f
+movedIf false R im f = im
 
 -- what is left to do once the list is right: the frames, then 26
-unfoldable pub framesAnswer : List ℕ → List ℕ → List ℕ → ℕ → List ℕ → List Frame → Move
-framesAnswer s olds news first im fs =
-    judged s olds news first im 0 fs (apart 0 [] (map (extentOf s) fs) (acceptedMove (pairsIn s olds news first im fs)))
+unfoldable pub framesAnswer : Restore → List ℕ → List Frame → Move
+framesAnswer R im fs =
+    judged R im 0 fs (apart 0 [] (map (extentOf (R .section)) fs) (acceptedMove (pairsIn R im fs)))
 
-unfoldable pub framesImage : List ℕ → List ℕ → List ℕ → ℕ → List ℕ → List Frame → List ℕ
-framesImage s olds news first im fs = cond (eqb (framesAnswer s olds news first im fs .number) 0) (final s olds news first fs im) im
+unfoldable pub framesImage : Restore → List ℕ → List Frame → List ℕ
+framesImage R im fs = cond (eqb (framesAnswer R im fs .number) 0) (final R fs im) im

@@ -12,6 +12,7 @@ use Rattle.moves.specs.declared.Move.{Move}
 use Rattle.moves.specs.Table.{tableRight}
 use Rattle.moves.specs.Settle.{refusedMove, acceptedMove}
 use Rattle.relocate.specs.declared.Frame.{Frame}
+use Rattle.relocate.specs.Restore.{Restore}
 use Rattle.relocate.specs.Plan.{imageRight}
 use Rattle.relocate.specs.Relocation.{answer, Extent, extentOf}
 use Rattle.relocate.specs.Lists.{final}
@@ -53,7 +54,7 @@ abbrev pub sharesOne : Extent → List Extent → Bool
 sharesOne x [] = false
 sharesOne x (y ∷ ys) = share (x .start) (x .end) (y .start) (y .end) || sharesOne x ys
 
--- The call. Section, table, first address and image are those that were lent.
+-- The call. The image is the one that was lent.
 
 -- go on after an accepted frame; the number of a refused one is given with its position
 unfoldable pub passes : Move → ℕ → Move → Move
@@ -66,32 +67,32 @@ apart i earlier (x ∷ xs) k =
     let r = apart (suc i) (x ∷ earlier) xs k in
     cond (sharesOne x earlier) (refusedMove 26 i) r
 
-module _ (s olds news : List ℕ) (first : ℕ) (im : List ℕ) where
+module _ (R : Restore) (im : List ℕ) where
   -- the first refused frame's number with its position; each frame is judged by itself, and the first of these has the position i
   unfoldable pub judged : ℕ → List Frame → Move → Move
   judged i [] k = k
-  judged i (f ∷ fs) k = passes (answer s olds news first im f) i (judged (suc i) fs k)
+  judged i (f ∷ fs) k = passes (answer R im f) i (judged (suc i) fs k)
 
   -- the sum of the pairs, null ones included
   unfoldable pub pairsIn : List Frame → ℕ
   pairsIn [] = 0
-  pairsIn (f ∷ fs) = answer s olds news first im f .count + pairsIn fs
+  pairsIn (f ∷ fs) = answer R im f .count + pairsIn fs
 
   -- 1 to 9, 13, 14, 25, then the frames, then 26
   unfoldable pub threadAnswer : List ℕ → Move
   threadAnswer ns =
       ask refusedMove
-      (need (imageRight first (length im)) (refusedMove 13 0)
-      (need (tableRight olds news) (refusedMove 14 0)
+      (need (imageRight (R .first) (length im)) (refusedMove 13 0)
+      (need (tableRight (R .olds) (R .news)) (refusedMove 14 0)
       (need (listRight ns) (refusedMove 25 0)
       (judged 0 (framesOf ns)
-      (apart 0 [] (map (extentOf s) (framesOf ns))
+      (apart 0 [] (map (extentOf (R .section)) (framesOf ns))
       (acceptedMove (pairsIn (framesOf ns))))))))
-      (sectionCheck s)
+      (sectionCheck (R .section))
 
   -- the image got frame by frame in list order, or the image as lent
   unfoldable pub threadImage : List ℕ → List ℕ
-  threadImage ns = cond (eqb (threadAnswer ns .number) 0) (final s olds news first (framesOf ns) im) im
+  threadImage ns = cond (eqb (threadAnswer ns .number) 0) (final R (framesOf ns) im) im
 
   -- an answer, and the image that is left, are those of the call
   pub record Threads (ns : List ℕ) (r : Move) (after : List ℕ) : Type 0 where
