@@ -13,6 +13,7 @@ use Rattle.listing.specs.Listing.{Converted, toListing, toSection}
 use Rattle.listing.specs.RoundTrip.{result}
 use Rattle.moves.specs.declared.Move.{Move}
 use Rattle.relocate.specs.declared.Frame.{Frame}
+use Rattle.relocate.specs.declared.Machine.the-variants.{Amd64}
 use Rattle.relocate.specs.Restore.{restore}
 use Rattle.relocate.specs.Relocation.{answer, moved}
 
@@ -45,8 +46,8 @@ shifted zero a im = gives (a .count) im
 shifted (suc n) a im = leaves (suc n) (a .place) im
 
 abbrev pub frame : Bool → Frame
-frame true = record { address = 0x20; rbp = 0; rsp = 0x7000; function = 0 }
-frame false = record { address = 0x1020; rbp = 0; rsp = 0x7000; function = 0 }
+frame true = record { machine = Amd64; address = 0x20; function = 0; fp = 0; sp = 0x7000 }
+frame false = record { machine = Amd64; address = 0x1020; function = 0; fp = 0; sp = 0x7000 }
 
 -- an output with room enough
 abbrev pub room : List ℕ

@@ -113,7 +113,7 @@ module _ (R : Restore) (im im′ : List ℕ) (f : Frame) (g : AgreeOnSlots R f i
       q : Planned R (length im) f off size ps
       q = planned R (length im) f e k off size ps h
 
-      at : (b i : ℕ) → b + 8 ≤ size → In b 8 i → ((j : ℕ) → In (f .rsp + b) 8 (R .first + j) → getD im j 0 ≡ getD im′ j 0)
+      at : (b i : ℕ) → b + 8 ≤ size → In b 8 i → ((j : ℕ) → In (f .sp + b) 8 (R .first + j) → getD im j 0 ≡ getD im′ j 0)
           → getD (part im off size) i 0 ≡ getD (part im′ off size) i 0
       at b i l r same =
           let z = q .off-is in

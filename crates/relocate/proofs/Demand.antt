@@ -61,7 +61,7 @@ accepted-section R im f h = go (sectionCheck (R .section)) refl
 
 -- the extent of a frame that has one
 extent-is : (s : List ℕ) (f : Frame) (e : Entry) → OneRecord s f e → (stackSize e ≡ stackSizeUnknown → ⊥)
-    → extentOf s f ≡ record { start = f .rsp; end = f .rsp + stackSize e }
+    → extentOf s f ≡ record { start = f .sp; end = f .sp + stackSize e }
 unfolding extentOf
 extent-is s f e one k = rw (one, ne-eqb (stackSize e) stackSizeUnknown k)
 
@@ -95,8 +95,8 @@ module _ (R : Restore) (e : ℕ) (k : sectionCheck (R .section) ≡ Valid e) whe
       go (window off size ws) h q =
           let w = planned R n f e k off size ws h in
           let x = extent-is (R .section) f (w .entry) (w .one) (w .known) in
-          let a : f .rsp ≤ R .first + i = omega arith in
-          let b : R .first + i < f .rsp + stackSize (w .entry) = omega arith in
+          let a : f .sp ≤ R .first + i = omega arith in
+          let b : R .first + i < f .sp + stackSize (w .entry) = omega arith in
           record { low = rw x a; high = rw x b }
 
   disjoint : (n : ℕ) (fs : List Frame) → Disjoint (R .section) fs → WindowsApart P n fs
@@ -167,8 +167,8 @@ module _ (R : Restore) (e : ℕ) (k : sectionCheck (R .section) ≡ Valid e) whe
       let v = from-slots (readSection (R .section) .constants) f (stackSize (q .entry)) (l .pair) (q .insides (l .pair) m) (l .not-null) in
       let b′ = slotAt f (l .pair .base) in
       let d′ = slotAt f (l .pair .derived) in
-      let eb : b ≡ f .rsp + b′ = one-address (l .base-at) (v .base-at) in
-      let ed : d ≡ f .rsp + d′ = one-address (l .derived-at) (v .derived-at) in
+      let eb : b ≡ f .sp + b′ = one-address (l .base-at) (v .base-at) in
+      let ed : d ≡ f .sp + d′ = one-address (l .derived-at) (v .derived-at) in
       let mem : List·Memᴰ (slots b′ d′) (a .pairs) =
       rw (q .pairs-are, ← pair-slots (readSection (R .section) .constants) f (l .pair) (l .not-null)) (Memᴰ·map (pointerOf (readSection (R .section) .constants) f) m) in
       let ob : b - R .first ≡ a .off + b′ = omega (arith, q .off-is, q .low) in
@@ -189,7 +189,7 @@ module _ (R : Restore) (e : ℕ) (k : sectionCheck (R .section) ≡ Valid e) whe
       rw (final-run fs im)
       (final-rest table P snd fs im (disjoint (length im) fs dis) i (λ f m off size ps b d h.
       let q = planned R (length im) f e k off size ps (h .planned) in
-      none (f .rsp + b) (f .rsp + d)
+      none (f .sp + b) (f .sp + d)
       (record {
         frame = f;
         in-list = m;

@@ -20,6 +20,7 @@ use Rattle.moves.specs.Table.{tableRight}
 use Rattle.moves.specs.Plan.{Plan, refuse, window}
 use Rattle.moves.proofs.Lists.{Sound}
 use Rattle.relocate.specs.declared.Frame.{Frame}
+use Rattle.relocate.specs.declared.Machine.{Machine}
 use Rattle.questions.specs.Questions.{ask}
 use Rattle.relocate.specs.Restore.{Restore}
 use Rattle.relocate.specs.Statepoint.{isStatepoint, Pair, pairs, isNull, isSlot, rightForm, slotAddress, slotInside, slotAt, inside, pointerOf}
@@ -88,17 +89,17 @@ module _ {off size : ℕ} {ws : List Pointer} where
 
 -- the slots of a pair that is not null, and inside
 slot-inside : (f : Frame) (n : ℕ) (l : Location) → slotInside f n l ≡ true
-    → (slotAddress f l ≡ some (f .rsp + slotAt f l)) × (slotAt f l + 8 ≤ n)
+    → (slotAddress f l ≡ some (f .sp + slotAt f l)) × (slotAt f l + 8 ≤ n)
 unfolding slotInside slotAt
 slot-inside f n l h = go (slotAddress f l) refl
   where
     go : (x : Option ℕ) → slotAddress f l ≡ x
-        → (slotAddress f l ≡ some (f .rsp + (orZero (slotAddress f l) - f .rsp))) × (orZero (slotAddress f l) - f .rsp + 8 ≤ n)
+        → (slotAddress f l ≡ some (f .sp + (orZero (slotAddress f l) - f .sp))) × (orZero (slotAddress f l) - f .sp + 8 ≤ n)
     go none e = absurd (true≢false (sym (rw e at h)))
     go (some a) e =
-        let t = and-true (leb (f .rsp) a) (leb (a + 8) (f .rsp + n)) (rw e at h) in
-        let x : f .rsp ≤ a = leb-true _ _ (t .0) in
-        let y : a + 8 ≤ f .rsp + n = leb-true _ _ (t .1) in
+        let t = and-true (leb (f .sp) a) (leb (a + 8) (f .sp + n)) (rw e at h) in
+        let x : f .sp ≤ a = leb-true _ _ (t .0) in
+        let y : a + 8 ≤ f .sp + n = leb-true _ _ (t .1) in
         rw e (ap some (omega arith), omega arith)
 
 -- a pair of the window, and the pair that it comes from
@@ -106,8 +107,8 @@ pub record From (pool : List ℕ) (f : Frame) (n b d : ℕ) (p : Pair) : Type 0 
   pub not-null : isNull pool p ≡ false
   pub base-is : b ≡ slotAt f (p .base)
   pub derived-is : d ≡ slotAt f (p .derived)
-  pub base-at : slotAddress f (p .base) ≡ some (f .rsp + b)
-  pub derived-at : slotAddress f (p .derived) ≡ some (f .rsp + d)
+  pub base-at : slotAddress f (p .base) ≡ some (f .sp + b)
+  pub derived-at : slotAddress f (p .derived) ≡ some (f .sp + d)
   pub base-in : b + 8 ≤ n
   pub derived-in : d + 8 ≤ n
 
@@ -141,10 +142,10 @@ pub one-address : {x : Option ℕ} {a b : ℕ} → x ≡ some a → x ≡ some b
 one-address {a = a} {b = b} h k = let e : some a ≡ some b = sym h ∙ k in cc
 
 -- a pair of the right form that is not null has two slots
-form-slots : (old : Bool) (pool : List ℕ) (p : Pair) → rightForm old pool p ≡ true → isNull pool p ≡ false
-    → (isSlot old (p .base) ≡ true) × (isSlot old (p .derived) ≡ true)
+form-slots : (m : Machine) (old : Bool) (pool : List ℕ) (p : Pair) → rightForm m old pool p ≡ true → isNull pool p ≡ false
+    → (isSlot m old (p .base) ≡ true) × (isSlot m old (p .derived) ≡ true)
 unfolding rightForm
-form-slots old pool p h e = and-true _ _ (rw e at h)
+form-slots m old pool p h e = and-true _ _ (rw e at h)
 
 module _ (R : Restore) (n : ℕ) (f : Frame) where
   abbrev pool : List ℕ
@@ -154,13 +155,13 @@ module _ (R : Restore) (n : ℕ) (f : Frame) where
     pub entry : Entry
     pub one : recordsOf (R .section) f ≡ entry ∷ []
     pub known : stackSize entry ≡ stackSizeUnknown → ⊥
-    pub low : R .first ≤ f .rsp
-    pub high : f .rsp + stackSize entry ≤ R .first + n
-    pub off-is : off ≡ f .rsp - R .first
+    pub low : R .first ≤ f .sp
+    pub high : f .sp + stackSize entry ≤ R .first + n
+    pub off-is : off ≡ f .sp - R .first
     pub size-is : size ≡ stackSize entry
     pub pairs-are : ws ≡ map (pointerOf pool f) (pairs (entry .body))
     pub statepoint : isStatepoint (entry .body) ≡ true
-    pub forms : (p : Pair) → List·Memᴰ p (pairs (entry .body)) → rightForm (isOld (R .section)) pool p ≡ true
+    pub forms : (p : Pair) → List·Memᴰ p (pairs (entry .body)) → rightForm (f .machine) (isOld (R .section)) pool p ≡ true
     pub insides : (p : Pair) → List·Memᴰ p (pairs (entry .body)) → inside pool f (stackSize entry) p ≡ true
 
   pub planned : (e : ℕ) → sectionCheck (R .section) ≡ Valid e → (off size : ℕ) (ws : List Pointer) → plan R n f ≡ window off size ws → Planned off size ws
@@ -169,7 +170,7 @@ module _ (R : Restore) (n : ℕ) (f : Frame) where
       let h₀ = need-held (tableRight (R .olds) (R .news)) 14 _ (need-held (imageRight (R .first) n) 13 _ (rw k at h) .1) in
       let o = only-held _ _ (h₀ .1) in
       let h₁ = need-held (isStatepoint (o .0 .body)) 12 _ (o .2) in
-      let h₂ = need-held (extentRight (R .first) n (f .rsp) (stackSize (o .0))) 16 _ (h₁ .1) in
+      let h₂ = need-held (extentRight (R .first) n (f .sp) (stackSize (o .0))) 16 _ (h₁ .1) in
       let h₃ = need-held (leb (length (pairs (o .0 .body))) (R .most)) 17 _ (h₂ .1) in
       let h₄ = every-held _ _ _ _ _ (h₃ .1) in
       let h₅ = every-held _ _ _ _ _ (h₄ .1) in
@@ -195,7 +196,7 @@ module _ (R : Restore) (n : ℕ) (f : Frame) where
   plan-above e k =
       rw k
       (need-above (imageRight (R .first) n) 12 _ (need-above (tableRight (R .olds) (R .news)) 13 _ (only-above _ _ (λ x.
-      need-above (isStatepoint (x .body)) 11 _ (need-above (extentRight (R .first) n (f .rsp) (stackSize x)) 15 _
+      need-above (isStatepoint (x .body)) 11 _ (need-above (extentRight (R .first) n (f .sp) (stackSize x)) 15 _
       (need-above (leb (length (pairs (x .body))) (R .most)) 16 _ (every-above _ 17 0 _ _ (every-above _ 18 0 _ _ tt))))))))
 
   pub window-pair : (e : ℕ) → sectionCheck (R .section) ≡ Valid e → (off size : ℕ) (ws : List Pointer) (q : Planned off size ws)
@@ -206,10 +207,10 @@ module _ (R : Restore) (n : ℕ) (f : Frame) where
 
   -- and is listed
   pub window-lists : (e : ℕ) → sectionCheck (R .section) ≡ Valid e → (off size : ℕ) (ws : List Pointer) (q : Planned off size ws)
-      → (b d : ℕ) → List·Memᴰ (slots b d) ws → Lists (R .section) f (f .rsp + b) (f .rsp + d)
+      → (b d : ℕ) → List·Memᴰ (slots b d) ws → Lists (R .section) f (f .sp + b) (f .sp + d)
   window-lists e k off size ws q b d m =
       let v = window-pair e k off size ws q b d m in
-      let t = form-slots (isOld (R .section)) pool (v .0) (q .forms (v .0) (v .1)) (v .2 .not-null) in
+      let t = form-slots (f .machine) (isOld (R .section)) pool (v .0) (q .forms (v .0) (v .1)) (v .2 .not-null) in
       record {
         entry = q .entry;
         one = q .one;

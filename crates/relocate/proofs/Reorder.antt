@@ -86,8 +86,8 @@ same-entry R R′ n f e e′ w l =
     let old = isOld (R .section) in
     let pool = readSection (R .section) .constants in
     rw (l .body-like .statepoint-same, o, c, w .old-same, w .pool-same, w .first-same, w .most-same)
-    (same-need (isStatepoint (e .body)) 12 _ _ (same-need (extentRight (R .first) n (f .rsp) (stackSize e)) 16 _ _ (same-need (leb (length (pairs (e .body))) (R .most)) 17 _ _
-    (same-every (rightForm old pool) 18 0 _ _ _ _ (omega arith) p (same-every (inside pool f (stackSize e)) 19 0 _ _ _ _ (omega arith) p (windows (Permᴰ·map (pointerOf pool f) p)))))))
+    (same-need (isStatepoint (e .body)) 12 _ _ (same-need (extentRight (R .first) n (f .sp) (stackSize e)) 16 _ _ (same-need (leb (length (pairs (e .body))) (R .most)) 17 _ _
+    (same-every (rightForm (f .machine) old pool) 18 0 _ _ _ _ (omega arith) p (same-every (inside pool f (stackSize e)) 19 0 _ _ _ _ (omega arith) p (windows (Permᴰ·map (pointerOf pool f) p)))))))
 
 with-like : (a : ℕ) (es es′ : List Entry) → EntriesLike es es′ → EntriesLike (withAddress a es) (withAddress a es′)
 unfolding withAddress

@@ -54,7 +54,7 @@ locationOf a = record { kind = a .kind; size = a .size; register = a .register; 
 unfoldable pub zeroSaid : LocationAnswer → Bool
 zeroSaid a = eqb (a .constant) 0 && (eqb (a .kind) kindConstant || eqb (a .kind) kindConstIndex)
 
--- Slots in the n bytes from RSP, counted from RSP; none for a slot that is not wholly inside.
+-- Slots in the n bytes from the stack pointer, counted from it; none for a slot that is not wholly inside.
 
 abbrev pub spotOf : Spot → Option ℕ
 spotOf (At p) = some p
@@ -63,11 +63,11 @@ spotOf Outside = none
 unfoldable pub slotIn : Frame → ℕ → Location → Option ℕ
 slotIn f n l = cond (slotInside f n l) (some (slotAt f l)) none
 
--- the same by numbers: the register, RSP and the offset's 32 bits
+-- the same by numbers: the register, the stack pointer and the offset's 32 bits
 unfoldable pub positionIn : ℕ → ℕ → ℕ → ℕ → Option ℕ
-positionIn register rsp offset n =
+positionIn register sp offset n =
     let a = plusOffset register (asOffset offset) in
-    cond (wholly rsp n a) (some (orZero a - rsp)) none
+    cond (wholly sp n a) (some (orZero a - sp)) none
 
 unfoldable pub placeIn : ℕ → ℕ → Option ℕ
 placeIn p n = cond (leb (p + pointerSize) n) (some p) none

@@ -41,23 +41,23 @@ stackSize e = e .owner .function .stackSize
 
 -- 16: stack size unknown, or extent not inside the image of n bytes from `first`
 unfoldable pub extentRight : ℕ → ℕ → ℕ → ℕ → Bool
-extentRight first n rsp size =
-    not (eqb size stackSizeUnknown) && (leb first rsp && leb (rsp + size) (first + n))
+extentRight first n sp size =
+    not (eqb size stackSizeUnknown) && (leb first sp && leb (sp + size) (first + n))
 
 module _ (R : Restore) where
   -- 18, 19, of the pairs of a frame whose extent is so many bytes
   unfoldable pub planPairs : Frame → ℕ → List Pair → Plan
   planPairs f size ps =
       let pool = readSection (R .section) .constants in
-      every (rightForm (isOld (R .section)) pool) 18 0 ps
+      every (rightForm (f .machine) (isOld (R .section)) pool) 18 0 ps
       (every (inside pool f size) 19 0 ps
-      (window (f .rsp - R .first) size (map (pointerOf pool f) ps)))
+      (window (f .sp - R .first) size (map (pointerOf pool f) ps)))
 
   -- 12, 16, 17, 18, 19, of a frame whose one record is r, of a function with this stack size, in an image of n bytes
   unfoldable pub planRecord : ℕ → Frame → ℕ → Record → Plan
   planRecord n f size r =
       need (isStatepoint r) (refuse 12 0)
-      (need (extentRight (R .first) n (f .rsp) size) (refuse 16 0)
+      (need (extentRight (R .first) n (f .sp) size) (refuse 16 0)
       (need (leb (length (pairs r)) (R .most)) (refuse 17 0)
       (planPairs f size (pairs r))))
 

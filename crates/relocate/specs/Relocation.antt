@@ -35,20 +35,20 @@ module _ (R : Restore) where
 abbrev pub OneRecord : List ℕ → Frame → Entry → Type 0
 OneRecord s f e = recordsOf s f ≡ e ∷ []
 
--- Its extent is the bytes from RSP up to, not including, RSP plus its function's stack size, without wrapping.
+-- Its extent is the bytes from the stack pointer up to, not including, the stack pointer plus its function's stack size, without wrapping.
 pub record Extent : Type 0 where
   pub start : ℕ
   pub end : ℕ
 
 -- a frame without exactly one record, or with stack size unknown, has no extent: no byte is in it
 abbrev pub extentBy : ℕ → List Entry → Extent
-extentBy rsp [] = record { start = rsp; end = rsp }
-extentBy rsp (e ∷ []) =
-    record { start = rsp; end = cond (eqb (stackSize e) stackSizeUnknown) rsp (rsp + stackSize e) }
-extentBy rsp (e ∷ e′ ∷ es) = record { start = rsp; end = rsp }
+extentBy sp [] = record { start = sp; end = sp }
+extentBy sp (e ∷ []) =
+    record { start = sp; end = cond (eqb (stackSize e) stackSizeUnknown) sp (sp + stackSize e) }
+extentBy sp (e ∷ e′ ∷ es) = record { start = sp; end = sp }
 
 unfoldable pub extentOf : List ℕ → Frame → Extent
-extentOf s f = extentBy (f .rsp) (recordsOf s f)
+extentOf s f = extentBy (f .sp) (recordsOf s f)
 
 -- the byte at the address a is in it
 pub record InExtent (s : List ℕ) (f : Frame) (a : ℕ) : Type 0 where
@@ -64,8 +64,8 @@ pub record Lists (s : List ℕ) (f : Frame) (b d : ℕ) : Type 0 where
   pub pair : Pair
   pub listed : List·Memᴰ pair (pairs (entry .body))
   pub not-null : isNull (readSection s .constants) pair ≡ false
-  pub base-slot : isSlot (isOld s) (pair .base) ≡ true
-  pub derived-slot : isSlot (isOld s) (pair .derived) ≡ true
+  pub base-slot : isSlot (f .machine) (isOld s) (pair .base) ≡ true
+  pub derived-slot : isSlot (f .machine) (isOld s) (pair .derived) ≡ true
   pub base-at : slotAddress f (pair .base) ≡ some b
   pub derived-at : slotAddress f (pair .derived) ≡ some d
 

@@ -93,23 +93,23 @@ module _ (R : Restore) (f : Frame) (size : ℕ) (r : Record) (count : ℕ) (c : 
   abbrev pool : List ℕ
   pool = poolOf (R .section)
 
-  module _ (wrong : ℕ) (w : wrong ≡ lowest (λ p. not (rightForm old pool (pairNumber r p))) count) where
+  module _ (wrong : ℕ) (w : wrong ≡ lowest (λ p. not (rightForm (f .machine) old pool (pairNumber r p))) count) where
     pub pairs-18 : wrong < count → planPairs R f size (pairs r) ≡ refuse 18 wrong
     unfolding planPairs
-    pairs-18 h = every-refused (rightForm old pool) 18 r _ count wrong c w h
+    pairs-18 h = every-refused (rightForm (f .machine) old pool) 18 r _ count wrong c w h
 
     module _ (right : count ≤ wrong) (out : ℕ) (o : out ≡ lowest (λ p. not (inside pool f size (pairNumber r p))) count) where
       pub pairs-19 : out < count → planPairs R f size (pairs r) ≡ refuse 19 out
       unfolding planPairs
-      pairs-19 h = every-passed (rightForm old pool) 18 r _ count wrong c w right ∙ every-refused (inside pool f size) 19 r _ count out c o h
+      pairs-19 h = every-passed (rightForm (f .machine) old pool) 18 r _ count wrong c w right ∙ every-refused (inside pool f size) 19 r _ count out c o h
 
-      pub pairs-on : count ≤ out → (off : ℕ) → off ≡ f .rsp - R .first → (live bases derived : List ℕ)
+      pub pairs-on : count ≤ out → (off : ℕ) → off ≡ f .sp - R .first → (live bases derived : List ℕ)
           → pointersOf count live bases derived ≡ map (pointerOf pool f) (pairs r)
           → planPairs R f size (pairs r) ≡ window off (off + size - off) (pointersOf count live bases derived)
       unfolding planPairs
       pairs-on h off e live bases derived m =
           let z : off + size - off ≡ size = omega arith in
-          every-passed (rightForm old pool) 18 r _ count wrong c w right ∙ every-passed (inside pool f size) 19 r _ count out c o h ∙ rw (m, z, e)
+          every-passed (rightForm (f .machine) old pool) 18 r _ count wrong c w right ∙ every-passed (inside pool f size) 19 r _ count out c o h ∙ rw (m, z, e)
 
 -- 12, 16, 17
 
@@ -119,11 +119,11 @@ module _ (R : Restore) (n : ℕ) (f : Frame) (size : ℕ) (r : Record) where
   record-12 h = rw h
 
   module _ (s : isStatepoint r ≡ true) where
-    pub record-16 : extentRight (R .first) n (f .rsp) size ≡ false → planRecord R n f size r ≡ refuse 16 0
+    pub record-16 : extentRight (R .first) n (f .sp) size ≡ false → planRecord R n f size r ≡ refuse 16 0
     unfolding planRecord
     record-16 h = rw (s, h)
 
-    module _ (e : extentRight (R .first) n (f .rsp) size ≡ true) (count : ℕ) (c : count ≡ length (pairs r)) where
+    module _ (e : extentRight (R .first) n (f .sp) size ≡ true) (count : ℕ) (c : count ≡ length (pairs r)) where
       pub record-17 : R .most < count → planRecord R n f size r ≡ refuse 17 0
       unfolding planRecord
       record-17 h = rw (s, e, ← c, lt-leb count (R .most) h)

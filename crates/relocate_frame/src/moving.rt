@@ -35,7 +35,7 @@ pub fn refused(number: u8, place: usize) -> Move
     }
 }
 
-// 18, 19, and the move of the window of `size` bytes from RSP. The record at `at` has `count` pairs, from location `start` on.
+// 18, 19, and the move of the window of `size` bytes from the stack pointer. The record at `at` has `count` pairs, from location `start` on.
 fn move_pairs(
     s: &[u8],
     at: usize,
@@ -49,10 +49,11 @@ fn move_pairs(
     frame: Frame,
     write: bool,
 ) -> Move
-    requires { ⌜ Paired (now s) at start count × (count ≤ pairsMost) × (extentRight first (length (now image)) (frame .rsp) size ≡ true) × (size ≤ imageMost) × (tableRight (now olds) (now news) ≡ true) ⌝ }
+    requires { ⌜ Paired (now s) at start count × (count ≤ pairsMost) × (extentRight first (length (now image)) (frame .sp) size ≡ true) × (size ≤ imageMost) × (tableRight (now olds) (now news) ≡ true) ⌝ }
     ensures { λ r. ⌜ Follows write r (now (image .exit)) (lookUp (now (olds .entry)) (now (news .entry))) (now (image .entry)) (planPairs (restore (now (s .entry)) (now (olds .entry)) (now (news .entry)) first) frame size (spec.pairs (recordOf (now (s .entry)) at))) ⌝ }
 {
-    let wrong = pairs::wrong_form(s, at, start, count);
+    let machine = frame.machine;
+    let wrong = pairs::wrong_form(machine, s, at, start, count);
     if wrong < count {
         return refused(18, wrong);
     }
@@ -63,7 +64,7 @@ fn move_pairs(
     let live = pairs::live_pairs(s, at, start, count);
     let bases = pairs::slots_of(s, at, start, count, frame, size, &live);
     let derived = pairs::slots_of(s, at, start + 1, count, frame, size, &live);
-    let off = (frame.rsp - first) as usize;
+    let off = (frame.sp - first) as usize;
     moves_window::move_window(
         image,
         off,
@@ -94,7 +95,7 @@ fn move_record(
     ensures { λ r. ⌜ Follows write r (now (image .exit)) (lookUp (now (olds .entry)) (now (news .entry))) (now (image .entry)) (planRecord (restore (now (s .entry)) (now (olds .entry)) (now (news .entry)) first) (length (now (image .entry))) frame size (recordOf (now (s .entry)) at)) ⌝ }
 {
     if statepoint::is_statepoint(s, at) {
-        if extent::extent_right(first, image.len(), frame.rsp, size) {
+        if extent::extent_right(first, image.len(), frame.sp, size) {
             let p = statepoint::pairs_of(s, at);
             let count = p.count;
             if count > PAIRS_MOST {

@@ -89,7 +89,7 @@ pub record Sited (s : List ℕ) (f : Frame) : Type 0 where
   pub entry : Entry
   pub one : OneRecord s f entry
   pub known : stackSize entry ≡ stackSizeUnknown → ⊥
-  pub ends : f .rsp + stackSize entry < 2 ^ 64
+  pub ends : f .sp + stackSize entry < 2 ^ 64
 
 -- each of the first `count` frames has one
 pub record EachSited (s ns : List ℕ) (count : ℕ) : Type 0 where

@@ -12,6 +12,7 @@ use Rattle.moves.specs.declared.Move.{Move}
 use Rattle.moves.specs.Table.{tableRight}
 use Rattle.moves.specs.Settle.{refusedMove, acceptedMove}
 use Rattle.relocate.specs.declared.Frame.{Frame}
+use Rattle.relocate.specs.declared.Machine.the-variants.{Amd64}
 use Rattle.relocate.specs.Restore.{Restore}
 use Rattle.relocate.specs.Plan.{imageRight}
 use Rattle.relocate.specs.Relocation.{answer, Extent, extentOf}
@@ -35,10 +36,11 @@ listRight ns = eqb (length ns % frameNumbers) 0 && leb (length ns / frameNumbers
 unfoldable pub frameAt : List ℕ → ℕ → Frame
 frameAt ns k =
     record {
+      machine = Amd64;
       address = getD ns (frameNumbers * k) 0;
-      rbp = getD ns (frameNumbers * k + 1) 0;
-      rsp = getD ns (frameNumbers * k + 2) 0;
       function = getD ns (frameNumbers * k + 3) 0;
+      fp = getD ns (frameNumbers * k + 1) 0;
+      sp = getD ns (frameNumbers * k + 2) 0;
     }
 
 -- n frames, from the position k on

@@ -41,7 +41,7 @@ accepted-sited R im f k i z =
     record { entry = p .entry; one = p .one; known = p .known; ends = omega (arith, p .high) }
 
 module _ (s : List ℕ) (f : Frame) (t : Sited s f) where
-  pub extent-is : (extentOf s f .start ≡ f .rsp) × (extentOf s f .end ≡ f .rsp + stackSize (t .entry))
+  pub extent-is : (extentOf s f .start ≡ f .sp) × (extentOf s f .end ≡ f .sp + stackSize (t .entry))
   unfolding extentOf
   extent-is = rw (t .one, ne-eqb _ _ (t .known)) (refl, refl)
 

@@ -61,7 +61,7 @@ module _ (R : Restore) where
   record-few : (n : ℕ) (f : Frame) (size : ℕ) (r : Record) → Few (planRecord R n f size r)
   unfolding planRecord
   record-few n f size r =
-      need-few (isStatepoint r) 12 _ (λ a. need-few (extentRight (R .first) n (f .rsp) size) 16 _ (λ b. need-few (leb (length (pairs r)) (R .most)) 17 _ (λ c.
+      need-few (isStatepoint r) 12 _ (λ a. need-few (extentRight (R .first) n (f .sp) size) 16 _ (λ b. need-few (leb (length (pairs r)) (R .most)) 17 _ (λ c.
       pairs-few f size (pairs r) (leb-true (length (pairs r)) (R .most) c))))
 
   plan-few : (n : ℕ) (f : Frame) → Few (plan R n f)

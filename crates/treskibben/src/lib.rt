@@ -223,10 +223,11 @@ pub extern "C" fn treskibben_relocate(
     ensures { λ r. ⌜ (r ≡ moveAnswer (Relocation.answer (restore (now (section .entry)) (now (olds .entry)) (now (news .entry)) first) (now (image .entry)) (frameOf frame))) × (now (image .exit) ≡ Relocation.moved (restore (now (section .entry)) (now (olds .entry)) (now (news .entry)) first) (now (image .entry)) (frameOf frame)) ⌝ }
 {
     let f = relocate::Frame {
+        machine: relocate::Machine::Amd64,
         address: frame.address,
-        rbp: frame.rbp,
-        rsp: frame.rsp,
         function: frame.function,
+        fp: frame.rbp,
+        sp: frame.rsp,
     };
     let m = relocate_frame::relocate(section, image, first, olds, news, f);
     Answer {

@@ -6,8 +6,8 @@ use Rattle.treskibben.proofs.treskibben_relocate.Tie as tie
 relocate-requires : tie.Need-relocate-requires
 relocate-requires c κs = search needs
 
-cast-t11 : tie.Need-cast-t11
-cast-t11 c = search needs
+cast-t12 : tie.Need-cast-t12
+cast-t12 c = search needs
 
 same-length : tie.Need-same-length
 same-length c = search needs
@@ -18,4 +18,4 @@ returns c =
     (rw (← t .answer-is), t .image-is)
 
 pub treskibben-relocate-spec : {M : Type 1} → statement M
-treskibben-relocate-spec = tie.close (tie.spec relocate-requires cast-t11 same-length returns)
+treskibben-relocate-spec = tie.close (tie.spec relocate-requires cast-t12 same-length returns)

@@ -71,20 +71,20 @@ slots-of-requires-2 c κs =
 sub-off : tie.Need-sub-off
 sub-off c =
     let s = c .before .before .before .before .before .before .before .before .before .before .before .before .before .before in
-    omega (arith, extent-tells (s .args .first) (length (s .args .image .now)) (s .args .frame .rsp) (s .args .size) (s .pre .2))
+    omega (arith, extent-tells (s .args .first) (length (s .args .image .now)) (s .args .frame .sp) (s .args .size) (s .pre .2))
 
 add-move-window : tie.Need-add-move-window
 add-move-window c =
     let s = c .before .before .before .before .before .before .before .before .before .before .before .before .before .before .before in
-    omega (arith, extent-tells (s .args .first) (length (s .args .image .now)) (s .args .frame .rsp) (s .args .size) (s .pre .2))
+    omega (arith, extent-tells (s .args .first) (length (s .args .image .now)) (s .args .frame .sp) (s .args .size) (s .pre .2))
 
 move-window-requires : tie.Need-move-window-requires
 move-window-requires c κs =
     let s = c .before .before .before .before .before .before .before .before .before .before .before .before .before .before .before .before .before .before in
     let r = recordOf (s .args .s .now) (s .args .at) in
     let i = each-passed (inside (poolOf (s .args .s .now)) (s .args .frame) (s .args .size)) r (s .args .count) (c .before .before .before .before .before .before .before .before .before .before .before .outside .result) (c .before .before .before .before .before .before .before .before .before .before .before .outside .ensures) (c .before .before .before .before .before .before .before .before .before .before .if2 .left) in
-    let e = extent-tells (s .args .first) (length (s .args .image .now)) (s .args .frame .rsp) (s .args .size) (s .pre .2) in
-    let off = s .args .frame .rsp - s .args .first in
+    let e = extent-tells (s .args .first) (length (s .args .image .now)) (s .args .frame .sp) (s .args .size) (s .pre .2) in
+    let off = s .args .frame .sp - s .args .first in
     let z : off + s .args .size - off ≡ s .args .size = omega arith in (
       omega arith,
       omega arith,
@@ -101,7 +101,7 @@ returns-3 c =
     let s = c .before .before .before .before .before .before .before .before .before .before .before .before .before .before .before .before .before .before .before .before .before in
     let r = recordOf (s .args .s .now) (s .args .at) in
     let m = arrays-meet (poolOf (s .args .s .now)) r (s .args .frame) (s .args .start) (s .args .count) _ _ _ (s .pre .0 .starts) (s .pre .0 .counted) (c .before .before .before .before .before .before .before .before .before .before .before .before .live-pairs .ensures) (c .before .before .before .before .before .before .before .before .before .before .slots-of .ensures) (c .before .before .before .before .before .before .before .before .slots-of2 .ensures) in
-    rw (pairs-on (restore (s .args .s .now) (s .args .olds .now) (s .args .news .now) (s .args .first)) (s .args .frame) (s .args .size) r (s .args .count) (s .pre .0 .counted) _ (c .before .before .before .before .before .before .before .before .before .before .before .before .before .before .before .before .wrong-form .ensures) (c .before .before .before .before .before .before .before .before .before .before .before .before .before .before .before .if1 .left) _ (c .before .before .before .before .before .before .before .before .before .before .before .before .before .before .outside .ensures) (c .before .before .before .before .before .before .before .before .before .before .before .before .before .if2 .left) (s .args .frame .rsp - s .args .first) refl _ _ _ m)
+    rw (pairs-on (restore (s .args .s .now) (s .args .olds .now) (s .args .news .now) (s .args .first)) (s .args .frame) (s .args .size) r (s .args .count) (s .pre .0 .counted) _ (c .before .before .before .before .before .before .before .before .before .before .before .before .before .before .before .before .wrong-form .ensures) (c .before .before .before .before .before .before .before .before .before .before .before .before .before .before .before .if1 .left) _ (c .before .before .before .before .before .before .before .before .before .before .before .before .before .before .outside .ensures) (c .before .before .before .before .before .before .before .before .before .before .before .before .before .if2 .left) (s .args .frame .sp - s .args .first) refl _ _ _ m)
     (c .before .before .move-window .ensures)
 
 pub move-pairs-spec : {M : Type 1} → statement M

@@ -32,7 +32,7 @@ move-pairs-requires c κs =
     let s = c .before .before .before .before .before .before .before .before .before .before .before in
     let a = s .args in
     let x = sym (c .before .before .before .before .extent-right .ensures) ∙ c .before .before .before .if2 .taken in
-    let t = extent-tells (a .first) (length (a .image .now)) (a .frame .rsp) (a .size) x in
+    let t = extent-tells (a .first) (length (a .image .now)) (a .frame .sp) (a .size) x in
     let m = image-most (a .first) (length (a .image .now)) (s .pre .1) in
     (c .before .before .pairs-of .ensures, c .before .if3 .left, x, omega arith, s .pre .2)
 
