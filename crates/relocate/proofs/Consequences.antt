@@ -2,9 +2,9 @@
 use Prim.Native.Nat.{ℕ, _+_, _-_, _≤_}
 use mathlib.Core.Path.{_≡_, refl, sym, ap, _∙_}
 use mathlib.Core.Option.{Option}
-use mathlib.Core.List.{List, [], _∷_, List·Memᴰ, List·Memᴰ·head, List·Memᴰ·not-nil}
+use mathlib.Core.List.{List, [], _∷_, map, flatten, List·Memᴰ, List·Memᴰ·head, List·Memᴰ·not-nil}
 use native.Mathlib.Omega.{arith}
-use lib.ListN.{length, getD, length-map}
+use lib.ListN.{length, getD}
 use Rattle.wire.specs.Word.{word}
 use Rattle.wire.proofs.Laws.{word-bound}
 use Rattle.stackmap.specs.Section.{Entry, readSection}
@@ -16,14 +16,14 @@ use Rattle.moves.specs.Window.{In, part}
 use Rattle.moves.specs.Table.{lookUp}
 use Rattle.moves.specs.Pointers.{Pointer, null, slots, orZero, newDerived, newContent}
 use Rattle.moves.specs.Settle.{acceptedMove}
-use Rattle.moves.specs.Plan.{Plan, refuse, window, says, leaves}
+use Rattle.moves.specs.Plan.{Plan, refuse, window, atPair, says, leaves}
 use Rattle.moves.proofs.Splice.{part-at, splice-same}
 use Rattle.moves.proofs.Words.{word-of, word-local, kept}
 use Rattle.moves.proofs.Order.{settle-refused, accepted-whole, refused-count}
 use Rattle.moves.proofs.Local.{Agrees, settled-local}
 use Rattle.relocate.specs.declared.Frame.{Frame}
 use Rattle.relocate.specs.Restore.{Restore}
-use Rattle.relocate.specs.Statepoint.{pairs, pointerOf}
+use Rattle.relocate.specs.Statepoint.{pairs, pointersOf}
 use Rattle.relocate.specs.Plan.{plan, stackSize}
 use Rattle.relocate.specs.Relocation.{answer, moved, OneRecord, Lists, newContentAt}
 use Rattle.relocate.specs.Consequences.{Untouched, Counts, KeepsDistance, AgreeOnSlots, OnlySlotsCount}
@@ -33,7 +33,7 @@ use Rattle.relocate.proofs.Demand.{demand3, accepts, plan-refused, acce
 untouched-plan : (table : ℕ → Option ℕ) (im : List ℕ) (p : Plan) → (says table im p .number ≡ 0 → ⊥) → leaves table im p ≡ im
 untouched-plan table im (refuse n q) h = refl
 untouched-plan table im (window off size ps) h =
-    rw (settle-refused table ps (part im off size) h) (splice-same im off size)
+    rw (settle-refused table (flatten ps) (part im off size) h) (splice-same im off size)
 
 pub untouched : Untouched
 unfolding answer moved
@@ -41,19 +41,19 @@ untouched R im f h = untouched-plan (lookUp (R .olds) (R .news)) im (plan R (len
 
 -- the answer of an accepted frame
 accepted-answer : (R : Restore) (im : List ℕ) (f : Frame) → answer R im f .number ≡ 0
-    → (e : Entry) → OneRecord (R .section) f e → answer R im f ≡ acceptedMove (length (pairs (e .body)))
+    → (e : Entry) → OneRecord (R .section) f e → answer R im f ≡ acceptedMove (length (flatten (map (pointersOf (readSection (R .section) .constants) f) (pairs (e .body)))))
 unfolding answer
 accepted-answer R im f h e one =
     let k = accepted-section R im f h in
     let a = accepts R (length (R .section)) k im f h in
     let q = planned R (length im) f (length (R .section)) k (a .off) (a .size) (a .pairs) (a .is-window) in
     let same : e ≡ q .entry = (let y = q .one in cc) in
-    let n : length (a .pairs) ≡ length (pairs (e .body)) = ap length (q .pairs-are) ∙ length-map (pairs (q .entry .body)) (pointerOf (readSection (R .section) .constants) f) ∙ rw same in
-    rw (a .is-window, ← n) (accepted-whole (lookUp (R .olds) (R .news)) (a .pairs) (part im (a .off) (a .size)) (a .settled-0))
+    let ps : a .pairs ≡ map (pointersOf (readSection (R .section) .constants) f) (pairs (e .body)) = q .pairs-are ∙ rw same in
+    rw (a .is-window, ← ps) (ap (atPair (a .pairs)) (accepted-whole (lookUp (R .olds) (R .news)) (flatten (a .pairs)) (part im (a .off) (a .size)) (a .settled-0)))
 
 refused-plan : (table : ℕ → Option ℕ) (im : List ℕ) (p : Plan) → (says table im p .number ≡ 0 → ⊥) → says table im p .count ≡ 0
 refused-plan table im (refuse n q) h = refl
-refused-plan table im (window off size ps) h = refused-count table ps (part im off size) h
+refused-plan table im (window off size ps) h = refused-count table (flatten ps) (part im off size) h
 
 refused-answer : (R : Restore) (im : List ℕ) (f : Frame)
     → (answer R im f .number ≡ 0 → ⊥) → answer R im f .count ≡ 0
@@ -108,7 +108,7 @@ module _ (R : Restore) (im im′ : List ℕ) (f : Frame) (g : AgreeOnSlots R f i
   plan-agrees : (e : ℕ) → sectionCheck (R .section) ≡ Valid e → (p : Plan) → plan R (length im) f ≡ p → says table im p ≡ says table im′ p
   plan-agrees e k (refuse n q) h = refl
   plan-agrees e k (window off size ps) h =
-      settled-local table ps (part im off size) (part im′ off size) agrees
+      ap (atPair ps) (settled-local table (flatten ps) (part im off size) (part im′ off size) agrees)
     where
       q : Planned R (length im) f off size ps
       q = planned R (length im) f e k off size ps h
@@ -120,7 +120,7 @@ module _ (R : Restore) (im im′ : List ℕ) (f : Frame) (g : AgreeOnSlots R f i
           let y = q .low in
           part-at im off size i (omega arith) ∙ same (off + i) (record { low = omega arith; high = omega arith }) ∙ sym (part-at im′ off size i (omega arith))
 
-      agrees : (p : Pointer) → List·Memᴰ p ps → Agrees (part im off size) (part im′ off size) p
+      agrees : (p : Pointer) → List·Memᴰ p (flatten ps) → Agrees (part im off size) (part im′ off size) p
       agrees null m = tt
       agrees (slots b d) m =
           let v = window-pair R (length im) f e k off size ps q b d m in

@@ -3,7 +3,7 @@ use Prim.Native.Nat.{ℕ, _+_, _-_, _≤_, _<_}
 use mathlib.Core.Path.{_≡_, refl, sym, ap, _∙_, subst, fun-ext}
 use mathlib.Core.Logic.{_⊎_, inl, inr, ⊎-elim}
 use mathlib.Core.Option.{Option}
-use mathlib.Core.List.{List, [], _∷_, map, List·Memᴰ, Memᴰ·map, List·Memᴰ·head, List·Memᴰ·tail, List·Memᴰ·cases-cons, List·Permᴰ, List·Permᴰ·nil, List·Permᴰ·cons, List·Permᴰ·swap, List·Permᴰ·trans, Permᴰ·symm}
+use mathlib.Core.List.{List, [], _∷_, map, flatten, List·Memᴰ, List·Memᴰ·head, List·Memᴰ·tail, List·Memᴰ·cases-cons, List·Permᴰ, List·Permᴰ·nil, List·Permᴰ·cons, List·Permᴰ·swap, List·Permᴰ·trans, Permᴰ·symm}
 use native.Mathlib.Omega.{arith}
 use borrow.Author.Tests.{ne-eqb}
 use lib.ListN.{length, getD}
@@ -26,12 +26,13 @@ use Rattle.moves.specs.Plan.{Plan, refuse, window, says, leaves}
 use Rattle.moves.proofs.Searches.{perm-mem}
 use Rattle.moves.proofs.Splice.{splice-same}
 use Rattle.moves.proofs.Words.{word-part}
+use Rattle.moves.proofs.Blocks.{of-block}
 use Rattle.moves.proofs.Tasks.{Task, answerIn, after, runAnswers, runLeft, Separate, after-length, run-hit, run-miss}
 use Rattle.moves.proofs.Lists.{taskOf, windowTask, refusedTask, Sound, InWindow, task-good, separate, find, final-slot, final-rest}
 use Rattle.moves.proofs.Lists.{Disjoint as WindowsApart, answers as list-answers}
 use Rattle.relocate.specs.declared.Frame.{Frame}
 use Rattle.relocate.specs.Restore.{Restore}
-use Rattle.relocate.specs.Statepoint.{pairs, slotAt, pointerOf}
+use Rattle.relocate.specs.Statepoint.{pairs, slotAt, pointersOf}
 use Rattle.relocate.specs.Plan.{plan, stackSize}
 use Rattle.relocate.specs.Relocation.{answer, moved, OneRecord, InExtent, extentOf, newContentAt}
 use Rattle.relocate.specs.Lists.{answers, final, Disjoint, Written, Holds, Demand3, OrderFree}
@@ -138,9 +139,9 @@ module _ (R : Restore) (e : ℕ) (k : sectionCheck (R .section) ≡ Valid e) whe
   pub record Passed (im : List ℕ) (f : Frame) : Type 0 where
     pub off : ℕ
     pub size : ℕ
-    pub pairs : List Pointer
+    pub pairs : List (List Pointer)
     pub is-window : P (length im) f ≡ window off size pairs
-    pub settled-0 : settled table pairs (part im off size) .number ≡ 0
+    pub settled-0 : settled table (flatten pairs) (part im off size) .number ≡ 0
 
   pub accepts : (im : List ℕ) (f : Frame) → answer R im f .number ≡ 0 → Passed im f
   unfolding answer
@@ -150,8 +151,8 @@ module _ (R : Restore) (e : ℕ) (k : sectionCheck (R .section) ≡ Valid e) whe
       go (refuse n q) g a z = absurd (omega arith)
       go (window off size ws) g a z = record { off = off; size = size; pairs = ws; is-window = g; settled-0 = z }
 
-  yes-answer : (f : Frame) (off size : ℕ) (ps : List Pointer) (im : List ℕ) → P (length im) f ≡ window off size ps
-      → settled table ps (part im off size) .number ≡ 0 → answer R im f .number ≡ 0
+  yes-answer : (f : Frame) (off size : ℕ) (ps : List (List Pointer)) (im : List ℕ) → P (length im) f ≡ window off size ps
+      → settled table (flatten ps) (part im off size) .number ≡ 0 → answer R im f .number ≡ 0
   unfolding answer
   yes-answer f off size ps im g z = rw g z
 
@@ -169,8 +170,8 @@ module _ (R : Restore) (e : ℕ) (k : sectionCheck (R .section) ≡ Valid e) whe
       let d′ = slotAt f (l .pair .derived) in
       let eb : b ≡ f .sp + b′ = one-address (l .base-at) (v .base-at) in
       let ed : d ≡ f .sp + d′ = one-address (l .derived-at) (v .derived-at) in
-      let mem : List·Memᴰ (slots b′ d′) (a .pairs) =
-      rw (q .pairs-are, ← pair-slots (readSection (R .section) .constants) f (l .pair) (l .not-null)) (Memᴰ·map (pointerOf (readSection (R .section) .constants) f) m) in
+      let mem : List·Memᴰ (slots b′ d′) (flatten (a .pairs)) =
+      rw (q .pairs-are) (of-block (pointersOf (readSection (R .section) .constants) f) (pairs (q .entry .body)) m (pair-slots (readSection (R .section) .constants) f (l .pair) (l .not-null))) in
       let ob : b - R .first ≡ a .off + b′ = omega (arith, q .off-is, q .low) in
       let od : d - R .first ≡ a .off + d′ = omega (arith, q .off-is, q .low) in
       let p : R .first + i - d ≡ i - (a .off + d′) = omega (arith, q .off-is, q .low) in

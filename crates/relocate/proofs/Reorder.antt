@@ -4,7 +4,7 @@ use mathlib.Core.Path.{_≡_, refl, sym, ap, _∙_}
 use mathlib.Core.Bool.{Bool, true, false, cond}
 use mathlib.Core.Logic.{⊎-elim}
 use mathlib.Core.Option.{Option, none, some}
-use mathlib.Core.List.{List, [], _∷_, List·Memᴰ, List·Memᴰ·head, List·Memᴰ·tail, List·Memᴰ·not-nil, List·Memᴰ·cases-cons, List·Permᴰ, Permᴰ·symm, Permᴰ·map}
+use mathlib.Core.List.{List, [], _∷_, map, flatten, List·Memᴰ, List·Memᴰ·head, List·Memᴰ·tail, List·Memᴰ·not-nil, List·Memᴰ·cases-cons, List·Permᴰ, Permᴰ·symm, Permᴰ·map}
 use native.Mathlib.Omega.{arith}
 use lib.Dec.{eqb, leb}
 use lib.ListN.{length, getElem?}
@@ -23,13 +23,15 @@ use Rattle.moves.specs.Plan.{Plan, refuse, window, says, leaves}
 use Rattle.moves.proofs.Searches.{perm-mem, perm-length}
 use Rattle.moves.proofs.Splice.{part-length}
 use Rattle.moves.proofs.Order.{Alike, settle-perm}
+use Rattle.moves.proofs.Blocks.{blocks-perm, pairs-alike}
 use Rattle.moves.proofs.Lists.{Sound}
 use Rattle.relocate.specs.declared.Frame.{Frame}
 use Rattle.questions.specs.Questions.{ask, among, withAddress, atOffset, ofFunction, sought}
 use Rattle.relocate.specs.Restore.{Restore}
-use Rattle.relocate.specs.Statepoint.{isStatepoint, Pair, pairs, rightForm, inside, pointerOf}
-use Rattle.relocate.specs.Plan.{recordsOf, only, every, stackSize, imageRight, extentRight, planPairs, planRecord, planEntry, plan}
+use Rattle.relocate.specs.Statepoint.{isStatepoint, Pair, pairs, rightForm, inside, pointersOf}
+use Rattle.relocate.specs.Plan.{recordsOf, only, every, stackSize, imageRight, extentRight, planPairs, planRecord, plan}
 use Rattle.relocate.specs.Relocation.{answer, moved}
+use Rattle.relocate.specs.Code.{planEntry}
 use Rattle.relocate.specs.Reorder.{OtherOrder, withSection, PairOrder}
 use Rattle.relocate.proofs.Planned.{every-yes, every-no, sound}
 use Rattle.relocate.proofs.Like.{EntryLike, EntriesLike, like-address, section-like, still-well}
@@ -37,7 +39,7 @@ use Rattle.relocate.proofs.Like.{EntryLike, EntriesLike, like-address, 
 -- two plans with one refusal number, or one window with its pairs in two orders
 data SamePlan : Plan → Plan → Type 0 where
   refusals : {n i j : ℕ} → (n < 18 → i ≡ j) → SamePlan (refuse n i) (refuse n j)
-  windows : {off size : ℕ} {ps qs : List Pointer} → List·Permᴰ ps qs → SamePlan (window off size ps) (window off size qs)
+  windows : {off size : ℕ} {ps qs : List (List Pointer)} → List·Permᴰ ps qs → SamePlan (window off size ps) (window off size qs)
 
 same-need : (b : Bool) (n : ℕ) (k k′ : Plan) → SamePlan k k′ → SamePlan (need b (refuse n 0) k) (need b (refuse n 0) k′)
 same-need true n k k′ h = h
@@ -85,9 +87,12 @@ same-entry R R′ n f e e′ w l =
     let c : length (pairs (e′ .body)) ≡ length (pairs (e .body)) = sym (perm-length p) in
     let old = isOld (R .section) in
     let pool = readSection (R .section) .constants in
-    rw (l .body-like .statepoint-same, o, c, w .old-same, w .pool-same, w .first-same, w .most-same)
+    let g = pointersOf pool f in
+    let d : length (flatten (map g (pairs (e′ .body)))) ≡ length (flatten (map g (pairs (e .body)))) = sym (perm-length (blocks-perm (Permᴰ·map g p))) in
+    rw (l .body-like .statepoint-same, o, c, w .old-same, w .pool-same, w .first-same, w .most-same, d)
     (same-need (isStatepoint (e .body)) 12 _ _ (same-need (extentRight (R .first) n (f .sp) (stackSize e)) 16 _ _ (same-need (leb (length (pairs (e .body))) (R .most)) 17 _ _
-    (same-every (rightForm (f .machine) old pool) 18 0 _ _ _ _ (omega arith) p (same-every (inside pool f (stackSize e)) 19 0 _ _ _ _ (omega arith) p (windows (Permᴰ·map (pointerOf pool f) p)))))))
+    (same-every (rightForm (f .machine) old pool) 18 0 _ _ _ _ (omega arith) p (same-need (leb (length (flatten (map g (pairs (e .body))))) (R .most)) 17 _ _
+    (same-every (inside pool f (stackSize e)) 19 0 _ _ _ _ (omega arith) p (windows (Permᴰ·map g p))))))))
 
 with-like : (a : ℕ) (es es′ : List Entry) → EntriesLike es es′ → EntriesLike (withAddress a es) (withAddress a es′)
 unfolding withAddress
@@ -147,8 +152,8 @@ alike table im s (refusals h) = (record { number = refl; count = refl; place = �
 alike table im s (windows {off = off} {size = size} {ps = ps} {qs = qs} perm) =
     let w = part im off size in
     let l : length w ≡ size = part-length im off size (s .window-in) in
-    let e = settle-perm table w perm (λ b d m. rw l (s .derived-in b d m)) in
-    (e .0, ap (splice im off size) (sym (e .1)))
+    let e = settle-perm table w (blocks-perm perm) (λ b d m. rw l (s .derived-in b d m)) in
+    (pairs-alike table w ps qs (e .0), ap (splice im off size) (sym (e .1)))
 
 module _ (R : Restore) (s′ : List ℕ) (w : Bytes (R .section)) (o : OtherOrder (R .section) s′) where
   abbrev R′ : Restore

@@ -8,14 +8,19 @@ use mathlib.Core.List.{List}
 use lib.Dec.{eqb, leb}
 use lib.ListN.{length, getD, drop}
 use Rattle.stackmap.specs.Layout.{kindConstIndex}
-use Rattle.stackmap.specs.Section.{Location, Record, isOld, recordsAt, numLocations, recordLength, readRecord, readSection}
+use Rattle.stackmap.specs.Section.{Location, Record, Entry, isOld, recordsAt, numLocations, recordLength, readRecord, readSection}
 use Rattle.questions.specs.declared.LocationAnswer.{LocationAnswer}
+use Rattle.moves.specs.declared.Move.{Move}
 use Rattle.moves.specs.Limits.{pointerSize}
-use Rattle.moves.specs.Pointers.{orZero}
+use Rattle.moves.specs.Pointers.{Pointer, null, slots, orZero}
 use Rattle.relocate.specs.declared.Frame.{Frame}
 use Rattle.relocate.specs.declared.Spot.{Spot}
 use Rattle.relocate.specs.declared.Spot.the-variants.{At, Outside}
+use Rattle.moves.specs.Plan.{Plan}
 use Rattle.relocate.specs.Limits.{kindConstant}
+use Rattle.relocate.specs.Restore.{Restore}
+use Rattle.relocate.specs.Plan.{stackSize, planRecord}
+use Rattle.relocate.specs.Relocation.{answer, moved}
 use Rattle.relocate.specs.Statepoint.{locationAt, pairsAt, Pair, pairs, isNull, plusOffset, wholly, slotAt, slotInside}
 use Rattle.stackmap.specs.Section.{asOffset}
 
@@ -26,6 +31,15 @@ recordOf s at = readRecord (isOld s) (drop at s)
 
 abbrev pub poolOf : List ℕ → List ℕ
 poolOf s = readSection s .constants
+
+-- the plan of a frame whose one entry is e
+abbrev pub planEntry : Restore → ℕ → Frame → Entry → Plan
+planEntry R n f e = planRecord R n f (stackSize e) (e .body)
+
+-- an answer, and the image that is left, are those of a move
+pub record Relocates (R : Restore) (im : List ℕ) (f : Frame) (r : Move) (after : List ℕ) : Type 0 where
+  pub answer-is : r ≡ answer R im f
+  pub image-is : after ≡ moved R im f
 
 -- a record stands there: the tables are inside, and all of it is
 pub record Stands (s : List ℕ) (at : ℕ) : Type 0 where
@@ -71,6 +85,10 @@ positionIn register sp offset n =
 
 unfoldable pub placeIn : ℕ → ℕ → Option ℕ
 placeIn p n = cond (leb (p + pointerSize) n) (some p) none
+
+-- the one pointer of a pair
+unfoldable pub pointerOf : List ℕ → Frame → Pair → Pointer
+pointerOf pool f p = cond (isNull pool p) null (slots (slotAt f (p .base)) (slotAt f (p .derived)))
 
 -- live is 0 exactly at the null pairs, of the first n
 pub record Lives (pool : List ℕ) (r : Record) (live : List ℕ) (n : ℕ) : Type 0 where

@@ -47,8 +47,7 @@ module _ (R : Restore) (im : List ℕ) where
 -- Demand 3, of lists of moves: on one section, one table and one image, every list of frames of which no two have extents that share
 -- a byte gives the plain answers and the final image that these fix. (On a refused section every move is refused.)
 abbrev pub Demand3 : Type 0
-Demand3 =
-    (R : Restore) (im : List ℕ) (fs : List Frame) → Disjoint (R .section) fs → Holds R im fs
+Demand3 = (R : Restore) (im : List ℕ) (fs : List Frame) → Disjoint (R .section) fs → Holds R im fs
 
 -- the moves of fs in another order, gs: no two extents share a byte, each answer is the plain one, and the image is the same
 pub record OtherOrderHolds (R : Restore) (im : List ℕ) (fs gs : List Frame) : Type 0 where
@@ -58,6 +57,4 @@ pub record OtherOrderHolds (R : Restore) (im : List ℕ) (fs gs : List Frame) : 
 
 -- And so the order of the moves doesn't count, whatever it is.
 abbrev pub OrderFree : Type 0
-OrderFree =
-    (R : Restore) (im : List ℕ) (fs gs : List Frame) → List·Permᴰ fs gs → Disjoint (R .section) fs
-    → OtherOrderHolds R im fs gs
+OrderFree = (R : Restore) (im : List ℕ) (fs gs : List Frame) → List·Permᴰ fs gs → Disjoint (R .section) fs → OtherOrderHolds R im fs gs

@@ -26,11 +26,6 @@ module _ (R : Restore) where
   unfoldable pub moved : List ℕ → Frame → List ℕ
   moved im f = leaves (lookUp (R .olds) (R .news)) im (plan R (length im) f)
 
-  -- an answer, and the image that is left, are those of a move
-  pub record Relocates (im : List ℕ) (f : Frame) (r : Move) (after : List ℕ) : Type 0 where
-    pub answer-is : r ≡ answer im f
-    pub image-is : after ≡ moved im f
-
 -- the frame names exactly one record
 abbrev pub OneRecord : List ℕ → Frame → Entry → Type 0
 OneRecord s f e = recordsOf s f ≡ e ∷ []
@@ -43,8 +38,7 @@ pub record Extent : Type 0 where
 -- a frame without exactly one record, or with stack size unknown, has no extent: no byte is in it
 abbrev pub extentBy : ℕ → List Entry → Extent
 extentBy sp [] = record { start = sp; end = sp }
-extentBy sp (e ∷ []) =
-    record { start = sp; end = cond (eqb (stackSize e) stackSizeUnknown) sp (sp + stackSize e) }
+extentBy sp (e ∷ []) = record { start = sp; end = cond (eqb (stackSize e) stackSizeUnknown) sp (sp + stackSize e) }
 extentBy sp (e ∷ e′ ∷ es) = record { start = sp; end = sp }
 
 unfoldable pub extentOf : List ℕ → Frame → Extent

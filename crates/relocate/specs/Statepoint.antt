@@ -113,5 +113,5 @@ unfoldable pub slotAt : Frame → Location → ℕ
 slotAt f l = orZero (slotAddress f l) - f .sp
 
 -- each pair is one pointer: its slots, counted from the stack pointer
-unfoldable pub pointerOf : List ℕ → Frame → Pair → Pointer
-pointerOf pool f p = cond (isNull pool p) null (slots (slotAt f (p .base)) (slotAt f (p .derived)))
+unfoldable pub pointersOf : List ℕ → Frame → Pair → List Pointer
+pointersOf pool f p = cond (isNull pool p) (null ∷ []) (slots (slotAt f (p .base)) (slotAt f (p .derived)) ∷ [])

@@ -3,7 +3,7 @@ use Prim.Native.Nat.{ℕ, _+_, _-_, _^_, _≤_, _<_}
 use mathlib.Core.Path.{_≡_, refl, _∙_}
 use mathlib.Core.Bool.{Bool, true, false, not, _&&_}
 use mathlib.Core.Option.{Option}
-use mathlib.Core.List.{List, map}
+use mathlib.Core.List.{List, map, flatten}
 use native.Mathlib.Omega.{arith}
 use borrow.Author.Tests.{leb-true, le-leb, lt-leb, eq-eqb, ne-eqb}
 use lib.Dec.{eqb, leb}
@@ -20,16 +20,16 @@ use Rattle.moves.specs.declared.Move.{Move}
 use Rattle.moves.specs.Search.{lowest}
 use Rattle.moves.specs.Table.{tableRight, lookUp}
 use Rattle.moves.specs.Settle.{refusedMove}
-use Rattle.moves.specs.Plan.{Plan, refuse, window, Follows}
-use Rattle.moves.specs.Arrays.{pointersOf}
+use Rattle.moves.specs.Plan.{Plan, refuse, window}
+use Rattle.moves.specs.Code.{Follows}
 use Rattle.relocate.specs.declared.Frame.{Frame}
 use Rattle.relocate.specs.Limits.{imageMost}
 use Rattle.relocate.specs.Restore.{Restore}
-use Rattle.relocate.specs.Statepoint.{isStatepoint, pairs, rightForm, inside, pointerOf}
-use Rattle.relocate.specs.Plan.{recordsOf, only, stackSize, imageRight, extentRight, planPairs, planRecord, planEntry, plan}
-use Rattle.relocate.specs.Relocation.{answer, moved, Relocates}
-use Rattle.relocate.specs.Code.{recordOf, poolOf, pairNumber}
-use Rattle.relocate_frame.proofs.Following.{every-refused, every-passed}
+use Rattle.relocate.specs.Statepoint.{isStatepoint, pairs, rightForm, inside, pointersOf}
+use Rattle.relocate.specs.Plan.{recordsOf, only, stackSize, imageRight, extentRight, planPairs, planRecord, plan}
+use Rattle.relocate.specs.Relocation.{answer, moved}
+use Rattle.relocate.specs.Code.{recordOf, poolOf, planEntry, Relocates, pairNumber}
+use Rattle.relocate_frame.proofs.Following.{every-refused, every-passed, pointers-counted}
 use Rattle.relocate_frame.proofs.Asking.{one-found, body-is, size-is}
 
 -- a refusal follows a plan that is one
@@ -86,30 +86,38 @@ module _ (first n rsp size : ℕ) where
 
 -- 18, 19
 
-module _ (R : Restore) (f : Frame) (size : ℕ) (r : Record) (count : ℕ) (c : count ≡ length (pairs r)) where
+module _ (R : Restore) (f : Frame) (size : ℕ) (r : Record) (count : ℕ) (c : count ≡ length (pairs r)) (few : count ≤ R .most) where
   abbrev old : Bool
   old = isOld (R .section)
 
   abbrev pool : List ℕ
   pool = poolOf (R .section)
 
+  few-pairs : leb (length (pairs r)) (R .most) ≡ true
+  few-pairs = le-leb _ _ (rw c at few)
+
+  few-pointers : leb (length (flatten (map (pointersOf pool f) (pairs r)))) (R .most) ≡ true
+  few-pointers = rw (pointers-counted pool f (pairs r)) few-pairs
+
   module _ (wrong : ℕ) (w : wrong ≡ lowest (λ p. not (rightForm (f .machine) old pool (pairNumber r p))) count) where
     pub pairs-18 : wrong < count → planPairs R f size (pairs r) ≡ refuse 18 wrong
     unfolding planPairs
-    pairs-18 h = every-refused (rightForm (f .machine) old pool) 18 r _ count wrong c w h
+    pairs-18 h = rw few-pairs (every-refused (rightForm (f .machine) old pool) 18 r _ count wrong c w h)
 
     module _ (right : count ≤ wrong) (out : ℕ) (o : out ≡ lowest (λ p. not (inside pool f size (pairNumber r p))) count) where
       pub pairs-19 : out < count → planPairs R f size (pairs r) ≡ refuse 19 out
       unfolding planPairs
-      pairs-19 h = every-passed (rightForm (f .machine) old pool) 18 r _ count wrong c w right ∙ every-refused (inside pool f size) 19 r _ count out c o h
+      pairs-19 h =
+          rw (few-pairs, few-pointers)
+          (every-passed (rightForm (f .machine) old pool) 18 r _ count wrong c w right ∙ every-refused (inside pool f size) 19 r _ count out c o h)
 
-      pub pairs-on : count ≤ out → (off : ℕ) → off ≡ f .sp - R .first → (live bases derived : List ℕ)
-          → pointersOf count live bases derived ≡ map (pointerOf pool f) (pairs r)
-          → planPairs R f size (pairs r) ≡ window off (off + size - off) (pointersOf count live bases derived)
+      pub pairs-on : count ≤ out → (off : ℕ) → off ≡ f .sp - R .first
+          → planPairs R f size (pairs r) ≡ window off (off + size - off) (map (pointersOf pool f) (pairs r))
       unfolding planPairs
-      pairs-on h off e live bases derived m =
+      pairs-on h off e =
           let z : off + size - off ≡ size = omega arith in
-          every-passed (rightForm (f .machine) old pool) 18 r _ count wrong c w right ∙ every-passed (inside pool f size) 19 r _ count out c o h ∙ rw (m, z, e)
+          rw (few-pairs, few-pointers)
+          (every-passed (rightForm (f .machine) old pool) 18 r _ count wrong c w right ∙ every-passed (inside pool f size) 19 r _ count out c o h ∙ rw (z, e))
 
 -- 12, 16, 17
 
@@ -125,12 +133,12 @@ module _ (R : Restore) (n : ℕ) (f : Frame) (size : ℕ) (r : Record) where
 
     module _ (e : extentRight (R .first) n (f .sp) size ≡ true) (count : ℕ) (c : count ≡ length (pairs r)) where
       pub record-17 : R .most < count → planRecord R n f size r ≡ refuse 17 0
-      unfolding planRecord
+      unfolding planRecord planPairs
       record-17 h = rw (s, e, ← c, lt-leb count (R .most) h)
 
-      pub record-on : count ≤ R .most → planRecord R n f size r ≡ planPairs R f size (pairs r)
+      pub record-on : planRecord R n f size r ≡ planPairs R f size (pairs r)
       unfolding planRecord
-      record-on h = let q : leb (length (pairs r)) (R .most) ≡ true = le-leb (length (pairs r)) (R .most) (rw c at h) in rw (s, e, q)
+      record-on = rw (s, e)
 
 -- 10, 15
 

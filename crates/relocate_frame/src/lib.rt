@@ -1,6 +1,6 @@
 // The move of one frame.
 ghost use Rattle.relocate.specs.Restore.{restore};
-ghost use Rattle.relocate.specs.Relocation.{Relocates};
+ghost use Rattle.relocate.specs.Code.{Relocates};
 use moves::Move;
 use moves_table::table;
 use questions_find::find;

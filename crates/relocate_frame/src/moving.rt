@@ -9,12 +9,12 @@ ghost use Rattle.questions.specs.Questions.{firstOf};
 ghost use Rattle.moves.specs.Limits.{pairsMost};
 ghost use Rattle.moves.specs.Table.{tableRight, lookUp};
 ghost use Rattle.moves.specs.Settle.{refusedMove};
-ghost use Rattle.moves.specs.Plan.{Follows};
+ghost use Rattle.moves.specs.Code.{Follows};
 ghost use Rattle.relocate.specs.Limits.{imageMost};
 ghost use Rattle.relocate.specs.Restore.{restore};
 ghost use Rattle.relocate.specs.Statepoint as spec;
-ghost use Rattle.relocate.specs.Plan.{recordsOf, imageRight, extentRight, only, planPairs, planRecord, planEntry};
-ghost use Rattle.relocate.specs.Code.{recordOf, Stands, Paired};
+ghost use Rattle.relocate.specs.Plan.{recordsOf, imageRight, extentRight, only, planPairs, planRecord};
+ghost use Rattle.relocate.specs.Code.{recordOf, planEntry, Stands, Paired};
 use crate::extent;
 use moves::Move;
 use moves::PAIRS_MOST;
@@ -35,7 +35,8 @@ pub fn refused(number: u8, place: usize) -> Move
     }
 }
 
-// 18, 19, and the move of the window of `size` bytes from the stack pointer. The record at `at` has `count` pairs, from location `start` on.
+// 18, 19, and the move of the window of `size` bytes from the stack pointer. The record at `at` has `count` pairs, from location
+// `start` on.
 fn move_pairs(
     s: &[u8],
     at: usize,

@@ -1,5 +1,5 @@
 -- For the code alone: nothing here has to be believed.
--- What the code's arrays hold while the frames' records are found.
+-- What the code's arrays and values hold.
 use Prim.Native.Nat.{ℕ, _+_, _*_, _^_, _≤_, _<_}
 use mathlib.Core.Path.{_≡_}
 use mathlib.Core.Bool.{Bool, true, false, cond}
@@ -15,6 +15,7 @@ use Rattle.questions.specs.Kept.{noted}
 use Rattle.questions.specs.Questions.{withAddress, notFound, firstOf}
 use Rattle.sorted.specs.Sorted.{Sorted, LowerBound, EntryOf}
 use Rattle.moves.specs.declared.Move.{Move}
+use Rattle.moves.specs.Search.{anyBelow}
 use Rattle.moves.specs.Table.{tableRight}
 use Rattle.moves.specs.Settle.{acceptedMove}
 use Rattle.relocate.specs.declared.Frame.{Frame}
@@ -22,7 +23,7 @@ use Rattle.relocate.specs.Restore.{Restore}
 use Rattle.relocate.specs.Plan.{imageRight, stackSize}
 use Rattle.relocate.specs.Relocation.{moved, OneRecord, extentOf}
 use Rattle.relocate.specs.Lists.{final}
-use Rattle.thread.specs.Thread.{framesMost, frameNumbers, frameAt, apart, judged, pairsIn}
+use Rattle.thread.specs.Thread.{framesMost, frameNumbers, frameAt, share, apart, judged, pairsIn, threadAnswer, threadImage}
 
 -- The addresses of the first n frames, in order; equal ones stand side by side.
 pub record Gathered (ns keys : List ℕ) (n : ℕ) : Type 0 where
@@ -94,6 +95,22 @@ pub record Sited (s : List ℕ) (f : Frame) : Type 0 where
 -- each of the first `count` frames has one
 pub record EachSited (s ns : List ℕ) (count : ℕ) : Type 0 where
   pub at : (k : ℕ) → k < count → Sited s (frameAt ns k)
+
+-- Stretches of memory, each from its start up to its end, where it no longer is.
+
+-- the stretch from a up to b shares a byte with one of the first n
+unfoldable pub sharesAny : List ℕ → List ℕ → ℕ → ℕ → ℕ → Bool
+sharesAny starts ends n a b = anyBelow (λ i. share a b (getD starts i 0) (getD ends i 0)) n
+
+-- the first n stretches are not empty, stand in order and share no byte
+pub record Apart (starts ends : List ℕ) (n : ℕ) : Type 0 where
+  pub full : (i : ℕ) → i < n → getD starts i 0 < getD ends i 0
+  pub apart : (i j : ℕ) → i < j → j < n → getD ends i 0 ≤ getD starts j 0
+
+-- an answer, and the image that is left, are those of the call
+pub record Threads (R : Restore) (im ns : List ℕ) (r : Move) (after : List ℕ) : Type 0 where
+  pub answer-is : r ≡ threadAnswer R im ns
+  pub image-is : after ≡ threadImage R im ns
 
 -- the image after a frame is moved, or is only judged
 abbrev pub movedIf : Bool → Restore → List ℕ → Frame → List ℕ

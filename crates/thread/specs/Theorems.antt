@@ -31,9 +31,7 @@ total (m ∷ ms) = m .count + total ms
 
 -- 1. A call is accepted only if its frames are movable; that it is then, is 2.
 abbrev pub AcceptedOnly : Type 0
-AcceptedOnly =
-    (R : Restore) (im ns : List ℕ)
-    → threadAnswer R im ns .number ≡ 0 → Movable R im ns
+AcceptedOnly = (R : Restore) (im ns : List ℕ) → threadAnswer R im ns .number ≡ 0 → Movable R im ns
 
 -- 2. Then the image equals the one got frame by frame in list order, each of these moves is accepted, and the answer is 0 and the
 -- sum of the pairs.
@@ -45,14 +43,11 @@ pub record ByFrames (R : Restore) (im ns : List ℕ) : Type 0 where
   pub bytes-are : Holds R im (framesOf ns)
 
 abbrev pub FrameByFrame : Type 0
-FrameByFrame =
-    (R : Restore) (im ns : List ℕ) → Movable R im ns → ByFrames R im ns
+FrameByFrame = (R : Restore) (im ns : List ℕ) → Movable R im ns → ByFrames R im ns
 
 -- 3. In every other case the image is untouched.
 abbrev pub OrNone : Type 0
-OrNone =
-    (R : Restore) (im ns : List ℕ)
-    → (threadAnswer R im ns .number ≡ 0 → ⊥) → threadImage R im ns ≡ im
+OrNone = (R : Restore) (im ns : List ℕ) → (threadAnswer R im ns .number ≡ 0 → ⊥) → threadImage R im ns ≡ im
 
 -- 4. The order of the frames changes neither answer nor image of an accepted call.
 pub record SameCall (R : Restore) (im ns ns′ : List ℕ) : Type 0 where
@@ -61,8 +56,7 @@ pub record SameCall (R : Restore) (im ns ns′ : List ℕ) : Type 0 where
 
 abbrev pub AnyOrder : Type 0
 AnyOrder =
-    (R : Restore) (im ns ns′ : List ℕ)
-    → threadAnswer R im ns .number ≡ 0 → listRight ns′ ≡ true → List·Permᴰ (framesOf ns) (framesOf ns′)
+    (R : Restore) (im ns ns′ : List ℕ) → threadAnswer R im ns .number ≡ 0 → listRight ns′ ≡ true → List·Permᴰ (framesOf ns) (framesOf ns′)
     → SameCall R im ns ns′
 
 pub record OneInstant : Type 0 where

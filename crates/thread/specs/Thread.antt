@@ -1,9 +1,8 @@
 -- A whole thread in one call: document 02, requests 1 and 2. All frames of the list move, or none does.
 use Prim.Native.Nat.{ℕ, zero, suc, _+_, _*_, _/_, _%_}
-use mathlib.Core.Path.{_≡_}
 use mathlib.Core.Bool.{Bool, cond, _&&_, _||_, false}
 use mathlib.Core.List.{List, [], _∷_, map}
-use lib.Dec.{eqb, leb}
+use lib.Dec.{eqb, ltb, leb}
 use lib.ListN.{length, getD}
 use Rattle.stackmap.specs.Verdict.{need}
 use Rattle.stackmap.specs.Check.{sectionCheck}
@@ -17,7 +16,6 @@ use Rattle.relocate.specs.Restore.{Restore}
 use Rattle.relocate.specs.Plan.{imageRight}
 use Rattle.relocate.specs.Relocation.{answer, Extent, extentOf}
 use Rattle.relocate.specs.Lists.{final}
-use Rattle.thread.specs.Stretches.{share}
 
 -- The list: four numbers a frame, address, RBP, RSP and the function number. In version 1 the address is the offset in that function; in
 -- version 3 the function number isn't read.
@@ -50,6 +48,10 @@ framesFrom ns (suc n) k = frameAt ns k ∷ framesFrom ns n (suc k)
 
 unfoldable pub framesOf : List ℕ → List Frame
 framesOf ns = framesFrom ns (length ns / frameNumbers) 0
+
+-- the stretches of memory from a up to b and from c up to d share a byte: neither is empty, and each begins before the other ends
+unfoldable pub share : ℕ → ℕ → ℕ → ℕ → Bool
+share a b c d = ltb a b && (ltb c d && (ltb a d && ltb c b))
 
 -- an extent shares a byte with one of these
 abbrev pub sharesOne : Extent → List Extent → Bool
@@ -95,8 +97,3 @@ module _ (R : Restore) (im : List ℕ) where
   -- the image got frame by frame in list order, or the image as lent
   unfoldable pub threadImage : List ℕ → List ℕ
   threadImage ns = cond (eqb (threadAnswer ns .number) 0) (final R (framesOf ns) im) im
-
-  -- an answer, and the image that is left, are those of the call
-  pub record Threads (ns : List ℕ) (r : Move) (after : List ℕ) : Type 0 where
-    pub answer-is : r ≡ threadAnswer ns
-    pub image-is : after ≡ threadImage ns

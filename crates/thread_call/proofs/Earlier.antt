@@ -22,9 +22,8 @@ use Rattle.stackmap.proofs.Tests.{and-true}
 use Rattle.relocate.proofs.Planned.{planned}
 use Rattle.relocate_frame.proofs.Asking.{functions-inside, owner-number, size-is}
 use Rattle.relocate.proofs.Demand.{accepts}
-use Rattle.thread.specs.Stretches.{share, sharesAny, Apart}
-use Rattle.thread.specs.Thread.{frameAt, framesFrom, sharesOne, apart}
-use Rattle.thread.specs.Code.{Sited}
+use Rattle.thread.specs.Thread.{frameAt, framesFrom, share, sharesOne, apart}
+use Rattle.thread.specs.Code.{sharesAny, Apart, Sited}
 use Rattle.thread.proofs.StretchesApart.{share-empty-2, apart-none, none-shares}
 use Rattle.thread_call.proofs.Judging.{frames-step, frames-end, frames-start}
 

@@ -3,11 +3,11 @@ use Prim.Native.Nat.{ℕ, suc, _≤_}
 use mathlib.Core.Path.{_≡_, refl}
 use mathlib.Core.Bool.{Bool, true, false}
 use mathlib.Core.Option.{Option}
-use mathlib.Core.List.{List, [], _∷_}
+use mathlib.Core.List.{List, [], _∷_, map, flatten}
 use native.Mathlib.Omega.{arith}
 use borrow.Author.Tests.{leb-true}
 use lib.Dec.{leb}
-use lib.ListN.{length, length-map}
+use lib.ListN.{length}
 use Rattle.stackmap.specs.declared.Verdict.{Verdict}
 use Rattle.stackmap.specs.declared.Verdict.the-variants.{Valid, Refused}
 use Rattle.stackmap.specs.Verdict.{need}
@@ -20,7 +20,7 @@ use Rattle.moves.specs.Plan.{Plan, refuse, window, says}
 use Rattle.moves.proofs.Order.{settled-most}
 use Rattle.relocate.specs.declared.Frame.{Frame}
 use Rattle.relocate.specs.Restore.{Restore}
-use Rattle.relocate.specs.Statepoint.{isStatepoint, Pair, pairs, pointerOf}
+use Rattle.relocate.specs.Statepoint.{isStatepoint, Pair, pairs, pointersOf}
 use Rattle.relocate.specs.Plan.{recordsOf, only, every, imageRight, extentRight, stackSize, planPairs, planRecord, plan}
 use Rattle.relocate.specs.Relocation.{answer}
 
@@ -28,7 +28,7 @@ module _ (R : Restore) where
   -- a plan with so few pointers
   abbrev Few : Plan → Type 0
   Few (refuse n p) = Unit {0}
-  Few (window off size ps) = length ps ≤ R .most
+  Few (window off size pss) = length (flatten pss) ≤ R .most
 
   need-few : (b : Bool) (n : ℕ) (k : Plan) → (b ≡ true → Few k) → Few (need b (refuse n 0) k)
   need-few true n k h = h refl
@@ -54,15 +54,17 @@ module _ (R : Restore) where
   ask-few (Valid e) k h = h
   ask-few (Refused n p) k h = tt
 
-  pairs-few : (f : Frame) (size : ℕ) (ps : List Pair) → length ps ≤ R .most → Few (planPairs R f size ps)
+  pairs-few : (f : Frame) (size : ℕ) (ps : List Pair) → Few (planPairs R f size ps)
   unfolding planPairs
-  pairs-few f size ps h = every-few _ 18 0 ps _ (every-few _ 19 0 ps _ (rw (length-map ps (pointerOf (readSection (R .section) .constants) f)) h))
+  pairs-few f size ps =
+      let pss = map (pointersOf (readSection (R .section) .constants) f) ps in
+      need-few (leb (length ps) (R .most)) 17 _ (λ a. every-few _ 18 0 ps _
+      (need-few (leb (length (flatten pss)) (R .most)) 17 _ (λ b. every-few _ 19 0 ps _ (leb-true (length (flatten pss)) (R .most) b))))
 
   record-few : (n : ℕ) (f : Frame) (size : ℕ) (r : Record) → Few (planRecord R n f size r)
   unfolding planRecord
   record-few n f size r =
-      need-few (isStatepoint r) 12 _ (λ a. need-few (extentRight (R .first) n (f .sp) size) 16 _ (λ b. need-few (leb (length (pairs r)) (R .most)) 17 _ (λ c.
-      pairs-few f size (pairs r) (leb-true (length (pairs r)) (R .most) c))))
+      need-few (isStatepoint r) 12 _ (λ a. need-few (extentRight (R .first) n (f .sp) size) 16 _ (λ b. pairs-few f size (pairs r)))
 
   plan-few : (n : ℕ) (f : Frame) → Few (plan R n f)
   unfolding plan
@@ -73,7 +75,7 @@ module _ (R : Restore) where
 
   says-few : (table : ℕ → Option ℕ) (im : List ℕ) (p : Plan) → Few p → says table im p .count ≤ R .most
   says-few table im (refuse n q) h = omega arith
-  says-few table im (window off size ps) h = omega (arith, settled-most table ps (part im off size))
+  says-few table im (window off size pss) h = omega (arith, settled-most table (flatten pss) (part im off size))
 
   pub answer-few : (im : List ℕ) (f : Frame) → answer R im f .count ≤ R .most
   unfolding answer

@@ -10,10 +10,11 @@ use Rattle.stackmap.specs.Check.{Accepted}
 use Rattle.moves.specs.declared.Move.{Move}
 use Rattle.moves.specs.Table.{tableRight, lookUp}
 use Rattle.moves.specs.Settle.{refusedMove, acceptedMove}
-use Rattle.moves.specs.Plan.{Follows}
+use Rattle.moves.specs.Code.{Follows}
 use Rattle.relocate.specs.declared.Frame.{Frame}
 use Rattle.relocate.specs.Restore.{Restore}
-use Rattle.relocate.specs.Plan.{recordsOf, imageRight, only, planEntry}
+use Rattle.relocate.specs.Plan.{recordsOf, imageRight, only}
+use Rattle.relocate.specs.Code.{planEntry}
 use Rattle.relocate.specs.Relocation.{answer, moved}
 use Rattle.relocate.specs.Lists.{final}
 use Rattle.relocate_frame.proofs.Stages.{plan-on}

@@ -23,8 +23,8 @@ use Rattle.relocate.specs.Restore.{Restore}
 use Rattle.relocate.specs.Plan.{imageRight}
 use Rattle.relocate.specs.Relocation.{answer, extentOf}
 use Rattle.relocate.specs.Lists.{final}
-use Rattle.thread.specs.Thread.{listRight, frameAt, framesFrom, framesOf, passes, apart, judged, pairsIn, threadAnswer, threadImage, Threads}
-use Rattle.thread.specs.Code.{Holding, Counted, EachSited, framesAnswer, framesImage}
+use Rattle.thread.specs.Thread.{listRight, frameAt, framesFrom, framesOf, passes, apart, judged, pairsIn, threadAnswer, threadImage}
+use Rattle.thread.specs.Code.{Holding, Counted, EachSited, Threads, framesAnswer, framesImage}
 use Rattle.thread.proofs.OneInstant.{judged-tells, judged-passes}
 use Rattle.thread_call.proofs.Earlier.{accepted-sited}
 

@@ -2,7 +2,8 @@ use native.Mathlib.Omega.{arith}
 use lib.ListN.{length}
 use Rattle.wire.specs.Word.{Bytes}
 use Rattle.relocate.specs.Restore.{restore}
-use Rattle.relocate.specs.Plan.{recordsOf, planEntry}
+use Rattle.relocate.specs.Plan.{recordsOf}
+use Rattle.relocate.specs.Code.{planEntry}
 use Rattle.relocate_frame.proofs.Asking.{none-found, several-found, found-stands, found-function}
 use Rattle.relocate_frame.proofs.Stages.{refuses, entry-plan}
 use borrow.Author.Needs.{needs}

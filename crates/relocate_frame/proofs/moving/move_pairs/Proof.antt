@@ -2,6 +2,7 @@ use Prim.Native.Nat.{_+_, _-_}
 use mathlib.Core.Path.{_≡_, refl}
 use native.Mathlib.Omega.{arith}
 use lib.ListN.{length}
+use Rattle.moves.proofs.Blocks.{follows-ones}
 use Rattle.relocate.specs.Restore.{restore}
 use Rattle.relocate.specs.Statepoint.{inside}
 use Rattle.relocate.specs.Code.{recordOf, poolOf}
@@ -22,7 +23,7 @@ returns : tie.Need-returns
 returns c =
     let s = c .before .before .before .before .before .before .before in
     refuses _ _ _ _ _ 18 _ (c .refused .ensures)
-    (pairs-18 (restore (s .args .s .now) (s .args .olds .now) (s .args .news .now) (s .args .first)) (s .args .frame) (s .args .size) (recordOf (s .args .s .now) (s .args .at)) (s .args .count) (s .pre .0 .counted) _ (c .before .before .wrong-form .ensures) (c .before .if1 .taken))
+    (pairs-18 (restore (s .args .s .now) (s .args .olds .now) (s .args .news .now) (s .args .first)) (s .args .frame) (s .args .size) (recordOf (s .args .s .now) (s .args .at)) (s .args .count) (s .pre .0 .counted) (s .pre .1) _ (c .before .before .wrong-form .ensures) (c .before .if1 .taken))
 
 outside-requires : tie.Need-outside-requires
 outside-requires c κs = search needs
@@ -34,7 +35,7 @@ returns-2 : tie.Need-returns-2
 returns-2 c =
     let s = c .before .before .before .before .before .before .before .before .before in
     refuses _ _ _ _ _ 19 _ (c .refused2 .ensures)
-    (pairs-19 (restore (s .args .s .now) (s .args .olds .now) (s .args .news .now) (s .args .first)) (s .args .frame) (s .args .size) (recordOf (s .args .s .now) (s .args .at)) (s .args .count) (s .pre .0 .counted) _ (c .before .before .before .before .wrong-form .ensures) (c .before .before .before .if1 .left) _ (c .before .before .outside .ensures) (c .before .if2 .taken))
+    (pairs-19 (restore (s .args .s .now) (s .args .olds .now) (s .args .news .now) (s .args .first)) (s .args .frame) (s .args .size) (recordOf (s .args .s .now) (s .args .at)) (s .args .count) (s .pre .0 .counted) (s .pre .1) _ (c .before .before .before .before .wrong-form .ensures) (c .before .before .before .if1 .left) _ (c .before .before .outside .ensures) (c .before .if2 .taken))
 
 live-pairs-requires : tie.Need-live-pairs-requires
 live-pairs-requires c κs = search needs
@@ -101,8 +102,8 @@ returns-3 c =
     let s = c .before .before .before .before .before .before .before .before .before .before .before .before .before .before .before .before .before .before .before .before .before in
     let r = recordOf (s .args .s .now) (s .args .at) in
     let m = arrays-meet (poolOf (s .args .s .now)) r (s .args .frame) (s .args .start) (s .args .count) _ _ _ (s .pre .0 .starts) (s .pre .0 .counted) (c .before .before .before .before .before .before .before .before .before .before .before .before .live-pairs .ensures) (c .before .before .before .before .before .before .before .before .before .before .slots-of .ensures) (c .before .before .before .before .before .before .before .before .slots-of2 .ensures) in
-    rw (pairs-on (restore (s .args .s .now) (s .args .olds .now) (s .args .news .now) (s .args .first)) (s .args .frame) (s .args .size) r (s .args .count) (s .pre .0 .counted) _ (c .before .before .before .before .before .before .before .before .before .before .before .before .before .before .before .before .wrong-form .ensures) (c .before .before .before .before .before .before .before .before .before .before .before .before .before .before .before .if1 .left) _ (c .before .before .before .before .before .before .before .before .before .before .before .before .before .before .outside .ensures) (c .before .before .before .before .before .before .before .before .before .before .before .before .before .if2 .left) (s .args .frame .sp - s .args .first) refl _ _ _ m)
-    (c .before .before .move-window .ensures)
+    rw (pairs-on (restore (s .args .s .now) (s .args .olds .now) (s .args .news .now) (s .args .first)) (s .args .frame) (s .args .size) r (s .args .count) (s .pre .0 .counted) (s .pre .1) _ (c .before .before .before .before .before .before .before .before .before .before .before .before .before .before .before .before .wrong-form .ensures) (c .before .before .before .before .before .before .before .before .before .before .before .before .before .before .before .if1 .left) _ (c .before .before .before .before .before .before .before .before .before .before .before .before .before .before .outside .ensures) (c .before .before .before .before .before .before .before .before .before .before .before .before .before .if2 .left) (s .args .frame .sp - s .args .first) refl)
+    (follows-ones _ (s .args .write) _ (s .args .image .now) _ _ _ _ _ m (c .before .before .move-window .ensures))
 
 pub move-pairs-spec : {M : Type 1} → statement M
 move-pairs-spec =

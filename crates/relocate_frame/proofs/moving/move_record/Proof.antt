@@ -43,7 +43,7 @@ returns-2 : tie.Need-returns-2
 returns-2 c =
     let s = c .before .before .before .before .before .before .before .before .before .before .before .before .before .before in
     rw (record-on (restore (s .args .s .now) (s .args .olds .now) (s .args .news .now) (s .args .first)) (length (s .args .image .now)) (s .args .frame) (s .args .size) (recordOf (s .args .s .now) (s .args .at))
-    (sym (c .before .before .before .before .before .before .before .before .before .is-statepoint .ensures) ∙ c .before .before .before .before .before .before .before .before .if1 .taken) (sym (c .before .before .before .before .before .before .before .extent-right .ensures) ∙ c .before .before .before .before .before .before .if2 .taken) _ (c .before .before .before .before .before .pairs-of .ensures .counted) (c .before .before .before .before .if3 .left))
+    (sym (c .before .before .before .before .before .before .before .before .before .is-statepoint .ensures) ∙ c .before .before .before .before .before .before .before .before .if1 .taken) (sym (c .before .before .before .before .before .before .before .extent-right .ensures) ∙ c .before .before .before .before .before .before .if2 .taken) _ (c .before .before .before .before .before .pairs-of .ensures .counted))
     (c .before .before .move-pairs .ensures)
 
 refused-requires-2 : tie.Need-refused-requires-2
