@@ -4,6 +4,7 @@ pub mod Words
 pub mod Writes
 pub mod Order
 pub mod Tasks
+pub mod Blocks
 pub mod Lists
 pub mod Local
 pub mod Fills

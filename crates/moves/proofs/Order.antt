@@ -181,7 +181,32 @@ module _ (table : ℕ → Option ℕ) where
       go false true n = refl
       go false false n = absurd (n refl)
 
-  -- no count is above the number of pairs
+  -- a number below 18 is 0, and a place is one of a pointer, or 0
+  pub settled-early : (ps : List Pointer) (w : List ℕ) → settled table ps w .number < 18 → settled table ps w .number ≡ 0
+  unfolding settled atLowest
+  settled-early ps w = go (ltb (first20 ps w) (length ps)) (ltb (first21 table ps w) (length ps))
+    where
+      by : Bool → Bool → Move
+      by s t = cond s (refusedMove 20 (first20 ps w)) (cond t (refusedMove 21 (first21 table ps w)) (acceptedMove (length ps)))
+
+      go : (s t : Bool) → by s t .number < 18 → by s t .number ≡ 0
+      go true t h = absurd (omega arith)
+      go false true h = absurd (omega arith)
+      go false false h = refl
+
+  pub settled-place : (ps : List Pointer) (w : List ℕ) → settled table ps w .place ≤ length ps
+  unfolding settled atLowest
+  settled-place ps w = go (ltb (first20 ps w) (length ps)) refl (ltb (first21 table ps w) (length ps)) refl
+    where
+      by : Bool → Bool → Move
+      by s t = cond s (refusedMove 20 (first20 ps w)) (cond t (refusedMove 21 (first21 table ps w)) (acceptedMove (length ps)))
+
+      go : (s : Bool) → ltb (first20 ps w) (length ps) ≡ s → (t : Bool) → ltb (first21 table ps w) (length ps) ≡ t → by s t .place ≤ length ps
+      go true d t e = omega (arith, ltb-true (first20 ps w) (length ps) d)
+      go false d true e = omega (arith, ltb-true (first21 table ps w) (length ps) e)
+      go false d false e = omega arith
+
+  -- no count is above the number of pointers
   pub settled-most : (ps : List Pointer) (w : List ℕ) → settled table ps w .count ≤ length ps
   settled-most ps w = go (ℕ-discrete (settled table ps w .number) 0)
     where

@@ -4,15 +4,15 @@ use mathlib.Core.Path.{_≡_, refl, sym, ap, _∙_}
 use mathlib.Core.Bool.{Bool, true, false}
 use mathlib.Core.Option.{Option}
 use mathlib.Core.Logic.{_⊎_, inl, inr}
-use mathlib.Core.List.{List, _++_}
+use mathlib.Core.List.{List, _++_, flatten}
 use native.Mathlib.Omega.{arith}
 use native.Mathlib.Decide.{decLe, decLt}
 use lib.ListN.{length, take, drop, getD, take-append-drop, length-append, length-take, length-drop, List·getD-append}
 use lib.Seq.{getD-append-add, getD-drop, getD-take, ext-getD, length-take-le, drop-drop}
 use Rattle.moves.specs.Window.{part, splice, In}
 use Rattle.moves.specs.Pointers.{Pointer}
-use Rattle.moves.specs.Settle.{settleIf}
-use Rattle.moves.specs.Plan.{window, leavesIf}
+use Rattle.moves.specs.Plan.{window}
+use Rattle.moves.specs.Code.{settleIf, leavesIf}
 
 pub in? : (a n i : ℕ) → In a n i ⊎ (In a n i → ⊥)
 in? a n i = go (decLe a i) (decLt i (a + n))
@@ -91,7 +91,7 @@ unfolding splice
 splice-same im a n = rw (← drop-drop n a im, take-append-drop n (drop a im), take-append-drop a im)
 
 -- the image after a window is settled or judged
-pub splice-if : (write : Bool) (table : ℕ → Option ℕ) (im : List ℕ) (a n : ℕ) (ps : List Pointer)
-    → splice im a n (settleIf table write ps (part im a n)) ≡ leavesIf write table im (window a n ps)
-splice-if true table im a n ps = refl
-splice-if false table im a n ps = splice-same im a n
+pub splice-if : (write : Bool) (table : ℕ → Option ℕ) (im : List ℕ) (a n : ℕ) (pss : List (List Pointer))
+    → splice im a n (settleIf table write (flatten pss) (part im a n)) ≡ leavesIf write table im (window a n pss)
+splice-if true table im a n pss = refl
+splice-if false table im a n pss = splice-same im a n

@@ -5,4 +5,5 @@ pub mod Search
 pub mod Pointers
 pub mod Settle
 pub mod Plan
+pub mod Code
 pub mod Arrays

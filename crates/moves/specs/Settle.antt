@@ -1,7 +1,6 @@
 -- What a move answers and leaves, by the bytes of the frame's window.
 use Prim.Native.Nat.{ℕ}
-use mathlib.Core.Path.{_≡_}
-use mathlib.Core.Bool.{Bool, true, false, cond}
+use mathlib.Core.Bool.{cond}
 use mathlib.Core.Option.{Option}
 use mathlib.Core.List.{List, [], _∷_}
 use lib.Dec.{eqb, ltb}
@@ -17,15 +16,15 @@ use Rattle.moves.specs.Pointers.{Pointer, null, slots, collides, unknown
 abbrev pub refusedMove : ℕ → ℕ → Move
 refusedMove n p = record { number = n; place = p; count = 0 }
 
--- accepted, with the number of pairs, null ones included
+-- accepted, with the number of pointers, null ones included
 abbrev pub acceptedMove : ℕ → Move
 acceptedMove n = record { number = 0; place = 0; count = n }
 
--- a refusal at the lowest pair with a fault, of n pairs; p is n where no pair has it, and then go on
+-- a refusal at the lowest pointer with a fault, of n; p is n where none has it, and then go on
 unfoldable pub atLowest : ℕ → ℕ → ℕ → Move → Move
 atLowest number p n k = cond (ltb p n) (refusedMove number p) k
 
--- the lowest pair that collides
+-- the lowest pointer that collides
 unfoldable pub first20 : List Pointer → List ℕ → ℕ
 first20 ps w = lowest (collides w ps) (length ps)
 
@@ -34,7 +33,7 @@ unfoldable pub put : List ℕ → ℕ → ℕ → List ℕ
 put w s v = sets w s (bytes pointerSize v)
 
 module _ (table : ℕ → Option ℕ) where
-  -- the lowest pair whose base is neither 0 nor an old start
+  -- the lowest pointer whose base is neither 0 nor an old start
   unfoldable pub first21 : List Pointer → List ℕ → ℕ
   first21 ps w = lowest (λ p. unknown table w (getD ps p null)) (length ps)
 
@@ -47,7 +46,7 @@ module _ (table : ℕ → Option ℕ) where
   write old cur [] = cur
   write old cur (p ∷ ps) = write old (write1 old cur p) ps
 
-  -- the answer: 20 over all pairs, then 21, then accepted
+  -- the answer: 20 over all pointers, then 21, then accepted
   unfoldable pub settled : List Pointer → List ℕ → Move
   settled ps w =
       atLowest 20 (first20 ps w) (length ps)
@@ -57,13 +56,3 @@ module _ (table : ℕ → Option ℕ) where
   -- the window's bytes after the move: the new ones, or the old ones where it is refused
   unfoldable pub settle : List Pointer → List ℕ → List ℕ
   settle ps w = cond (eqb (settled ps w .number) 0) (write w w ps) w
-
-  -- the window's bytes after the frame is moved, or is only judged
-  abbrev pub settleIf : Bool → List Pointer → List ℕ → List ℕ
-  settleIf true ps w = settle ps w
-  settleIf false ps w = w
-
-  -- an answer, and the bytes that are left, are what the definitions say
-  pub record Settles (write : Bool) (r : Move) (after : List ℕ) (ps : List Pointer) (w : List ℕ) : Type 0 where
-    pub answer : r ≡ settled ps w
-    pub left : after ≡ settleIf write ps w

@@ -11,7 +11,8 @@ use lib.Dec.{eqb}
 use lib.ListN.{length, getD}
 use Rattle.wire.specs.Word.{word}
 use Rattle.moves.specs.Pointers.{Pointer, null, slots, slotsClash, clash, unknown, newDerived, newContent}
-use Rattle.moves.specs.Settle.{refusedMove, acceptedMove, put, first20, first21, write1, write, atLowest, settled, settle, settleIf, Settles}
+use Rattle.moves.specs.Settle.{refusedMove, acceptedMove, put, first20, first21, write1, write, atLowest, settled, settle}
+use Rattle.moves.specs.Code.{settleIf, Settles}
 use Rattle.moves.specs.Arrays.{pointerAt, listFrom, pointersOf, clashAt, firstClash, Within, Filled, unknownAt, firstUnknown, putOne, puts}
 use Rattle.moves.proofs.Searches.{lowest-ext, any-ext}
 

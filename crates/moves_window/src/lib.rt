@@ -9,8 +9,7 @@ ghost use Prim.Native.Nat.{_-_, _≤_};
 ghost use lib.ListN.{length};
 ghost use Rattle.moves.specs.Limits.{pairsMost};
 ghost use Rattle.moves.specs.Table.{tableRight, lookUp};
-ghost use Rattle.moves.specs.Settle.{Settles};
-ghost use Rattle.moves.specs.Plan.{window, Follows};
+ghost use Rattle.moves.specs.Code.{Settles, SettlesIn};
 ghost use Rattle.moves.specs.Arrays.{Within, pointersOf};
 use moves::Move;
 use moves::PAIRS_MOST;
@@ -83,7 +82,7 @@ pub fn move_window(
     write: bool,
 ) -> Move
     requires { ⌜ (off ≤ end) × (end ≤ length (now image)) × (pairs ≤ pairsMost) × Within (end - off) pairs (now live) (now bases) (now derived) × (tableRight (now olds) (now news) ≡ true) ⌝ }
-    ensures { λ r. ⌜ Follows write r (now (image .exit)) (lookUp (now (olds .entry)) (now (news .entry))) (now (image .entry)) (window off (end - off) (pointersOf pairs (now (live .entry)) (now (bases .entry)) (now (derived .entry)))) ⌝ }
+    ensures { λ r. ⌜ SettlesIn (lookUp (now (olds .entry)) (now (news .entry))) write r (now (image .entry)) (now (image .exit)) off (end - off) (pointersOf pairs (now (live .entry)) (now (bases .entry)) (now (derived .entry))) ⌝ }
 {
     settle_pairs(
         &mut image[off..end],

@@ -1,5 +1,6 @@
 -- The worked table holds, by computation.
 use mathlib.Core.Path.{refl}
+use mathlib.Core.List.{flatten}
 use Rattle.wire.specs.Word.{word, bytes}
 use Rattle.stackmap.specs.Verdict.{must, chain, bind, pick, shift}
 use Rattle.stackmap.specs.Fields.{bytesOf, size, all, many}
@@ -19,8 +20,9 @@ use Rattle.moves.specs.Search.{lowest}
 use Rattle.moves.specs.Table.{rising, noZero, tableRight, lookUp}
 use Rattle.moves.specs.Pointers
 use Rattle.moves.specs.Settle.{atLowest, first20, put, first21, settled, settle}
+use Rattle.moves.specs.Plan.{pairOf}
 use Rattle.relocate.specs.Statepoint.{deoptCount, constantHead, pairedRest, isStatepoint, pairUp, pairs, isZero, isNull, sizeRight, isSlot, rightForm}
-use Rattle.relocate.specs.Statepoint.{registerOf, slotAddress, slotInside, slotAt, inside, pointerOf}
+use Rattle.relocate.specs.Statepoint.{registerOf, slotAddress, slotInside, slotAt, inside, pointersOf}
 use Rattle.stackmap.specs.Section.{asOffset}
 use Rattle.relocate.specs.Plan.{recordsOf, only, every, imageRight, extentRight, planPairs, planRecord, plan}
 use Rattle.relocate.specs.Relocation.{answer, moved}
@@ -37,6 +39,6 @@ unfolding word bytes must chain bind pick shift bytesOf size all many functionFi
     withAddress atOffset ofFunction sought constantOf splice lowest rising noZero tableRight lookUp Pointers.overlap Pointers.anyOverlap
     Pointers.slotsClash Pointers.clash Pointers.newDerived Pointers.newContent atLowest first20 put first21 settled settle
     deoptCount constantHead pairedRest isStatepoint pairUp pairs isZero isNull sizeRight isSlot rightForm registerOf asOffset
-    slotAddress slotInside slotAt inside pointerOf recordsOf only every imageRight extentRight planPairs planRecord plan answer moved got
+    slotAddress slotInside slotAt inside flatten pointersOf pairOf recordsOf only every imageRight extentRight planPairs planRecord plan answer moved got
     header sectionH listingH sectionOldH listingOldH image table
 worked = refl

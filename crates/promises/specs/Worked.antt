@@ -13,6 +13,8 @@ use Rattle.listing.specs.Listing.{Converted, toListing, toSection}
 use Rattle.listing.specs.RoundTrip.{result}
 use Rattle.moves.specs.declared.Move.{Move}
 use Rattle.relocate.specs.declared.Frame.{Frame}
+use Rattle.relocate.specs.declared.Machine.the-variants.{Amd64}
+use Rattle.relocate.specs.Restore.{restore}
 use Rattle.relocate.specs.Relocation.{answer, moved}
 
 -- what is asked: the check of a section, a section's listing, a listing's section, or a move of a frame at 0x1020 (in version 1: at the
@@ -44,8 +46,8 @@ shifted zero a im = gives (a .count) im
 shifted (suc n) a im = leaves (suc n) (a .place) im
 
 abbrev pub frame : Bool → Frame
-frame true = record { address = 0x20; rbp = 0; rsp = 0x7000; function = 0 }
-frame false = record { address = 0x1020; rbp = 0; rsp = 0x7000; function = 0 }
+frame true = record { machine = Amd64; address = 0x20; function = 0; fp = 0; sp = 0x7000 }
+frame false = record { machine = Amd64; address = 0x1020; function = 0; fp = 0; sp = 0x7000 }
 
 -- an output with room enough
 abbrev pub room : List ℕ
@@ -56,8 +58,9 @@ got (check s) = checked (sectionCheck s)
 got (listingOf s) = let c = toListing s room in converted (c .number) c
 got (sectionOf l) = let c = toSection l room in converted (c .number) c
 got (moveIn s old new im) =
-    let a = answer s (old ∷ []) (new ∷ []) 0x7000 im (frame (isOld s)) in
-    shifted (a .number) a (moved s (old ∷ []) (new ∷ []) 0x7000 im (frame (isOld s)))
+    let R = restore s (old ∷ []) (new ∷ []) 0x7000 in
+    let a = answer R im (frame (isOld s)) in
+    shifted (a .number) a (moved R im (frame (isOld s)))
 
 -- a header of version v with three counts
 unfoldable pub header : ℕ → ℕ → ℕ → ℕ → List ℕ

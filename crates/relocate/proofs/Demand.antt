@@ -3,7 +3,7 @@ use Prim.Native.Nat.{ℕ, _+_, _-_, _≤_, _<_}
 use mathlib.Core.Path.{_≡_, refl, sym, ap, _∙_, subst, fun-ext}
 use mathlib.Core.Logic.{_⊎_, inl, inr, ⊎-elim}
 use mathlib.Core.Option.{Option}
-use mathlib.Core.List.{List, [], _∷_, map, List·Memᴰ, Memᴰ·map, List·Memᴰ·head, List·Memᴰ·tail, List·Memᴰ·cases-cons, List·Permᴰ, List·Permᴰ·nil, List·Permᴰ·cons, List·Permᴰ·swap, List·Permᴰ·trans, Permᴰ·symm}
+use mathlib.Core.List.{List, [], _∷_, map, flatten, List·Memᴰ, List·Memᴰ·head, List·Memᴰ·tail, List·Memᴰ·cases-cons, List·Permᴰ, List·Permᴰ·nil, List·Permᴰ·cons, List·Permᴰ·swap, List·Permᴰ·trans, Permᴰ·symm}
 use native.Mathlib.Omega.{arith}
 use borrow.Author.Tests.{ne-eqb}
 use lib.ListN.{length, getD}
@@ -26,11 +26,13 @@ use Rattle.moves.specs.Plan.{Plan, refuse, window, says, leaves}
 use Rattle.moves.proofs.Searches.{perm-mem}
 use Rattle.moves.proofs.Splice.{splice-same}
 use Rattle.moves.proofs.Words.{word-part}
+use Rattle.moves.proofs.Blocks.{of-block}
 use Rattle.moves.proofs.Tasks.{Task, answerIn, after, runAnswers, runLeft, Separate, after-length, run-hit, run-miss}
 use Rattle.moves.proofs.Lists.{taskOf, windowTask, refusedTask, Sound, InWindow, task-good, separate, find, final-slot, final-rest}
 use Rattle.moves.proofs.Lists.{Disjoint as WindowsApart, answers as list-answers}
 use Rattle.relocate.specs.declared.Frame.{Frame}
-use Rattle.relocate.specs.Statepoint.{pairs, slotAt, pointerOf}
+use Rattle.relocate.specs.Restore.{Restore}
+use Rattle.relocate.specs.Statepoint.{pairs, slotAt, pointersOf}
 use Rattle.relocate.specs.Plan.{plan, stackSize}
 use Rattle.relocate.specs.Relocation.{answer, moved, OneRecord, InExtent, extentOf, newContentAt}
 use Rattle.relocate.specs.Lists.{answers, final, Disjoint, Written, Holds, Demand3, OrderFree}
@@ -43,24 +45,24 @@ unfolding newContent
 content-part table im off n b d h k = rw (word-part 8 im off n b h, word-part 8 im off n d k)
 
 -- a refused section's number and place are the plan's, and an answer with the number 0 is of an accepted section
-pub plan-refused : (s olds news : List ℕ) (first n : ℕ) (f : Frame) (m p : ℕ) → sectionCheck s ≡ Refused m p → plan s olds news first n f ≡ refuse m p
+pub plan-refused : (R : Restore) (n : ℕ) (f : Frame) (m p : ℕ) → sectionCheck (R .section) ≡ Refused m p → plan R n f ≡ refuse m p
 unfolding plan ask
-plan-refused s olds news first n f m p h = rw h
+plan-refused R n f m p h = rw h
 
-pub accepted-section : (s olds news : List ℕ) (first : ℕ) (im : List ℕ) (f : Frame) → answer s olds news first im f .number ≡ 0 → Accepted s
+pub accepted-section : (R : Restore) (im : List ℕ) (f : Frame) → answer R im f .number ≡ 0 → Accepted (R .section)
 unfolding answer
-accepted-section s olds news first im f h = go (sectionCheck s) refl
+accepted-section R im f h = go (sectionCheck (R .section)) refl
   where
-    go : (v : Verdict) → sectionCheck s ≡ v → Accepted s
-    go (Valid e) q = q ∙ ap Valid (accepted-length s e q .0)
+    go : (v : Verdict) → sectionCheck (R .section) ≡ v → Accepted (R .section)
+    go (Valid e) q = q ∙ ap Valid (accepted-length (R .section) e q .0)
     go (Refused m p) q =
-        let a = (rw q at (section-numbered s)) .above in
-        let z : m ≡ 0 = rw (plan-refused s olds news first (length im) f m p q) at h in
+        let a = (rw q at (section-numbered (R .section))) .above in
+        let z : m ≡ 0 = rw (plan-refused R (length im) f m p q) at h in
         absurd (omega arith)
 
 -- the extent of a frame that has one
 extent-is : (s : List ℕ) (f : Frame) (e : Entry) → OneRecord s f e → (stackSize e ≡ stackSizeUnknown → ⊥)
-    → extentOf s f ≡ record { start = f .rsp; end = f .rsp + stackSize e }
+    → extentOf s f ≡ record { start = f .sp; end = f .sp + stackSize e }
 unfolding extentOf
 extent-is s f e one k = rw (one, ne-eqb (stackSize e) stackSizeUnknown k)
 
@@ -75,60 +77,60 @@ unfolding windowTask refusedTask after
 leaves-task table im (refuse n q) = sym (splice-same im 0 0)
 leaves-task table im (window off size ps) = refl
 
-module _ (s olds news : List ℕ) (first : ℕ) (e : ℕ) (k : sectionCheck s ≡ Valid e) where
+module _ (R : Restore) (e : ℕ) (k : sectionCheck (R .section) ≡ Valid e) where
   abbrev pub P : ℕ → Frame → Plan
-  P = plan s olds news first
+  P = plan R
 
   abbrev pub table : ℕ → Option ℕ
-  table = lookUp olds news
+  table = lookUp (R .olds) (R .news)
 
   snd : (n : ℕ) (f : Frame) → Sound n (P n f)
-  snd n f = sound s olds news first n f e k
+  snd n f = sound R n f e k
 
   -- a byte of a window is a byte of an extent
-  in-extent : (n : ℕ) (f : Frame) (i : ℕ) → InWindow (P n f) i → InExtent s f (first + i)
+  in-extent : (n : ℕ) (f : Frame) (i : ℕ) → InWindow (P n f) i → InExtent (R .section) f (R .first + i)
   in-extent n f i = go (P n f) refl
     where
-      go : (p : Plan) → P n f ≡ p → InWindow p i → InExtent s f (first + i)
+      go : (p : Plan) → P n f ≡ p → InWindow p i → InExtent (R .section) f (R .first + i)
       go (refuse m p) h q = absurd q
       go (window off size ws) h q =
-          let w = planned s olds news first n f e k off size ws h in
-          let x = extent-is s f (w .entry) (w .one) (w .known) in
-          let a : f .rsp ≤ first + i = omega arith in
-          let b : first + i < f .rsp + stackSize (w .entry) = omega arith in
+          let w = planned R n f e k off size ws h in
+          let x = extent-is (R .section) f (w .entry) (w .one) (w .known) in
+          let a : f .sp ≤ R .first + i = omega arith in
+          let b : R .first + i < f .sp + stackSize (w .entry) = omega arith in
           record { low = rw x a; high = rw x b }
 
-  disjoint : (n : ℕ) (fs : List Frame) → Disjoint s fs → WindowsApart P n fs
+  disjoint : (n : ℕ) (fs : List Frame) → Disjoint (R .section) fs → WindowsApart P n fs
   disjoint n [] d = tt
-  disjoint n (f ∷ fs) d = (λ g m i q r. d .0 g m (first + i) (in-extent n f i q) (in-extent n g i r), disjoint n fs (d .1))
+  disjoint n (f ∷ fs) d = (λ g m i q r. d .0 g m (R .first + i) (in-extent n f i q) (in-extent n g i r), disjoint n fs (d .1))
 
   abbrev tasks : ℕ → Frame → Task Move
   tasks n f = taskOf table (P n f)
 
   -- one move, as a task
-  one-says : (im : List ℕ) (f : Frame) → answer s olds news first im f ≡ answerIn im (tasks (length im) f)
+  one-says : (im : List ℕ) (f : Frame) → answer R im f ≡ answerIn im (tasks (length im) f)
   unfolding answer
   one-says im f = says-task table im (P (length im) f)
 
-  one-leaves : (im : List ℕ) (f : Frame) → moved s olds news first im f ≡ after im (tasks (length im) f)
+  one-leaves : (im : List ℕ) (f : Frame) → moved R im f ≡ after im (tasks (length im) f)
   unfolding moved
   one-leaves im f = leaves-task table im (P (length im) f)
 
-  answers-run : (fs : List Frame) (im : List ℕ) → answers s olds news first fs im ≡ runAnswers tasks fs im
+  answers-run : (fs : List Frame) (im : List ℕ) → answers R fs im ≡ runAnswers tasks fs im
   answers-run [] im = refl
   answers-run (f ∷ fs) im = rw (one-says im f, one-leaves im f, answers-run fs (after im (tasks (length im) f)))
 
-  final-run : (fs : List Frame) (im : List ℕ) → final s olds news first fs im ≡ runLeft tasks fs im
+  final-run : (fs : List Frame) (im : List ℕ) → final R fs im ≡ runLeft tasks fs im
   final-run [] im = refl
   final-run (f ∷ fs) im = rw (one-leaves im f) (final-run fs (after im (tasks (length im) f)))
 
-  final-length : (fs : List Frame) (im : List ℕ) → length (final s olds news first fs im) ≡ length im
+  final-length : (fs : List Frame) (im : List ℕ) → length (final R fs im) ≡ length im
   final-length [] im = refl
   final-length (f ∷ fs) im =
       rw (one-leaves im f)
       (final-length fs (after im (tasks (length im) f)) ∙ after-length im (tasks (length im) f) (task-good table (length im) (P (length im) f) (snd (length im) f)))
 
-  plain : (fs : List Frame) (im : List ℕ) → Disjoint s fs → answers s olds news first fs im ≡ map (answer s olds news first im) fs
+  plain : (fs : List Frame) (im : List ℕ) → Disjoint (R .section) fs → answers R fs im ≡ map (answer R im) fs
   plain fs im d =
       answers-run fs im ∙ list-answers table P snd fs im (disjoint (length im) fs d)
       ∙ ap (λ (g : Frame → Move). map g fs) (fun-ext (λ f. sym (one-says im f)))
@@ -137,42 +139,42 @@ module _ (s olds news : List ℕ) (first : ℕ) (e : ℕ) (k : sectionCheck s �
   pub record Passed (im : List ℕ) (f : Frame) : Type 0 where
     pub off : ℕ
     pub size : ℕ
-    pub pairs : List Pointer
+    pub pairs : List (List Pointer)
     pub is-window : P (length im) f ≡ window off size pairs
-    pub settled-0 : settled table pairs (part im off size) .number ≡ 0
+    pub settled-0 : settled table (flatten pairs) (part im off size) .number ≡ 0
 
-  pub accepts : (im : List ℕ) (f : Frame) → answer s olds news first im f .number ≡ 0 → Passed im f
+  pub accepts : (im : List ℕ) (f : Frame) → answer R im f .number ≡ 0 → Passed im f
   unfolding answer
-  accepts im f h = go (P (length im) f) refl (plan-above s olds news first (length im) f e k) h
+  accepts im f h = go (P (length im) f) refl (plan-above R (length im) f e k) h
     where
       go : (p : Plan) → P (length im) f ≡ p → Above p → says table im p .number ≡ 0 → Passed im f
       go (refuse n q) g a z = absurd (omega arith)
       go (window off size ws) g a z = record { off = off; size = size; pairs = ws; is-window = g; settled-0 = z }
 
-  yes-answer : (f : Frame) (off size : ℕ) (ps : List Pointer) (im : List ℕ) → P (length im) f ≡ window off size ps
-      → settled table ps (part im off size) .number ≡ 0 → answer s olds news first im f .number ≡ 0
+  yes-answer : (f : Frame) (off size : ℕ) (ps : List (List Pointer)) (im : List ℕ) → P (length im) f ≡ window off size ps
+      → settled table (flatten ps) (part im off size) .number ≡ 0 → answer R im f .number ≡ 0
   unfolding answer
   yes-answer f off size ps im g z = rw g z
 
-  slot : (fs : List Frame) (im : List ℕ) → Disjoint s fs → (b d i : ℕ) → Written s olds news first im fs b d i
-      → getD (final s olds news first fs im) i 0 ≡ getD (bytes 8 (newContentAt olds news first im b d)) (first + i - d) 0
+  slot : (fs : List Frame) (im : List ℕ) → Disjoint (R .section) fs → (b d i : ℕ) → Written R im fs b d i
+      → getD (final R fs im) i 0 ≡ getD (bytes 8 (newContentAt R im b d)) (R .first + i - d) 0
   slot fs im dis b d i w =
       let f = w .frame in
       let a = accepts im f (w .accepted) in
-      let q = planned s olds news first (length im) f e k (a .off) (a .size) (a .pairs) (a .is-window) in
+      let q = planned R (length im) f e k (a .off) (a .size) (a .pairs) (a .is-window) in
       let l = w .lists in
       let same : l .entry ≡ q .entry = (let x = l .one in let y = q .one in cc) in
       let m : List·Memᴰ (l .pair) (pairs (q .entry .body)) = rw (← same) (l .listed) in
-      let v = from-slots (readSection s .constants) f (stackSize (q .entry)) (l .pair) (q .insides (l .pair) m) (l .not-null) in
+      let v = from-slots (readSection (R .section) .constants) f (stackSize (q .entry)) (l .pair) (q .insides (l .pair) m) (l .not-null) in
       let b′ = slotAt f (l .pair .base) in
       let d′ = slotAt f (l .pair .derived) in
-      let eb : b ≡ f .rsp + b′ = one-address (l .base-at) (v .base-at) in
-      let ed : d ≡ f .rsp + d′ = one-address (l .derived-at) (v .derived-at) in
-      let mem : List·Memᴰ (slots b′ d′) (a .pairs) =
-      rw (q .pairs-are, ← pair-slots (readSection s .constants) f (l .pair) (l .not-null)) (Memᴰ·map (pointerOf (readSection s .constants) f) m) in
-      let ob : b - first ≡ a .off + b′ = omega (arith, q .off-is, q .low) in
-      let od : d - first ≡ a .off + d′ = omega (arith, q .off-is, q .low) in
-      let p : first + i - d ≡ i - (a .off + d′) = omega (arith, q .off-is, q .low) in
+      let eb : b ≡ f .sp + b′ = one-address (l .base-at) (v .base-at) in
+      let ed : d ≡ f .sp + d′ = one-address (l .derived-at) (v .derived-at) in
+      let mem : List·Memᴰ (slots b′ d′) (flatten (a .pairs)) =
+      rw (q .pairs-are) (of-block (pointersOf (readSection (R .section) .constants) f) (pairs (q .entry .body)) m (pair-slots (readSection (R .section) .constants) f (l .pair) (l .not-null))) in
+      let ob : b - R .first ≡ a .off + b′ = omega (arith, q .off-is, q .low) in
+      let od : d - R .first ≡ a .off + d′ = omega (arith, q .off-is, q .low) in
+      let p : R .first + i - d ≡ i - (a .off + d′) = omega (arith, q .off-is, q .low) in
       rw (final-run fs im, ob, od, p, ← content-part table im (a .off) (a .size) b′ d′ (rw (q .size-is) (v .base-in)) (rw (q .size-is) (v .derived-in)))
       (final-slot table P snd fs im (disjoint (length im) fs dis) f (w .in-list) (a .off) (a .size) (a .pairs) b′ d′ i
       (record {
@@ -182,24 +184,24 @@ module _ (s olds news : List ℕ) (first : ℕ) (e : ℕ) (k : sectionCheck s �
         inside = record { low = omega (arith, w .inside .low, q .off-is, q .low); high = omega (arith, w .inside .high, q .off-is, q .low) };
       }))
 
-  rest : (fs : List Frame) (im : List ℕ) → Disjoint s fs → (i : ℕ) → ((b d : ℕ) → Written s olds news first im fs b d i → ⊥)
-      → getD (final s olds news first fs im) i 0 ≡ getD im i 0
+  rest : (fs : List Frame) (im : List ℕ) → Disjoint (R .section) fs → (i : ℕ) → ((b d : ℕ) → Written R im fs b d i → ⊥)
+      → getD (final R fs im) i 0 ≡ getD im i 0
   rest fs im dis i none =
       rw (final-run fs im)
       (final-rest table P snd fs im (disjoint (length im) fs dis) i (λ f m off size ps b d h.
-      let q = planned s olds news first (length im) f e k off size ps (h .planned) in
-      none (f .rsp + b) (f .rsp + d)
+      let q = planned R (length im) f e k off size ps (h .planned) in
+      none (f .sp + b) (f .sp + d)
       (record {
         frame = f;
         in-list = m;
         accepted = yes-answer f off size ps im (h .planned) (h .accepted);
-        lists = window-lists s olds news first (length im) f e k off size ps q b d (h .listed);
+        lists = window-lists R (length im) f e k off size ps q b d (h .listed);
         inside = record { low = omega (arith, h .inside .low, q .off-is, q .low); high = omega (arith, h .inside .high, q .off-is, q .low) };
       })))
 
   -- two orders of one list leave one image
-  one-image : (fs gs : List Frame) (im : List ℕ) → List·Permᴰ fs gs → Disjoint s fs → Disjoint s gs
-      → final s olds news first fs im ≡ final s olds news first gs im
+  one-image : (fs gs : List Frame) (im : List ℕ) → List·Permᴰ fs gs → Disjoint (R .section) fs → Disjoint (R .section) gs
+      → final R fs im ≡ final R gs im
   one-image fs gs im perm df dg =
       ext-getD 0 _ _ (final-length fs im ∙ sym (final-length gs im)) (λ i h. rw (final-run fs im, final-run gs im) (go i (find table P snd (length im) fs i)))
     where
@@ -229,26 +231,26 @@ disjoint-perm s (List·Permᴰ·swap {a = f} {b = g} {a′ = g′} {b′ = f′}
 disjoint-perm s (List·Permᴰ·trans p q) d = disjoint-perm s q (disjoint-perm s p d)
 
 -- On a refused section nothing moves.
-module _ (s olds news : List ℕ) (first : ℕ) (m p : ℕ) (k : sectionCheck s ≡ Refused m p) where
-  refused-moved : (im : List ℕ) (f : Frame) → moved s olds news first im f ≡ im
+module _ (R : Restore) (m p : ℕ) (k : sectionCheck (R .section) ≡ Refused m p) where
+  refused-moved : (im : List ℕ) (f : Frame) → moved R im f ≡ im
   unfolding moved
-  refused-moved im f = rw (plan-refused s olds news first (length im) f m p k)
+  refused-moved im f = rw (plan-refused R (length im) f m p k)
 
-  refused-final : (fs : List Frame) (im : List ℕ) → final s olds news first fs im ≡ im
+  refused-final : (fs : List Frame) (im : List ℕ) → final R fs im ≡ im
   refused-final [] im = refl
   refused-final (f ∷ fs) im = rw (refused-moved im f) (refused-final fs im)
 
-  refused-plain : (fs : List Frame) (im : List ℕ) → answers s olds news first fs im ≡ map (answer s olds news first im) fs
+  refused-plain : (fs : List Frame) (im : List ℕ) → answers R fs im ≡ map (answer R im) fs
   refused-plain [] im = refl
   refused-plain (f ∷ fs) im = rw (refused-moved im f, refused-plain fs im)
 
-  refused-slot : (im : List ℕ) (f : Frame) → answer s olds news first im f .number ≡ 0 → ⊥
+  refused-slot : (im : List ℕ) (f : Frame) → answer R im f .number ≡ 0 → ⊥
   refused-slot im f h =
-      let z : Valid (length s) ≡ Refused m p = sym (accepted-section s olds news first im f h) ∙ k in
+      let z : Valid (length (R .section)) ≡ Refused m p = sym (accepted-section R im f h) ∙ k in
       let y : _≡_ {A = ℕ} 0 1 = cc in
       omega arith
 
-  refused-holds : (im : List ℕ) (fs : List Frame) → Holds s olds news first im fs
+  refused-holds : (im : List ℕ) (fs : List Frame) → Holds R im fs
   refused-holds im fs =
       record {
         plain = refused-plain fs im;
@@ -258,23 +260,23 @@ module _ (s olds news : List ℕ) (first : ℕ) (m p : ℕ) (k : sectionCheck s 
       }
 
 pub demand3 : Demand3
-demand3 s olds news first im fs d = go (sectionCheck s) refl
+demand3 R im fs d = go (sectionCheck (R .section)) refl
   where
-    go : (v : Verdict) → sectionCheck s ≡ v → Holds s olds news first im fs
-    go (Refused m p) k = refused-holds s olds news first m p k im fs
+    go : (v : Verdict) → sectionCheck (R .section) ≡ v → Holds R im fs
+    go (Refused m p) k = refused-holds R m p k im fs
     go (Valid e) k =
         record {
-          plain = plain s olds news first e k fs im d;
-          same-length = final-length s olds news first e k fs im;
-          slot = slot s olds news first e k fs im d;
-          rest = rest s olds news first e k fs im d;
+          plain = plain R e k fs im d;
+          same-length = final-length R e k fs im;
+          slot = slot R e k fs im d;
+          rest = rest R e k fs im d;
         }
 
 pub order-free : OrderFree
-order-free s olds news first im fs gs p d =
-    let d′ = disjoint-perm s p d in
-    record { disjoint = d′; holds = demand3 s olds news first im gs d′; same-image = go d′ (sectionCheck s) refl }
+order-free R im fs gs p d =
+    let d′ = disjoint-perm (R .section) p d in
+    record { disjoint = d′; holds = demand3 R im gs d′; same-image = go d′ (sectionCheck (R .section)) refl }
   where
-    go : Disjoint s gs → (v : Verdict) → sectionCheck s ≡ v → final s olds news first fs im ≡ final s olds news first gs im
-    go d′ (Refused m q) k = refused-final s olds news first m q k fs im ∙ sym (refused-final s olds news first m q k gs im)
-    go d′ (Valid e) k = one-image s olds news first e k fs gs im p d d′
+    go : Disjoint (R .section) gs → (v : Verdict) → sectionCheck (R .section) ≡ v → final R fs im ≡ final R gs im
+    go d′ (Refused m q) k = refused-final R m q k fs im ∙ sym (refused-final R m q k gs im)
+    go d′ (Valid e) k = one-image R e k fs gs im p d d′

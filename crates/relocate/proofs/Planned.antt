@@ -2,9 +2,9 @@
 use Prim.Native.Nat.{ℕ, suc, _+_, _-_, _≤_, _<_}
 use mathlib.Core.Path.{_≡_, refl, sym, ap, _∙_}
 use mathlib.Core.Bool.{Bool, true, false, true≢false}
-use mathlib.Core.Logic.{_⊎_, inl, inr}
+use mathlib.Core.Logic.{_⊎_, inl, inr, ⊎-elim}
 use mathlib.Core.Option.{Option, none, some}
-use mathlib.Core.List.{List, [], _∷_, map, List·Memᴰ, Memᴰ·of-map, List·Memᴰ·not-nil, List·Memᴰ·cases-cons}
+use mathlib.Core.List.{List, [], _∷_, map, flatten, List·Memᴰ, List·Memᴰ·head, List·Memᴰ·not-nil, List·Memᴰ·cases-cons}
 use native.Mathlib.Omega.{arith}
 use borrow.Author.Tests.{eqb-false, leb-true}
 use lib.Dec.{leb}
@@ -18,10 +18,13 @@ use Rattle.stackmap.proofs.Tests.{and-true, not-true}
 use Rattle.moves.specs.Pointers.{Pointer, null, slots, orZero}
 use Rattle.moves.specs.Table.{tableRight}
 use Rattle.moves.specs.Plan.{Plan, refuse, window}
+use Rattle.moves.proofs.Blocks.{in-block}
 use Rattle.moves.proofs.Lists.{Sound}
 use Rattle.relocate.specs.declared.Frame.{Frame}
+use Rattle.relocate.specs.declared.Machine.{Machine}
 use Rattle.questions.specs.Questions.{ask}
-use Rattle.relocate.specs.Statepoint.{isStatepoint, Pair, pairs, isNull, isSlot, rightForm, slotAddress, slotInside, slotAt, inside, pointerOf}
+use Rattle.relocate.specs.Restore.{Restore}
+use Rattle.relocate.specs.Statepoint.{isStatepoint, Pair, pairs, isNull, isSlot, rightForm, slotAddress, slotInside, slotAt, inside, pointersOf}
 use Rattle.relocate.specs.Plan.{recordsOf, only, every, stackSize, imageRight, extentRight, planPairs, planRecord, plan}
 use Rattle.relocate.specs.Relocation.{Lists}
 
@@ -58,7 +61,7 @@ every-above good n i (p ∷ ps) k a = go (every-above good n (suc i) ps k a) (go
 
 -- a window stands where every test held
 
-module _ {off size : ℕ} {ws : List Pointer} where
+module _ {off size : ℕ} {ws : List (List Pointer)} where
   need-held : (b : Bool) (n : ℕ) (k : Plan) → need b (refuse n 0) k ≡ window off size ws → (b ≡ true) × (k ≡ window off size ws)
   need-held true n k h = (refl, h)
   need-held false n k h = absurd (let z : _≡_ {A = ℕ} 0 1 = cc in omega arith)
@@ -87,17 +90,17 @@ module _ {off size : ℕ} {ws : List Pointer} where
 
 -- the slots of a pair that is not null, and inside
 slot-inside : (f : Frame) (n : ℕ) (l : Location) → slotInside f n l ≡ true
-    → (slotAddress f l ≡ some (f .rsp + slotAt f l)) × (slotAt f l + 8 ≤ n)
+    → (slotAddress f l ≡ some (f .sp + slotAt f l)) × (slotAt f l + 8 ≤ n)
 unfolding slotInside slotAt
 slot-inside f n l h = go (slotAddress f l) refl
   where
     go : (x : Option ℕ) → slotAddress f l ≡ x
-        → (slotAddress f l ≡ some (f .rsp + (orZero (slotAddress f l) - f .rsp))) × (orZero (slotAddress f l) - f .rsp + 8 ≤ n)
+        → (slotAddress f l ≡ some (f .sp + (orZero (slotAddress f l) - f .sp))) × (orZero (slotAddress f l) - f .sp + 8 ≤ n)
     go none e = absurd (true≢false (sym (rw e at h)))
     go (some a) e =
-        let t = and-true (leb (f .rsp) a) (leb (a + 8) (f .rsp + n)) (rw e at h) in
-        let x : f .rsp ≤ a = leb-true _ _ (t .0) in
-        let y : a + 8 ≤ f .rsp + n = leb-true _ _ (t .1) in
+        let t = and-true (leb (f .sp) a) (leb (a + 8) (f .sp + n)) (rw e at h) in
+        let x : f .sp ≤ a = leb-true _ _ (t .0) in
+        let y : a + 8 ≤ f .sp + n = leb-true _ _ (t .1) in
         rw e (ap some (omega arith), omega arith)
 
 -- a pair of the window, and the pair that it comes from
@@ -105,8 +108,8 @@ pub record From (pool : List ℕ) (f : Frame) (n b d : ℕ) (p : Pair) : Type 0 
   pub not-null : isNull pool p ≡ false
   pub base-is : b ≡ slotAt f (p .base)
   pub derived-is : d ≡ slotAt f (p .derived)
-  pub base-at : slotAddress f (p .base) ≡ some (f .rsp + b)
-  pub derived-at : slotAddress f (p .derived) ≡ some (f .rsp + d)
+  pub base-at : slotAddress f (p .base) ≡ some (f .sp + b)
+  pub derived-at : slotAddress f (p .derived) ≡ some (f .sp + d)
   pub base-in : b + 8 ≤ n
   pub derived-in : d + 8 ≤ n
 
@@ -119,59 +122,63 @@ from-slots pool f n p h e =
     let y = slot-inside f n (p .derived) (a .1) in
     record { not-null = e; base-is = refl; derived-is = refl; base-at = x .0; derived-at = y .0; base-in = x .1; derived-in = y .1 }
 
-pub pair-from : (pool : List ℕ) (f : Frame) (n : ℕ) (p : Pair) (b d : ℕ) → inside pool f n p ≡ true → pointerOf pool f p ≡ slots b d → From pool f n b d p
-unfolding pointerOf
-pair-from pool f n p b d h e = go (isNull pool p) refl
+pub pair-from : (pool : List ℕ) (f : Frame) (n : ℕ) (p : Pair) (b d : ℕ) → inside pool f n p ≡ true → List·Memᴰ (slots b d) (pointersOf pool f p) → From pool f n b d p
+unfolding pointersOf
+pair-from pool f n p b d h m = go (isNull pool p) refl
   where
+    alone : (q : Pointer) → List·Memᴰ (slots b d) (q ∷ []) → slots b d ≡ q
+    alone q k = ⊎-elim (λ e. e) (λ x. absurd (List·Memᴰ·not-nil x)) (List·Memᴰ·cases-cons k)
+
     go : (t : Bool) → isNull pool p ≡ t → From pool f n b d p
-    go true q = absurd (let w : null ≡ slots b d = rw q at e in let z : _≡_ {A = ℕ} 0 1 = cc in omega arith)
+    go true q = absurd (let w : slots b d ≡ null = alone null (rw q at m) in let z : _≡_ {A = ℕ} 0 1 = cc in omega arith)
     go false q =
-        let w : slots (slotAt f (p .base)) (slotAt f (p .derived)) ≡ slots b d = rw q at e in
+        let w : slots b d ≡ slots (slotAt f (p .base)) (slotAt f (p .derived)) = alone _ (rw q at m) in
         let x : slotAt f (p .base) ≡ b = cc in
         let y : slotAt f (p .derived) ≡ d = cc in
         rw (x, y) at (from-slots pool f n p h q)
 
-pub pair-slots : (pool : List ℕ) (f : Frame) (p : Pair) → isNull pool p ≡ false → pointerOf pool f p ≡ slots (slotAt f (p .base)) (slotAt f (p .derived))
-unfolding pointerOf
-pair-slots pool f p e = rw e
+pub pair-slots : (pool : List ℕ) (f : Frame) (p : Pair) → isNull pool p ≡ false → List·Memᴰ (slots (slotAt f (p .base)) (slotAt f (p .derived))) (pointersOf pool f p)
+unfolding pointersOf
+pair-slots pool f p e = rw e (List·Memᴰ·head refl)
 
 -- a slot has one address
 pub one-address : {x : Option ℕ} {a b : ℕ} → x ≡ some a → x ≡ some b → a ≡ b
 one-address {a = a} {b = b} h k = let e : some a ≡ some b = sym h ∙ k in cc
 
 -- a pair of the right form that is not null has two slots
-form-slots : (old : Bool) (pool : List ℕ) (p : Pair) → rightForm old pool p ≡ true → isNull pool p ≡ false
-    → (isSlot old (p .base) ≡ true) × (isSlot old (p .derived) ≡ true)
+form-slots : (m : Machine) (old : Bool) (pool : List ℕ) (p : Pair) → rightForm m old pool p ≡ true → isNull pool p ≡ false
+    → (isSlot m old (p .base) ≡ true) × (isSlot m old (p .derived) ≡ true)
 unfolding rightForm
-form-slots old pool p h e = and-true _ _ (rw e at h)
+form-slots m old pool p h e = and-true _ _ (rw e at h)
 
-module _ (s olds news : List ℕ) (first n : ℕ) (f : Frame) where
+module _ (R : Restore) (n : ℕ) (f : Frame) where
   abbrev pool : List ℕ
-  pool = readSection s .constants
+  pool = readSection (R .section) .constants
 
-  pub record Planned (off size : ℕ) (ws : List Pointer) : Type 0 where
+  pub record Planned (off size : ℕ) (ws : List (List Pointer)) : Type 0 where
     pub entry : Entry
-    pub one : recordsOf s f ≡ entry ∷ []
+    pub one : recordsOf (R .section) f ≡ entry ∷ []
     pub known : stackSize entry ≡ stackSizeUnknown → ⊥
-    pub low : first ≤ f .rsp
-    pub high : f .rsp + stackSize entry ≤ first + n
-    pub off-is : off ≡ f .rsp - first
+    pub low : R .first ≤ f .sp
+    pub high : f .sp + stackSize entry ≤ R .first + n
+    pub off-is : off ≡ f .sp - R .first
     pub size-is : size ≡ stackSize entry
-    pub pairs-are : ws ≡ map (pointerOf pool f) (pairs (entry .body))
+    pub pairs-are : ws ≡ map (pointersOf pool f) (pairs (entry .body))
     pub statepoint : isStatepoint (entry .body) ≡ true
-    pub forms : (p : Pair) → List·Memᴰ p (pairs (entry .body)) → rightForm (isOld s) pool p ≡ true
+    pub forms : (p : Pair) → List·Memᴰ p (pairs (entry .body)) → rightForm (f .machine) (isOld (R .section)) pool p ≡ true
     pub insides : (p : Pair) → List·Memᴰ p (pairs (entry .body)) → inside pool f (stackSize entry) p ≡ true
 
-  pub planned : (e : ℕ) → sectionCheck s ≡ Valid e → (off size : ℕ) (ws : List Pointer) → plan s olds news first n f ≡ window off size ws → Planned off size ws
+  pub planned : (e : ℕ) → sectionCheck (R .section) ≡ Valid e → (off size : ℕ) (ws : List (List Pointer)) → plan R n f ≡ window off size ws → Planned off size ws
   unfolding plan planRecord planPairs extentRight ask
   planned e k off size ws h =
-      let h₀ = need-held (tableRight olds news) 14 _ (need-held (imageRight first n) 13 _ (rw k at h) .1) in
+      let h₀ = need-held (tableRight (R .olds) (R .news)) 14 _ (need-held (imageRight (R .first) n) 13 _ (rw k at h) .1) in
       let o = only-held _ _ (h₀ .1) in
       let h₁ = need-held (isStatepoint (o .0 .body)) 12 _ (o .2) in
-      let h₂ = need-held (extentRight first n (f .rsp) (stackSize (o .0))) 16 _ (h₁ .1) in
-      let h₃ = need-held (leb (length (pairs (o .0 .body))) 256) 17 _ (h₂ .1) in
+      let h₂ = need-held (extentRight (R .first) n (f .sp) (stackSize (o .0))) 16 _ (h₁ .1) in
+      let h₃ = need-held (leb (length (pairs (o .0 .body))) (R .most)) 17 _ (h₂ .1) in
       let h₄ = every-held _ _ _ _ _ (h₃ .1) in
-      let h₅ = every-held _ _ _ _ _ (h₄ .1) in
+      let h₄₅ = need-held (leb (length (flatten (map (pointersOf pool f) (pairs (o .0 .body))))) (R .most)) 17 _ (h₄ .1) in
+      let h₅ = every-held _ _ _ _ _ (h₄₅ .1) in
       let x = and-true _ _ (h₂ .0) in
       let y = and-true _ _ (x .1) in
       let w = h₅ .1 in
@@ -189,26 +196,27 @@ module _ (s olds news : List ℕ) (first n : ℕ) (f : Frame) where
         insides = h₅ .0;
       }
 
-  pub plan-above : (e : ℕ) → sectionCheck s ≡ Valid e → Above (plan s olds news first n f)
+  pub plan-above : (e : ℕ) → sectionCheck (R .section) ≡ Valid e → Above (plan R n f)
   unfolding plan planRecord planPairs ask
   plan-above e k =
       rw k
-      (need-above (imageRight first n) 12 _ (need-above (tableRight olds news) 13 _ (only-above _ _ (λ x.
-      need-above (isStatepoint (x .body)) 11 _ (need-above (extentRight first n (f .rsp) (stackSize x)) 15 _
-      (need-above (leb (length (pairs (x .body))) 256) 16 _ (every-above _ 17 0 _ _ (every-above _ 18 0 _ _ tt))))))))
+      (need-above (imageRight (R .first) n) 12 _ (need-above (tableRight (R .olds) (R .news)) 13 _ (only-above _ _ (λ x.
+      need-above (isStatepoint (x .body)) 11 _ (need-above (extentRight (R .first) n (f .sp) (stackSize x)) 15 _
+      (need-above (leb (length (pairs (x .body))) (R .most)) 16 _ (every-above _ 17 0 _ _
+      (need-above (leb (length (flatten (map (pointersOf pool f) (pairs (x .body))))) (R .most)) 16 _ (every-above _ 18 0 _ _ tt)))))))))
 
-  pub window-pair : (e : ℕ) → sectionCheck s ≡ Valid e → (off size : ℕ) (ws : List Pointer) (q : Planned off size ws)
-      → (b d : ℕ) → List·Memᴰ (slots b d) ws → (p : Pair) × List·Memᴰ p (pairs (q .entry .body)) × From pool f size b d p
+  pub window-pair : (e : ℕ) → sectionCheck (R .section) ≡ Valid e → (off size : ℕ) (ws : List (List Pointer)) (q : Planned off size ws)
+      → (b d : ℕ) → List·Memᴰ (slots b d) (flatten ws) → (p : Pair) × List·Memᴰ p (pairs (q .entry .body)) × From pool f size b d p
   window-pair e k off size ws q b d m =
-      let o = Memᴰ·of-map (pointerOf pool f) (pairs (q .entry .body)) (rw (q .pairs-are) at m) in
+      let o = in-block (pointersOf pool f) (pairs (q .entry .body)) (rw (q .pairs-are) at m) in
       (o .0, o .1, rw (q .size-is) (pair-from pool f (stackSize (q .entry)) (o .0) b d (q .insides (o .0) (o .1)) (o .2)))
 
   -- and is listed
-  pub window-lists : (e : ℕ) → sectionCheck s ≡ Valid e → (off size : ℕ) (ws : List Pointer) (q : Planned off size ws)
-      → (b d : ℕ) → List·Memᴰ (slots b d) ws → Lists s f (f .rsp + b) (f .rsp + d)
+  pub window-lists : (e : ℕ) → sectionCheck (R .section) ≡ Valid e → (off size : ℕ) (ws : List (List Pointer)) (q : Planned off size ws)
+      → (b d : ℕ) → List·Memᴰ (slots b d) (flatten ws) → Lists (R .section) f (f .sp + b) (f .sp + d)
   window-lists e k off size ws q b d m =
       let v = window-pair e k off size ws q b d m in
-      let t = form-slots (isOld s) pool (v .0) (q .forms (v .0) (v .1)) (v .2 .not-null) in
+      let t = form-slots (f .machine) (isOld (R .section)) pool (v .0) (q .forms (v .0) (v .1)) (v .2 .not-null) in
       record {
         entry = q .entry;
         one = q .one;
@@ -222,10 +230,10 @@ module _ (s olds news : List ℕ) (first n : ℕ) (f : Frame) where
         derived-at = v .2 .derived-at;
       }
 
-  pub sound : (e : ℕ) → sectionCheck s ≡ Valid e → Sound n (plan s olds news first n f)
-  sound e k = go (plan s olds news first n f) refl
+  pub sound : (e : ℕ) → sectionCheck (R .section) ≡ Valid e → Sound n (plan R n f)
+  sound e k = go (plan R n f) refl
     where
-      go : (p : Plan) → plan s olds news first n f ≡ p → Sound n p
+      go : (p : Plan) → plan R n f ≡ p → Sound n p
       go (refuse m p) h = tt
       go (window off size ws) h =
           let q = planned e k off size ws h in

@@ -4,7 +4,7 @@ use mathlib.Core.Path.{_≡_, refl, sym, ap, _∙_}
 use mathlib.Core.Bool.{Bool, true, false, cond}
 use mathlib.Core.Logic.{⊎-elim}
 use mathlib.Core.Option.{Option, none, some}
-use mathlib.Core.List.{List, [], _∷_, List·Memᴰ, List·Memᴰ·head, List·Memᴰ·tail, List·Memᴰ·not-nil, List·Memᴰ·cases-cons, List·Permᴰ, Permᴰ·symm, Permᴰ·map}
+use mathlib.Core.List.{List, [], _∷_, map, flatten, List·Memᴰ, List·Memᴰ·head, List·Memᴰ·tail, List·Memᴰ·not-nil, List·Memᴰ·cases-cons, List·Permᴰ, Permᴰ·symm, Permᴰ·map}
 use native.Mathlib.Omega.{arith}
 use lib.Dec.{eqb, leb}
 use lib.ListN.{length, getElem?}
@@ -23,20 +23,23 @@ use Rattle.moves.specs.Plan.{Plan, refuse, window, says, leaves}
 use Rattle.moves.proofs.Searches.{perm-mem, perm-length}
 use Rattle.moves.proofs.Splice.{part-length}
 use Rattle.moves.proofs.Order.{Alike, settle-perm}
+use Rattle.moves.proofs.Blocks.{blocks-perm, pairs-alike}
 use Rattle.moves.proofs.Lists.{Sound}
 use Rattle.relocate.specs.declared.Frame.{Frame}
 use Rattle.questions.specs.Questions.{ask, among, withAddress, atOffset, ofFunction, sought}
-use Rattle.relocate.specs.Statepoint.{isStatepoint, Pair, pairs, rightForm, inside, pointerOf}
-use Rattle.relocate.specs.Plan.{recordsOf, only, every, stackSize, imageRight, extentRight, planPairs, planRecord, planEntry, plan}
+use Rattle.relocate.specs.Restore.{Restore}
+use Rattle.relocate.specs.Statepoint.{isStatepoint, Pair, pairs, rightForm, inside, pointersOf}
+use Rattle.relocate.specs.Plan.{recordsOf, only, every, stackSize, imageRight, extentRight, planPairs, planRecord, plan}
 use Rattle.relocate.specs.Relocation.{answer, moved}
-use Rattle.relocate.specs.Reorder.{OtherOrder, PairOrder}
+use Rattle.relocate.specs.Code.{planEntry}
+use Rattle.relocate.specs.Reorder.{OtherOrder, withSection, PairOrder}
 use Rattle.relocate.proofs.Planned.{every-yes, every-no, sound}
 use Rattle.relocate.proofs.Like.{EntryLike, EntriesLike, like-address, section-like, still-well}
 
 -- two plans with one refusal number, or one window with its pairs in two orders
 data SamePlan : Plan → Plan → Type 0 where
   refusals : {n i j : ℕ} → (n < 18 → i ≡ j) → SamePlan (refuse n i) (refuse n j)
-  windows : {off size : ℕ} {ps qs : List Pointer} → List·Permᴰ ps qs → SamePlan (window off size ps) (window off size qs)
+  windows : {off size : ℕ} {ps qs : List (List Pointer)} → List·Permᴰ ps qs → SamePlan (window off size ps) (window off size qs)
 
 same-need : (b : Bool) (n : ℕ) (k k′ : Plan) → SamePlan k k′ → SamePlan (need b (refuse n 0) k) (need b (refuse n 0) k′)
 same-need true n k k′ h = h
@@ -69,15 +72,27 @@ same-every good n i ps qs k k′ late perm h = go _ _ (tested good n i ps k) (te
     go x y (failed q j m b e) (passed a f) = absurd (clash q (a q (perm-mem perm m)) b)
     go x y (failed q j m b e) (failed q′ j′ m′ b′ f) = rw (e, f) (refusals {n = n} (λ l. absurd (omega arith)))
 
-same-entry : (old : Bool) (pool : List ℕ) (first n : ℕ) (f : Frame) (e e′ : Entry) → EntryLike e e′ → SamePlan (planEntry old pool first n f e) (planEntry old pool first n f e′)
+-- two restores that a frame's record doesn't tell apart
+record Same (R R′ : Restore) : Type 0 where
+  old-same : isOld (R′ .section) ≡ isOld (R .section)
+  pool-same : readSection (R′ .section) .constants ≡ readSection (R .section) .constants
+  first-same : R′ .first ≡ R .first
+  most-same : R′ .most ≡ R .most
+
+same-entry : (R R′ : Restore) (n : ℕ) (f : Frame) (e e′ : Entry) → Same R R′ → EntryLike e e′ → SamePlan (planEntry R n f e) (planEntry R′ n f e′)
 unfolding planRecord planPairs
-same-entry old pool first n f e e′ l =
+same-entry R R′ n f e e′ w l =
     let p = l .body-like .pairs-perm in
     let o = l .owner-same in
     let c : length (pairs (e′ .body)) ≡ length (pairs (e .body)) = sym (perm-length p) in
-    rw (l .body-like .statepoint-same, o, c)
-    (same-need (isStatepoint (e .body)) 12 _ _ (same-need (extentRight first n (f .rsp) (stackSize e)) 16 _ _ (same-need (leb (length (pairs (e .body))) 256) 17 _ _
-    (same-every (rightForm old pool) 18 0 _ _ _ _ (omega arith) p (same-every (inside pool f (stackSize e)) 19 0 _ _ _ _ (omega arith) p (windows (Permᴰ·map (pointerOf pool f) p)))))))
+    let old = isOld (R .section) in
+    let pool = readSection (R .section) .constants in
+    let g = pointersOf pool f in
+    let d : length (flatten (map g (pairs (e′ .body)))) ≡ length (flatten (map g (pairs (e .body)))) = sym (perm-length (blocks-perm (Permᴰ·map g p))) in
+    rw (l .body-like .statepoint-same, o, c, w .old-same, w .pool-same, w .first-same, w .most-same, d)
+    (same-need (isStatepoint (e .body)) 12 _ _ (same-need (extentRight (R .first) n (f .sp) (stackSize e)) 16 _ _ (same-need (leb (length (pairs (e .body))) (R .most)) 17 _ _
+    (same-every (rightForm (f .machine) old pool) 18 0 _ _ _ _ (omega arith) p (same-need (leb (length (flatten (map g (pairs (e .body))))) (R .most)) 17 _ _
+    (same-every (inside pool f (stackSize e)) 19 0 _ _ _ _ (omega arith) p (windows (Permᴰ·map g p))))))))
 
 with-like : (a : ℕ) (es es′ : List Entry) → EntriesLike es es′ → EntriesLike (withAddress a es) (withAddress a es′)
 unfolding withAddress
@@ -120,15 +135,15 @@ sought-like true fs g a es es′ l = go (getElem? fs g)
     go (some f) = offset-like a (record { number = g; function = f }) es es′ l
 sought-like false fs g a es es′ l = with-like a es es′ l
 
-same-only : (es es′ : List Entry) (k : Entry → Plan) → EntriesLike es es′ → ((e e′ : Entry) → EntryLike e e′ → SamePlan (k e) (k e′)) → SamePlan (only es k) (only es′ k)
+same-only : (es es′ : List Entry) (k k′ : Entry → Plan) → EntriesLike es es′ → ((e e′ : Entry) → EntryLike e e′ → SamePlan (k e) (k′ e′)) → SamePlan (only es k) (only es′ k′)
 unfolding only
-same-only [] [] k l h = refusals (λ q. refl)
-same-only [] (e′ ∷ es′) k l h = absurd l
-same-only (e ∷ es) [] k l h = absurd l
-same-only (e ∷ []) (e′ ∷ []) k l h = h e e′ (l .0)
-same-only (e ∷ []) (e′ ∷ x′ ∷ es′) k l h = absurd (l .1)
-same-only (e ∷ x ∷ es) (e′ ∷ []) k l h = absurd (l .1)
-same-only (e ∷ x ∷ es) (e′ ∷ x′ ∷ es′) k l h = refusals (λ q. refl)
+same-only [] [] k k′ l h = refusals (λ q. refl)
+same-only [] (e′ ∷ es′) k k′ l h = absurd l
+same-only (e ∷ es) [] k k′ l h = absurd l
+same-only (e ∷ []) (e′ ∷ []) k k′ l h = h e e′ (l .0)
+same-only (e ∷ []) (e′ ∷ x′ ∷ es′) k k′ l h = absurd (l .1)
+same-only (e ∷ x ∷ es) (e′ ∷ []) k k′ l h = absurd (l .1)
+same-only (e ∷ x ∷ es) (e′ ∷ x′ ∷ es′) k k′ l h = refusals (λ q. refl)
 
 -- what two such plans do to an image
 alike : (table : ℕ → Option ℕ) (im : List ℕ) {p p′ : Plan} → Sound (length im) p → SamePlan p p′
@@ -137,18 +152,21 @@ alike table im s (refusals h) = (record { number = refl; count = refl; place = �
 alike table im s (windows {off = off} {size = size} {ps = ps} {qs = qs} perm) =
     let w = part im off size in
     let l : length w ≡ size = part-length im off size (s .window-in) in
-    let e = settle-perm table w perm (λ b d m. rw l (s .derived-in b d m)) in
-    (e .0, ap (splice im off size) (sym (e .1)))
+    let e = settle-perm table w (blocks-perm perm) (λ b d m. rw l (s .derived-in b d m)) in
+    (pairs-alike table w ps qs (e .0), ap (splice im off size) (sym (e .1)))
 
-module _ (s s′ : List ℕ) (w : Bytes s) (o : OtherOrder s s′) where
+module _ (R : Restore) (s′ : List ℕ) (w : Bytes (R .section)) (o : OtherOrder (R .section) s′) where
+  abbrev R′ : Restore
+  R′ = withSection R s′
+
   abbrev t : Section
-  t = readSection s
+  t = readSection (R .section)
 
   abbrev t′ : Section
   t′ = record { old = t .old; functions = t .functions; constants = t .constants; records = o .records }
 
   well : WellFormed t′
-  well = still-well t (o .records) (o .reordered) (accepted-well-formed s (length s) w (o .accepted) .0)
+  well = still-well t (o .records) (o .reordered) (accepted-well-formed (R .section) (length (R .section)) w (o .accepted) .0)
 
   now-accepted : sectionCheck s′ ≡ Valid (length s′)
   now-accepted = rw (o .encoded) (well-formed-accepted t′ well .0)
@@ -156,28 +174,31 @@ module _ (s s′ : List ℕ) (w : Bytes s) (o : OtherOrder s s′) where
   now-read : readSection s′ ≡ t′
   now-read = rw (o .encoded) (well-formed-accepted t′ well .1)
 
-  old-same : isOld s′ ≡ isOld s
-  old-same = sym (old-of s′) ∙ ap (λ (x : Section). x .old) now-read ∙ old-of s
+  old-same : isOld s′ ≡ isOld (R .section)
+  old-same = sym (old-of s′) ∙ ap (λ (x : Section). x .old) now-read ∙ old-of (R .section)
 
-  module _ (olds news : List ℕ) (first : ℕ) (im : List ℕ) (f : Frame) where
-    same-plan : SamePlan (plan s olds news first (length im) f) (plan s′ olds news first (length im) f)
+  same : Same R R′
+  same = record { old-same = old-same; pool-same = ap (λ (x : Section). x .constants) now-read; first-same = refl; most-same = refl }
+
+  module _ (im : List ℕ) (f : Frame) where
+    same-plan : SamePlan (plan R (length im) f) (plan R′ (length im) f)
     unfolding plan recordsOf sought ofFunction entries ask
     same-plan =
         rw (o .accepted, now-accepted, old-same, now-read)
-        (same-need (imageRight first (length im)) 13 _ _ (same-need (tableRight olds news) 14 _ _
-        (same-only _ _ _ (sought-like (isOld s) (t .functions) (f .function) (f .address) _ _ (section-like t (o .records) (o .reordered)))
-        (same-entry (isOld s) (t .constants) first (length im) f))))
+        (same-need (imageRight (R .first) (length im)) 13 _ _ (same-need (tableRight (R .olds) (R .news)) 14 _ _
+        (same-only _ _ _ _ (sought-like (isOld (R .section)) (t .functions) (f .function) (f .address) _ _ (section-like t (o .records) (o .reordered)))
+        (λ e e′. same-entry R R′ (length im) f e e′ same))))
 
-    both : Alike (answer s olds news first im f) (answer s′ olds news first im f) × (moved s′ olds news first im f ≡ moved s olds news first im f)
+    both : Alike (answer R im f) (answer R′ im f) × (moved R′ im f ≡ moved R im f)
     unfolding answer moved
-    both = alike (lookUp olds news) im (sound s olds news first (length im) f (length s) (o .accepted)) same-plan
+    both = alike (lookUp (R .olds) (R .news)) im (sound R (length im) f (length (R .section)) (o .accepted)) same-plan
 
 pub pair-order : PairOrder
-pair-order s s′ w o =
+pair-order R s′ w o =
     record {
-      accepted = now-accepted s s′ w o;
-      number = λ olds news first im f. both s s′ w o olds news first im f .0 .number;
-      count = λ olds news first im f. both s s′ w o olds news first im f .0 .count;
-      image = λ olds news first im f. both s s′ w o olds news first im f .1;
-      place = λ olds news first im f. both s s′ w o olds news first im f .0 .place;
+      accepted = now-accepted R s′ w o;
+      number = λ im f. both R s′ w o im f .0 .number;
+      count = λ im f. both R s′ w o im f .0 .count;
+      image = λ im f. both R s′ w o im f .1;
+      place = λ im f. both R s′ w o im f .0 .place;
     }

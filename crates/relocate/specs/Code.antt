@@ -8,14 +8,19 @@ use mathlib.Core.List.{List}
 use lib.Dec.{eqb, leb}
 use lib.ListN.{length, getD, drop}
 use Rattle.stackmap.specs.Layout.{kindConstIndex}
-use Rattle.stackmap.specs.Section.{Location, Record, isOld, recordsAt, numLocations, recordLength, readRecord, readSection}
+use Rattle.stackmap.specs.Section.{Location, Record, Entry, isOld, recordsAt, numLocations, recordLength, readRecord, readSection}
 use Rattle.questions.specs.declared.LocationAnswer.{LocationAnswer}
+use Rattle.moves.specs.declared.Move.{Move}
 use Rattle.moves.specs.Limits.{pointerSize}
-use Rattle.moves.specs.Pointers.{orZero}
+use Rattle.moves.specs.Pointers.{Pointer, null, slots, orZero}
 use Rattle.relocate.specs.declared.Frame.{Frame}
 use Rattle.relocate.specs.declared.Spot.{Spot}
 use Rattle.relocate.specs.declared.Spot.the-variants.{At, Outside}
+use Rattle.moves.specs.Plan.{Plan}
 use Rattle.relocate.specs.Limits.{kindConstant}
+use Rattle.relocate.specs.Restore.{Restore}
+use Rattle.relocate.specs.Plan.{stackSize, planRecord}
+use Rattle.relocate.specs.Relocation.{answer, moved}
 use Rattle.relocate.specs.Statepoint.{locationAt, pairsAt, Pair, pairs, isNull, plusOffset, wholly, slotAt, slotInside}
 use Rattle.stackmap.specs.Section.{asOffset}
 
@@ -26,6 +31,15 @@ recordOf s at = readRecord (isOld s) (drop at s)
 
 abbrev pub poolOf : List ℕ → List ℕ
 poolOf s = readSection s .constants
+
+-- the plan of a frame whose one entry is e
+abbrev pub planEntry : Restore → ℕ → Frame → Entry → Plan
+planEntry R n f e = planRecord R n f (stackSize e) (e .body)
+
+-- an answer, and the image that is left, are those of a move
+pub record Relocates (R : Restore) (im : List ℕ) (f : Frame) (r : Move) (after : List ℕ) : Type 0 where
+  pub answer-is : r ≡ answer R im f
+  pub image-is : after ≡ moved R im f
 
 -- a record stands there: the tables are inside, and all of it is
 pub record Stands (s : List ℕ) (at : ℕ) : Type 0 where
@@ -54,7 +68,7 @@ locationOf a = record { kind = a .kind; size = a .size; register = a .register; 
 unfoldable pub zeroSaid : LocationAnswer → Bool
 zeroSaid a = eqb (a .constant) 0 && (eqb (a .kind) kindConstant || eqb (a .kind) kindConstIndex)
 
--- Slots in the n bytes from RSP, counted from RSP; none for a slot that is not wholly inside.
+-- Slots in the n bytes from the stack pointer, counted from it; none for a slot that is not wholly inside.
 
 abbrev pub spotOf : Spot → Option ℕ
 spotOf (At p) = some p
@@ -63,14 +77,18 @@ spotOf Outside = none
 unfoldable pub slotIn : Frame → ℕ → Location → Option ℕ
 slotIn f n l = cond (slotInside f n l) (some (slotAt f l)) none
 
--- the same by numbers: the register, RSP and the offset's 32 bits
+-- the same by numbers: the register, the stack pointer and the offset's 32 bits
 unfoldable pub positionIn : ℕ → ℕ → ℕ → ℕ → Option ℕ
-positionIn register rsp offset n =
+positionIn register sp offset n =
     let a = plusOffset register (asOffset offset) in
-    cond (wholly rsp n a) (some (orZero a - rsp)) none
+    cond (wholly sp n a) (some (orZero a - sp)) none
 
 unfoldable pub placeIn : ℕ → ℕ → Option ℕ
 placeIn p n = cond (leb (p + pointerSize) n) (some p) none
+
+-- the one pointer of a pair
+unfoldable pub pointerOf : List ℕ → Frame → Pair → Pointer
+pointerOf pool f p = cond (isNull pool p) null (slots (slotAt f (p .base)) (slotAt f (p .derived)))
 
 -- live is 0 exactly at the null pairs, of the first n
 pub record Lives (pool : List ℕ) (r : Record) (live : List ℕ) (n : ℕ) : Type 0 where

@@ -1,8 +1,9 @@
 pub mod Limits
+pub mod Restore
 pub mod Statepoint
 pub mod Plan
-pub mod Code
 pub mod Relocation
+pub mod Code
 pub mod Lists
 pub mod Reorder
 pub mod Consequences

@@ -1,17 +1,19 @@
 -- The numbers of document 01, "Statepoints and relocation", each named once. The limits of the table and of the pairs are those
 -- of the crate below.
 use Prim.Native.Nat.{ℕ}
+use Rattle.relocate.specs.declared.Machine.{Machine}
+use Rattle.relocate.specs.declared.Machine.the-variants.{Amd64}
 
 -- an image's length
 abbrev pub imageMost : ℕ
 imageMost = 1048576
 
--- RBP and RSP, by their DWARF numbers on AMD64
-abbrev pub RBP : ℕ
-RBP = 6
+-- a machine's frame pointer and stack pointer, by their DWARF numbers: on AMD64 RBP and RSP
+abbrev pub framePointer : Machine → ℕ
+framePointer Amd64 = 6
 
-abbrev pub RSP : ℕ
-RSP = 7
+abbrev pub stackPointer : Machine → ℕ
+stackPointer Amd64 = 7
 
 -- location kinds: memory at register + offset, and the offset sign-extended
 abbrev pub kindIndirect : ℕ

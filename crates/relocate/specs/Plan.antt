@@ -1,21 +1,21 @@
 -- What a frame is before any byte of the image is read: a refusal, or its extent in the image with its pointers. The order for
 -- a frame: 1 to 9, 13, 14, 10, 15, 12, 16, 17, then 18, 19, each over all pairs before the next.
 use Prim.Native.Nat.{ℕ, suc, _+_, _-_}
-use mathlib.Core.Bool.{Bool, true, false, not, _&&_}
-use mathlib.Core.List.{List, [], _∷_, map}
+use mathlib.Core.Bool.{Bool, true, false, not, _&&_, _||_}
+use mathlib.Core.List.{List, [], _∷_, map, flatten}
 use lib.ListN.{length}
 use lib.Dec.{eqb, leb}
 use Rattle.stackmap.specs.Layout.{addressMost, stackSizeUnknown}
 use Rattle.stackmap.specs.Verdict.{need}
 use Rattle.stackmap.specs.Section.{Record, Entry, isOld, readSection}
 use Rattle.stackmap.specs.Check.{sectionCheck}
-use Rattle.moves.specs.Limits.{pairsMost}
 use Rattle.moves.specs.Table.{tableRight}
 use Rattle.moves.specs.Plan.{Plan, refuse, window}
 use Rattle.relocate.specs.declared.Frame.{Frame}
 use Rattle.relocate.specs.Limits.{imageMost}
+use Rattle.relocate.specs.Restore.{Restore}
 use Rattle.questions.specs.Questions.{ask, sought}
-use Rattle.relocate.specs.Statepoint.{isStatepoint, Pair, pairs, rightForm, inside, pointerOf}
+use Rattle.relocate.specs.Statepoint.{isStatepoint, Pair, pairs, rightForm, inside, pointersOf}
 
 -- the records that a frame names: those with its address; in version 1 those at its offset, of its function, if that is there
 unfoldable pub recordsOf : List ℕ → Frame → List Entry
@@ -41,32 +41,37 @@ stackSize e = e .owner .function .stackSize
 
 -- 16: stack size unknown, or extent not inside the image of n bytes from `first`
 unfoldable pub extentRight : ℕ → ℕ → ℕ → ℕ → Bool
-extentRight first n rsp size =
-    not (eqb size stackSizeUnknown) && (leb first rsp && leb (rsp + size) (first + n))
+extentRight first n sp size =
+    not (eqb size stackSizeUnknown) && (leb first sp && leb (sp + size) (first + n))
 
--- 18, 19, of the pairs of a frame whose extent is known: `size` bytes of the image, from `off`
-unfoldable pub planPairs : Bool → List ℕ → Frame → ℕ → ℕ → List Pair → Plan
-planPairs old pool f off size ps =
-    every (rightForm old pool) 18 0 ps
-    (every (inside pool f size) 19 0 ps
-    (window off size (map (pointerOf pool f) ps)))
+-- whether 17 is tested before 18, over the pairs: in both versions
+abbrev pub pairsFirst : Bool → Bool
+pairsFirst old = true
 
--- 12, 16, 17, 18, 19, of a frame whose one record is r, of a function with this stack size
-unfoldable pub planRecord : Bool → List ℕ → ℕ → ℕ → Frame → ℕ → Record → Plan
-planRecord old pool first n f size r =
-    need (isStatepoint r) (refuse 12 0)
-    (need (extentRight first n (f .rsp) size) (refuse 16 0)
-    (need (leb (length (pairs r)) pairsMost) (refuse 17 0)
-    (planPairs old pool f (f .rsp - first) size (pairs r))))
+module _ (R : Restore) where
+  -- 17, 18, 17, 19, of the pairs of a frame whose extent is so many bytes: 17 first over the pairs, then over the pointers
+  unfoldable pub planPairs : Frame → ℕ → List Pair → Plan
+  planPairs f size ps =
+      let old = isOld (R .section) in
+      let pool = readSection (R .section) .constants in
+      let pss = map (pointersOf pool f) ps in
+      need (not (pairsFirst old) || leb (length ps) (R .most)) (refuse 17 0)
+      (every (rightForm (f .machine) old pool) 18 0 ps
+      (need (leb (length (flatten pss)) (R .most)) (refuse 17 0)
+      (every (inside pool f size) 19 0 ps
+      (window (f .sp - R .first) size pss))))
 
-abbrev pub planEntry : Bool → List ℕ → ℕ → ℕ → Frame → Entry → Plan
-planEntry old pool first n f e = planRecord old pool first n f (stackSize e) (e .body)
+  -- 12, 16, then 17, 18, 19, of a frame whose one record is r, of a function with this stack size, in an image of n bytes
+  unfoldable pub planRecord : ℕ → Frame → ℕ → Record → Plan
+  planRecord n f size r =
+      need (isStatepoint r) (refuse 12 0)
+      (need (extentRight (R .first) n (f .sp) size) (refuse 16 0)
+      (planPairs f size (pairs r)))
 
--- of a frame in an image of n bytes from `first`
-unfoldable pub plan : List ℕ → List ℕ → List ℕ → ℕ → ℕ → Frame → Plan
-plan s olds news first n f =
-    ask refuse
-    (need (imageRight first n) (refuse 13 0)
-    (need (tableRight olds news) (refuse 14 0)
-    (only (recordsOf s f) (planEntry (isOld s) (readSection s .constants) first n f))))
-    (sectionCheck s)
+  unfoldable pub plan : ℕ → Frame → Plan
+  plan n f =
+      ask refuse
+      (need (imageRight (R .first) n) (refuse 13 0)
+      (need (tableRight (R .olds) (R .news)) (refuse 14 0)
+      (only (recordsOf (R .section) f) (λ e. planRecord n f (stackSize e) (e .body)))))
+      (sectionCheck (R .section))

@@ -13,42 +13,36 @@ use Rattle.moves.specs.Table.{lookUp}
 use Rattle.moves.specs.Pointers.{newContent}
 use Rattle.moves.specs.Plan.{says, leaves}
 use Rattle.relocate.specs.declared.Frame.{Frame}
+use Rattle.relocate.specs.Restore.{Restore}
 use Rattle.relocate.specs.Statepoint.{isStatepoint, Pair, pairs, isNull, isSlot, slotAddress}
 use Rattle.relocate.specs.Plan.{plan, recordsOf, stackSize}
 
--- section, table and first address stay the same throughout
-module _ (s olds news : List ℕ) (first : ℕ) where
+module _ (R : Restore) where
   -- the answer: a refusal's number and place, or 0 and the number of pairs, null ones included
   unfoldable pub answer : List ℕ → Frame → Move
-  answer im f = says (lookUp olds news) im (plan s olds news first (length im) f)
+  answer im f = says (lookUp (R .olds) (R .news)) im (plan R (length im) f)
 
   -- the image that it leaves
   unfoldable pub moved : List ℕ → Frame → List ℕ
-  moved im f = leaves (lookUp olds news) im (plan s olds news first (length im) f)
-
-  -- an answer, and the image that is left, are those of a move
-  pub record Relocates (im : List ℕ) (f : Frame) (r : Move) (after : List ℕ) : Type 0 where
-    pub answer-is : r ≡ answer im f
-    pub image-is : after ≡ moved im f
+  moved im f = leaves (lookUp (R .olds) (R .news)) im (plan R (length im) f)
 
 -- the frame names exactly one record
 abbrev pub OneRecord : List ℕ → Frame → Entry → Type 0
 OneRecord s f e = recordsOf s f ≡ e ∷ []
 
--- Its extent is the bytes from RSP up to, not including, RSP plus its function's stack size, without wrapping.
+-- Its extent is the bytes from the stack pointer up to, not including, the stack pointer plus its function's stack size, without wrapping.
 pub record Extent : Type 0 where
   pub start : ℕ
   pub end : ℕ
 
 -- a frame without exactly one record, or with stack size unknown, has no extent: no byte is in it
 abbrev pub extentBy : ℕ → List Entry → Extent
-extentBy rsp [] = record { start = rsp; end = rsp }
-extentBy rsp (e ∷ []) =
-    record { start = rsp; end = cond (eqb (stackSize e) stackSizeUnknown) rsp (rsp + stackSize e) }
-extentBy rsp (e ∷ e′ ∷ es) = record { start = rsp; end = rsp }
+extentBy sp [] = record { start = sp; end = sp }
+extentBy sp (e ∷ []) = record { start = sp; end = cond (eqb (stackSize e) stackSizeUnknown) sp (sp + stackSize e) }
+extentBy sp (e ∷ e′ ∷ es) = record { start = sp; end = sp }
 
 unfoldable pub extentOf : List ℕ → Frame → Extent
-extentOf s f = extentBy (f .rsp) (recordsOf s f)
+extentOf s f = extentBy (f .sp) (recordsOf s f)
 
 -- the byte at the address a is in it
 pub record InExtent (s : List ℕ) (f : Frame) (a : ℕ) : Type 0 where
@@ -64,11 +58,11 @@ pub record Lists (s : List ℕ) (f : Frame) (b d : ℕ) : Type 0 where
   pub pair : Pair
   pub listed : List·Memᴰ pair (pairs (entry .body))
   pub not-null : isNull (readSection s .constants) pair ≡ false
-  pub base-slot : isSlot (isOld s) (pair .base) ≡ true
-  pub derived-slot : isSlot (isOld s) (pair .derived) ≡ true
+  pub base-slot : isSlot (f .machine) (isOld s) (pair .base) ≡ true
+  pub derived-slot : isSlot (f .machine) (isOld s) (pair .derived) ≡ true
   pub base-at : slotAddress f (pair .base) ≡ some b
   pub derived-at : slotAddress f (pair .derived) ≡ some d
 
 -- the new content of a derived slot at the address d with its base slot at b, by the image's bytes
-abbrev pub newContentAt : List ℕ → List ℕ → ℕ → List ℕ → ℕ → ℕ → ℕ
-newContentAt olds news first im b d = newContent (lookUp olds news) im (b - first) (d - first)
+abbrev pub newContentAt : Restore → List ℕ → ℕ → ℕ → ℕ
+newContentAt R im b d = newContent (lookUp (R .olds) (R .news)) im (b - R .first) (d - R .first)

@@ -9,6 +9,7 @@ use Rattle.wire.specs.Word.{Bytes}
 use Rattle.stackmap.specs.Section.{Location, Record, encodeSection, readSection}
 use Rattle.stackmap.specs.Check.{Accepted}
 use Rattle.relocate.specs.declared.Frame.{Frame}
+use Rattle.relocate.specs.Restore.{Restore}
 use Rattle.relocate.specs.Statepoint.{pairsAt, isStatepoint, Pair, pairs}
 use Rattle.relocate.specs.Relocation.{answer, moved}
 
@@ -39,16 +40,19 @@ pub record OtherOrder (s s′ : List ℕ) : Type 0 where
   pub reordered : EachReordered (readSection s .records) records
   pub encoded : s′ ≡ encodeSection (record { old = readSection s .old; functions = readSection s .functions; constants = readSection s .constants; records = records })
 
+-- the same restore with another section
+abbrev pub withSection : Restore → List ℕ → Restore
+withSection R s = record { section = s; olds = R .olds; news = R .news; first = R .first; most = R .most }
+
 -- s′ is accepted; a move's number, its count and the image it leaves stay the same; only the place of 18 to 21 may differ
-pub record SameMoves (s s′ : List ℕ) : Type 0 where
-  pub accepted : Accepted s′
-  pub number : (olds news : List ℕ) (first : ℕ) (im : List ℕ) (f : Frame) → answer s′ olds news first im f .number ≡ answer s olds news first im f .number
-  pub count : (olds news : List ℕ) (first : ℕ) (im : List ℕ) (f : Frame) → answer s′ olds news first im f .count ≡ answer s olds news first im f .count
-  pub image : (olds news : List ℕ) (first : ℕ) (im : List ℕ) (f : Frame) → moved s′ olds news first im f ≡ moved s olds news first im f
-  pub place : (olds news : List ℕ) (first : ℕ) (im : List ℕ) (f : Frame) → answer s olds news first im f .number < 18
-      → answer s′ olds news first im f .place ≡ answer s olds news first im f .place
+pub record SameMoves (R R′ : Restore) : Type 0 where
+  pub accepted : Accepted (R′ .section)
+  pub number : (im : List ℕ) (f : Frame) → answer R′ im f .number ≡ answer R im f .number
+  pub count : (im : List ℕ) (f : Frame) → answer R′ im f .count ≡ answer R im f .count
+  pub image : (im : List ℕ) (f : Frame) → moved R′ im f ≡ moved R im f
+  pub place : (im : List ℕ) (f : Frame) → answer R im f .number < 18 → answer R′ im f .place ≡ answer R im f .place
 
 -- Demand 3, of the order of pairs: whatever order a statepoint of an accepted section lists its pairs in, a move gives the same
 -- refusal number, the same count and the same image.
 abbrev pub PairOrder : Type 0
-PairOrder = (s s′ : List ℕ) → Bytes s → OtherOrder s s′ → SameMoves s s′
+PairOrder = (R : Restore) (s′ : List ℕ) → Bytes (R .section) → OtherOrder (R .section) s′ → SameMoves R (withSection R s′)

@@ -10,7 +10,8 @@ use Rattle.stackmap.specs.Section.{Location, Record, Offset, up, down, asOffset
 use Rattle.moves.specs.Limits.{pointerSize}
 use Rattle.moves.specs.Pointers.{Pointer, null, slots, orZero}
 use Rattle.relocate.specs.declared.Frame.{Frame}
-use Rattle.relocate.specs.Limits.{RBP, RSP, kindIndirect, kindConstant, headLocations, deoptAt}
+use Rattle.relocate.specs.declared.Machine.{Machine}
+use Rattle.relocate.specs.Limits.{framePointer, stackPointer, kindIndirect, kindConstant, headLocations, deoptAt}
 use Rattle.questions.specs.Questions.{constantOf}
 
 -- what is read past the last location
@@ -73,17 +74,19 @@ unfoldable pub sizeRight : Bool → ℕ → Bool
 sizeRight true n = eqb n pointerSize || eqb n 0
 sizeRight false n = eqb n pointerSize
 
--- kind 3, the right size, and register 6 or 7; `old` is true for version 1
-unfoldable pub isSlot : Bool → Location → Bool
-isSlot old l = eqb (l .kind) kindIndirect && (sizeRight old (l .size) && (eqb (l .register) RBP || eqb (l .register) RSP))
+-- kind 3, the right size, and the machine's frame or stack pointer; `old` is true for version 1
+unfoldable pub isSlot : Machine → Bool → Location → Bool
+isSlot m old l =
+    eqb (l .kind) kindIndirect
+    && (sizeRight old (l .size) && (eqb (l .register) (framePointer m) || eqb (l .register) (stackPointer m)))
 
 -- otherwise both must be slots
-unfoldable pub rightForm : Bool → List ℕ → Pair → Bool
-rightForm old pool p = isNull pool p || (isSlot old (p .base) && isSlot old (p .derived))
+unfoldable pub rightForm : Machine → Bool → List ℕ → Pair → Bool
+rightForm m old pool p = isNull pool p || (isSlot m old (p .base) && isSlot m old (p .derived))
 
--- the register that a slot names
+-- what the register holds that a slot names
 unfoldable pub registerOf : Frame → Location → ℕ
-registerOf f l = cond (eqb (l .register) RBP) (f .rbp) (f .rsp)
+registerOf f l = cond (eqb (l .register) (framePointer (f .machine))) (f .fp) (f .sp)
 
 -- register plus offset, worked out as a whole number without wrapping: there is no address below 0
 abbrev pub plusOffset : ℕ → Offset → Option ℕ
@@ -94,21 +97,21 @@ plusOffset register (down n) = cond (leb n register) (some (register - n)) none
 unfoldable pub slotAddress : Frame → Location → Option ℕ
 slotAddress f l = plusOffset (registerOf f l) (asOffset (l .offset))
 
--- they lie wholly in the n bytes from RSP
+-- they lie wholly in the n bytes from the stack pointer
 abbrev pub wholly : ℕ → ℕ → Option ℕ → Bool
-wholly rsp n none = false
-wholly rsp n (some a) = leb rsp a && leb (a + pointerSize) (rsp + n)
+wholly sp n none = false
+wholly sp n (some a) = leb sp a && leb (a + pointerSize) (sp + n)
 
 unfoldable pub slotInside : Frame → ℕ → Location → Bool
-slotInside f n l = wholly (f .rsp) n (slotAddress f l)
+slotInside f n l = wholly (f .sp) n (slotAddress f l)
 
 unfoldable pub inside : List ℕ → Frame → ℕ → Pair → Bool
 inside pool f n p = isNull pool p || (slotInside f n (p .base) && slotInside f n (p .derived))
 
--- a slot that is inside starts so many bytes after RSP
+-- a slot that is inside starts so many bytes after the stack pointer
 unfoldable pub slotAt : Frame → Location → ℕ
-slotAt f l = orZero (slotAddress f l) - f .rsp
+slotAt f l = orZero (slotAddress f l) - f .sp
 
--- each pair is one pointer: its slots, counted from RSP
-unfoldable pub pointerOf : List ℕ → Frame → Pair → Pointer
-pointerOf pool f p = cond (isNull pool p) null (slots (slotAt f (p .base)) (slotAt f (p .derived)))
+-- each pair is one pointer: its slots, counted from the stack pointer
+unfoldable pub pointersOf : List ℕ → Frame → Pair → List Pointer
+pointersOf pool f p = cond (isNull pool p) (null ∷ []) (slots (slotAt f (p .base)) (slotAt f (p .derived)) ∷ [])

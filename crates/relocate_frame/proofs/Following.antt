@@ -2,7 +2,7 @@
 use Prim.Native.Nat.{ℕ, zero, suc, _+_, _*_, _-_, _≤_, _<_}
 use mathlib.Core.Path.{_≡_, refl, sym, ap, _∙_}
 use mathlib.Core.Bool.{Bool, true, false, not, cond}
-use mathlib.Core.List.{List, [], _∷_, map}
+use mathlib.Core.List.{List, [], _∷_, map, flatten}
 use native.Mathlib.Omega.{arith}
 use native.Mathlib.Nat.{not-suc-le-zero, zero-add}
 use borrow.Author.Tests.{lt-ltb, le-ltb, eqb-false, ne-eqb, not-false}
@@ -12,15 +12,16 @@ use lib.Seq.{ext-getD}
 use Rattle.stackmap.specs.Section.{Record}
 use Rattle.stackmap.proofs.Tests.{and-true}
 use Rattle.moves.specs.Search.{lowestFrom, lowest}
-use Rattle.moves.specs.Pointers.{Pointer, null}
+use Rattle.moves.specs.Pointers.{Pointer, null, slots}
 use Rattle.moves.specs.Plan.{Plan, refuse}
-use Rattle.moves.specs.Arrays.{pointerAt, pointersOf, Within, Filled}
+use Rattle.moves.specs.Arrays.{pointerAt, pointersOf as held, Within, Filled}
 use Rattle.moves.proofs.Searches.{lowest-all}
+use Rattle.moves.proofs.Blocks.{ones, flatten-ones}
 use Rattle.moves_window.proofs.Meets.{pointers-length, pointers-at}
 use Rattle.relocate.specs.declared.Frame.{Frame}
-use Rattle.relocate.specs.Statepoint.{locationAt, pairsAt, Pair, pairs, isNull, slotAt, slotInside, inside, pointerOf}
+use Rattle.relocate.specs.Statepoint.{locationAt, pairsAt, Pair, pairs, isNull, slotAt, slotInside, inside, pointersOf}
 use Rattle.relocate.specs.Plan.{every}
-use Rattle.relocate.specs.Code.{pairNumber, Lives}
+use Rattle.relocate.specs.Code.{pairNumber, pointerOf, Lives}
 use Rattle.relocate.proofs.Pairing.{noPair, pair-at}
 use Rattle.relocate.proofs.Planned.{every-yes, every-no, from-slots}
 
@@ -69,7 +70,23 @@ pub each-passed : (good : Pair → Bool) (r : Record) (count j : ℕ) → j ≡ 
 each-passed good r count j e h p l =
     not-false (good (pairNumber r p)) (lowest-all (λ q. not (good (pairNumber r q))) count (rw e at h) p l)
 
--- The arrays hold the pointers of the pairs.
+-- Each pair is one pointer, and the arrays hold them.
+
+one-pointer : (pool : List ℕ) (f : Frame) (p : Pair) → pointersOf pool f p ≡ pointerOf pool f p ∷ []
+unfolding pointersOf pointerOf
+one-pointer pool f p = go (isNull pool p)
+  where
+    go : (t : Bool)
+        → cond t (null ∷ []) (slots (slotAt f (p .base)) (slotAt f (p .derived)) ∷ []) ≡ cond t null (slots (slotAt f (p .base)) (slotAt f (p .derived))) ∷ []
+    go true = refl
+    go false = refl
+
+one-each : (pool : List ℕ) (f : Frame) (ps : List Pair) → map (pointersOf pool f) ps ≡ ones (map (pointerOf pool f) ps)
+one-each pool f [] = refl
+one-each pool f (p ∷ ps) = rw (one-pointer pool f p, one-each pool f ps)
+
+pub pointers-counted : (pool : List ℕ) (f : Frame) (ps : List Pair) → length (flatten (map (pointersOf pool f) ps)) ≡ length ps
+pointers-counted pool f ps = rw (one-each pool f ps, flatten-ones (map (pointerOf pool f) ps)) (length-map ps (pointerOf pool f))
 
 map-at : (g : Pair → Pointer) (ps : List Pair) (k : ℕ) → k < length ps → getD (map g ps) k null ≡ g (getD ps k noPair)
 map-at g [] k h = absurd (not-suc-le-zero h)
@@ -99,14 +116,17 @@ module _ (pool : List ℕ) (r : Record) (f : Frame) (start n : ℕ) (live bases 
       go true q = rw (lives .at k h, q)
       go false q = rw (lives .at k h, q, base-here k h q, derived-here k h q)
 
-  pub arrays-meet : pointersOf n live bases derived ≡ map (pointerOf pool f) (pairs r)
-  arrays-meet =
+  held-here : held n live bases derived ≡ map (pointerOf pool f) (pairs r)
+  held-here =
       ext-getD null _ _ (pointers-length live bases derived n ∙ c ∙ sym (length-map (pairs r) (pointerOf pool f)))
       (λ k h.
       let l : k < n = omega (arith, pointers-length live bases derived n) in
       pointers-at live bases derived n k l ∙ pointer-here k l
       ∙ ap (pointerOf pool f) (sym (pair-at r k (omega arith)))
       ∙ sym (map-at (pointerOf pool f) (pairs r) k (omega arith)))
+
+  pub arrays-meet : map (pointersOf pool f) (pairs r) ≡ ones (held n live bases derived)
+  arrays-meet = one-each pool f (pairs r) ∙ ap ones (sym held-here)
 
   -- and lie in the window
   module _ (size : ℕ) (insides : (k : ℕ) → k < n → inside pool f size (pairNumber r k) ≡ true) where

@@ -3,7 +3,7 @@ use Prim.Native.Nat.{ℕ, _+_, _-_, _^_, _≤_, _<_}
 use mathlib.Core.Path.{_≡_, refl, _∙_}
 use mathlib.Core.Bool.{Bool, true, false, not, _&&_}
 use mathlib.Core.Option.{Option}
-use mathlib.Core.List.{List, map}
+use mathlib.Core.List.{List, map, flatten}
 use native.Mathlib.Omega.{arith}
 use borrow.Author.Tests.{leb-true, le-leb, lt-leb, eq-eqb, ne-eqb}
 use lib.Dec.{eqb, leb}
@@ -20,15 +20,16 @@ use Rattle.moves.specs.declared.Move.{Move}
 use Rattle.moves.specs.Search.{lowest}
 use Rattle.moves.specs.Table.{tableRight, lookUp}
 use Rattle.moves.specs.Settle.{refusedMove}
-use Rattle.moves.specs.Plan.{Plan, refuse, window, Follows}
-use Rattle.moves.specs.Arrays.{pointersOf}
+use Rattle.moves.specs.Plan.{Plan, refuse, window}
+use Rattle.moves.specs.Code.{Follows}
 use Rattle.relocate.specs.declared.Frame.{Frame}
 use Rattle.relocate.specs.Limits.{imageMost}
-use Rattle.relocate.specs.Statepoint.{isStatepoint, pairs, rightForm, inside, pointerOf}
-use Rattle.relocate.specs.Plan.{recordsOf, only, stackSize, imageRight, extentRight, planPairs, planRecord, planEntry, plan}
-use Rattle.relocate.specs.Relocation.{answer, moved, Relocates}
-use Rattle.relocate.specs.Code.{recordOf, poolOf, pairNumber}
-use Rattle.relocate_frame.proofs.Following.{every-refused, every-passed}
+use Rattle.relocate.specs.Restore.{Restore}
+use Rattle.relocate.specs.Statepoint.{isStatepoint, pairs, rightForm, inside, pointersOf}
+use Rattle.relocate.specs.Plan.{recordsOf, only, stackSize, imageRight, extentRight, planPairs, planRecord, plan}
+use Rattle.relocate.specs.Relocation.{answer, moved}
+use Rattle.relocate.specs.Code.{recordOf, poolOf, planEntry, Relocates, pairNumber}
+use Rattle.relocate_frame.proofs.Following.{every-refused, every-passed, pointers-counted}
 use Rattle.relocate_frame.proofs.Asking.{one-found, body-is, size-is}
 
 -- a refusal follows a plan that is one
@@ -85,85 +86,101 @@ module _ (first n rsp size : ℕ) where
 
 -- 18, 19
 
-module _ (old : Bool) (pool : List ℕ) (f : Frame) (off size : ℕ) (r : Record) (count : ℕ) (c : count ≡ length (pairs r))
-    (wrong : ℕ) (w : wrong ≡ lowest (λ p. not (rightForm old pool (pairNumber r p))) count) where
-  pub pairs-18 : wrong < count → planPairs old pool f off size (pairs r) ≡ refuse 18 wrong
-  unfolding planPairs
-  pairs-18 h = every-refused (rightForm old pool) 18 r _ count wrong c w h
+module _ (R : Restore) (f : Frame) (size : ℕ) (r : Record) (count : ℕ) (c : count ≡ length (pairs r)) (few : count ≤ R .most) where
+  abbrev old : Bool
+  old = isOld (R .section)
 
-  module _ (right : count ≤ wrong) (out : ℕ) (o : out ≡ lowest (λ p. not (inside pool f size (pairNumber r p))) count) where
-    pub pairs-19 : out < count → planPairs old pool f off size (pairs r) ≡ refuse 19 out
-    unfolding planPairs
-    pairs-19 h = every-passed (rightForm old pool) 18 r _ count wrong c w right ∙ every-refused (inside pool f size) 19 r _ count out c o h
+  abbrev pool : List ℕ
+  pool = poolOf (R .section)
 
-    pub pairs-on : count ≤ out → (live bases derived : List ℕ) → pointersOf count live bases derived ≡ map (pointerOf pool f) (pairs r)
-        → planPairs old pool f off size (pairs r) ≡ window off (off + size - off) (pointersOf count live bases derived)
+  few-pairs : leb (length (pairs r)) (R .most) ≡ true
+  few-pairs = le-leb _ _ (rw c at few)
+
+  few-pointers : leb (length (flatten (map (pointersOf pool f) (pairs r)))) (R .most) ≡ true
+  few-pointers = rw (pointers-counted pool f (pairs r)) few-pairs
+
+  module _ (wrong : ℕ) (w : wrong ≡ lowest (λ p. not (rightForm (f .machine) old pool (pairNumber r p))) count) where
+    pub pairs-18 : wrong < count → planPairs R f size (pairs r) ≡ refuse 18 wrong
     unfolding planPairs
-    pairs-on h live bases derived m =
-        let z : off + size - off ≡ size = omega arith in
-        every-passed (rightForm old pool) 18 r _ count wrong c w right ∙ every-passed (inside pool f size) 19 r _ count out c o h ∙ rw (m, z)
+    pairs-18 h = rw few-pairs (every-refused (rightForm (f .machine) old pool) 18 r _ count wrong c w h)
+
+    module _ (right : count ≤ wrong) (out : ℕ) (o : out ≡ lowest (λ p. not (inside pool f size (pairNumber r p))) count) where
+      pub pairs-19 : out < count → planPairs R f size (pairs r) ≡ refuse 19 out
+      unfolding planPairs
+      pairs-19 h =
+          rw (few-pairs, few-pointers)
+          (every-passed (rightForm (f .machine) old pool) 18 r _ count wrong c w right ∙ every-refused (inside pool f size) 19 r _ count out c o h)
+
+      pub pairs-on : count ≤ out → (off : ℕ) → off ≡ f .sp - R .first
+          → planPairs R f size (pairs r) ≡ window off (off + size - off) (map (pointersOf pool f) (pairs r))
+      unfolding planPairs
+      pairs-on h off e =
+          let z : off + size - off ≡ size = omega arith in
+          rw (few-pairs, few-pointers)
+          (every-passed (rightForm (f .machine) old pool) 18 r _ count wrong c w right ∙ every-passed (inside pool f size) 19 r _ count out c o h ∙ rw (z, e))
 
 -- 12, 16, 17
 
-module _ (old : Bool) (pool : List ℕ) (first n : ℕ) (f : Frame) (size : ℕ) (r : Record) where
-  pub record-12 : isStatepoint r ≡ false → planRecord old pool first n f size r ≡ refuse 12 0
+module _ (R : Restore) (n : ℕ) (f : Frame) (size : ℕ) (r : Record) where
+  pub record-12 : isStatepoint r ≡ false → planRecord R n f size r ≡ refuse 12 0
   unfolding planRecord
   record-12 h = rw h
 
   module _ (s : isStatepoint r ≡ true) where
-    pub record-16 : extentRight first n (f .rsp) size ≡ false → planRecord old pool first n f size r ≡ refuse 16 0
+    pub record-16 : extentRight (R .first) n (f .sp) size ≡ false → planRecord R n f size r ≡ refuse 16 0
     unfolding planRecord
     record-16 h = rw (s, h)
 
-    module _ (e : extentRight first n (f .rsp) size ≡ true) (count : ℕ) (c : count ≡ length (pairs r)) where
-      pub record-17 : 256 < count → planRecord old pool first n f size r ≡ refuse 17 0
-      unfolding planRecord
-      record-17 h = rw (s, e, ← c, lt-leb count 256 h)
+    module _ (e : extentRight (R .first) n (f .sp) size ≡ true) (count : ℕ) (c : count ≡ length (pairs r)) where
+      pub record-17 : R .most < count → planRecord R n f size r ≡ refuse 17 0
+      unfolding planRecord planPairs
+      record-17 h = rw (s, e, ← c, lt-leb count (R .most) h)
 
-      pub record-on : count ≤ 256 → planRecord old pool first n f size r ≡ planPairs old pool f (f .rsp - first) size (pairs r)
+      pub record-on : planRecord R n f size r ≡ planPairs R f size (pairs r)
       unfolding planRecord
-      record-on h = let q : leb (length (pairs r)) 256 ≡ true = le-leb (length (pairs r)) 256 (rw c at h) in rw (s, e, q)
+      record-on = rw (s, e)
 
 -- 10, 15
 
-same-record : (s pool : List ℕ) (first n : ℕ) (f : Frame) (size function at : ℕ) (x : Entry) → size ≡ functionNumber s function .stackSize
-    → function ≡ x .owner .number → at ≡ x .first → stackSize x ≡ functionNumber s (x .owner .number) .stackSize → x .body ≡ recordOf s (x .first)
-    → planEntry (isOld s) pool first n f x ≡ planRecord (isOld s) pool first n f size (recordOf s at)
-same-record s pool first n f size function at x q g h i b = rw (q, g, h, i, b)
+module _ (R : Restore) (n : ℕ) (f : Frame) where
+  abbrev s : List ℕ
+  s = R .section
 
-pub entry-plan : (s pool : List ℕ) (first n : ℕ) (f : Frame) (r : Found) (size : ℕ) → Accepted s → Bytes s
-    → r ≡ firstOf (recordsOf s f) → r .number ≡ 0 → r .sharing ≡ 1 → size ≡ functionNumber s (r .function) .stackSize
-    → only (recordsOf s f) (planEntry (isOld s) pool first n f) ≡ planRecord (isOld s) pool first n f size (recordOf s (r .first))
-entry-plan s pool first n f r size k w e z one q =
-    let o = one-found r (planEntry (isOld s) pool first n f) (recordsOf s f) e z one in
-    o .goes-on
-    ∙ same-record s pool first n f size (r .function) (r .first) (o .entry) q (o .function-is) (o .first-is)
-    (size-is s f k w (o .entry) (o .alone)) (body-is s f k w (o .entry) (o .alone))
+  same-record : (size function at : ℕ) (x : Entry) → size ≡ functionNumber s function .stackSize → function ≡ x .owner .number → at ≡ x .first
+      → stackSize x ≡ functionNumber s (x .owner .number) .stackSize → x .body ≡ recordOf s (x .first)
+      → planEntry R n f x ≡ planRecord R n f size (recordOf s at)
+  same-record size function at x q g h i b = rw (q, g, h, i, b)
+
+  pub entry-plan : (r : Found) (size : ℕ) → Accepted s → Bytes s
+      → r ≡ firstOf (recordsOf s f) → r .number ≡ 0 → r .sharing ≡ 1 → size ≡ functionNumber s (r .function) .stackSize
+      → only (recordsOf s f) (planEntry R n f) ≡ planRecord R n f size (recordOf s (r .first))
+  entry-plan r size k w e z one q =
+      let o = one-found r (planEntry R n f) (recordsOf s f) e z one in
+      o .goes-on
+      ∙ same-record size (r .function) (r .first) (o .entry) q (o .function-is) (o .first-is)
+      (size-is s f k w (o .entry) (o .alone)) (body-is s f k w (o .entry) (o .alone))
 
 -- 1 to 9, 13, 14
 
-module _ (s olds news : List ℕ) (first : ℕ) (im : List ℕ) (f : Frame) where
-  pub relocates : (r : Move) (after : List ℕ) → Follows true r after (lookUp olds news) im (plan s olds news first (length im) f)
-      → Relocates s olds news first im f r after
+module _ (R : Restore) (im : List ℕ) (f : Frame) where
+  pub relocates : (r : Move) (after : List ℕ) → Follows true r after (lookUp (R .olds) (R .news)) im (plan R (length im) f) → Relocates R im f r after
   unfolding answer moved
   relocates r after h = record { answer-is = h .answer; image-is = h .left }
 
-  pub plan-section : (r : Found) → r ≡ searched s (f .address) → ofSection r ≡ true
-      → plan s olds news first (length im) f ≡ refuse (r .number) (r .place)
+  pub plan-section : (r : Found) → r ≡ searched (R .section) (f .address) → ofSection r ≡ true → plan R (length im) f ≡ refuse (r .number) (r .place)
   unfolding plan
-  plan-section r e h = section-refused s (f .address) r e refuse _ h
+  plan-section r e h = section-refused (R .section) (f .address) r e refuse _ h
 
-  module _ (k : Accepted s) where
-    pub plan-13 : imageRight first (length im) ≡ false → plan s olds news first (length im) f ≡ refuse 13 0
+  module _ (k : Accepted (R .section)) where
+    pub plan-13 : imageRight (R .first) (length im) ≡ false → plan R (length im) f ≡ refuse 13 0
     unfolding plan ask
     plan-13 h = rw (k, h)
 
-    module _ (i : imageRight first (length im) ≡ true) where
-      pub plan-14 : tableRight olds news ≡ false → plan s olds news first (length im) f ≡ refuse 14 0
+    module _ (i : imageRight (R .first) (length im) ≡ true) where
+      pub plan-14 : tableRight (R .olds) (R .news) ≡ false → plan R (length im) f ≡ refuse 14 0
       unfolding plan ask
       plan-14 h = rw (k, i, h)
 
-      pub plan-on : tableRight olds news ≡ true
-          → plan s olds news first (length im) f ≡ only (recordsOf s f) (planEntry (isOld s) (poolOf s) first (length im) f)
+      pub plan-on : tableRight (R .olds) (R .news) ≡ true → plan R (length im) f ≡ only (recordsOf (R .section) f) (planEntry R (length im) f)
       unfolding plan ask
       plan-on h = rw (k, i, h)

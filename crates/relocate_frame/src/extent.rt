@@ -21,17 +21,17 @@ pub fn image_right(first: u64, length: usize) -> bool
     true
 }
 
-// The test of refusal 16, of an extent of `size` bytes from RSP.
-pub fn extent_right(first: u64, length: usize, rsp: u64, size: u64) -> bool
-    ensures { λ r. ⌜ r ≡ extentRight first length rsp size ⌝ }
+// The test of refusal 16, of an extent of `size` bytes from the stack pointer.
+pub fn extent_right(first: u64, length: usize, sp: u64, size: u64) -> bool
+    ensures { λ r. ⌜ r ≡ extentRight first length sp size ⌝ }
 {
     if size == STACK_SIZE_UNKNOWN {
         return false;
     }
-    if rsp < first {
+    if sp < first {
         return false;
     }
-    let gap = rsp - first;
+    let gap = sp - first;
     if gap > length as u64 {
         return false;
     }

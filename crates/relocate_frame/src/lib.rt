@@ -1,5 +1,6 @@
 // The move of one frame.
-ghost use Rattle.relocate.specs.Relocation.{Relocates};
+ghost use Rattle.relocate.specs.Restore.{restore};
+ghost use Rattle.relocate.specs.Code.{Relocates};
 use moves::Move;
 use moves_table::table;
 use questions_find::find;
@@ -18,7 +19,7 @@ pub fn relocate(
     news: &[u64],
     frame: Frame,
 ) -> Move
-    ensures { λ r. ⌜ Relocates (now (section .entry)) (now (olds .entry)) (now (news .entry)) first (now (image .entry)) frame r (now (image .exit)) ⌝ }
+    ensures { λ r. ⌜ Relocates (restore (now (section .entry)) (now (olds .entry)) (now (news .entry)) first) (now (image .entry)) frame r (now (image .exit)) ⌝ }
 {
     let found = find::records(section, frame.address);
     if find::of_section(found) {

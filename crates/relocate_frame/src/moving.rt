@@ -2,19 +2,19 @@
 // No entry point: each stage requires what the stages before it have tested.
 ghost use mathlib.Core.Path.{_≡_};
 ghost use mathlib.Core.Bool.{true};
-ghost use Prim.Native.Nat.{_+_, _≤_};
+ghost use Prim.Native.Nat.{_≤_};
 ghost use lib.ListN.{length};
-ghost use Rattle.stackmap.specs.Section.{isOld};
 ghost use Rattle.stackmap.specs.Check.{Accepted};
 ghost use Rattle.questions.specs.Questions.{firstOf};
 ghost use Rattle.moves.specs.Limits.{pairsMost};
 ghost use Rattle.moves.specs.Table.{tableRight, lookUp};
 ghost use Rattle.moves.specs.Settle.{refusedMove};
-ghost use Rattle.moves.specs.Plan.{Follows};
+ghost use Rattle.moves.specs.Code.{Follows};
 ghost use Rattle.relocate.specs.Limits.{imageMost};
+ghost use Rattle.relocate.specs.Restore.{restore};
 ghost use Rattle.relocate.specs.Statepoint as spec;
-ghost use Rattle.relocate.specs.Plan.{recordsOf, imageRight, only, planPairs, planRecord, planEntry};
-ghost use Rattle.relocate.specs.Code.{recordOf, poolOf, Stands, Paired};
+ghost use Rattle.relocate.specs.Plan.{recordsOf, imageRight, extentRight, only, planPairs, planRecord};
+ghost use Rattle.relocate.specs.Code.{recordOf, planEntry, Stands, Paired};
 use crate::extent;
 use moves::Move;
 use moves::PAIRS_MOST;
@@ -35,24 +35,26 @@ pub fn refused(number: u8, place: usize) -> Move
     }
 }
 
-// 18, 19, and the move of the window of `size` bytes from `off`. The record at `at` has `count` pairs, from location `start` on.
+// 18, 19, and the move of the window of `size` bytes from the stack pointer. The record at `at` has `count` pairs, from location
+// `start` on.
 fn move_pairs(
     s: &[u8],
     at: usize,
     start: usize,
     count: usize,
     image: &mut [u8],
-    off: usize,
+    first: u64,
     size: usize,
     olds: &[u64],
     news: &[u64],
     frame: Frame,
     write: bool,
 ) -> Move
-    requires { ⌜ Paired (now s) at start count × (count ≤ pairsMost) × (off + size ≤ length (now image)) × (size ≤ imageMost) × (tableRight (now olds) (now news) ≡ true) ⌝ }
-    ensures { λ r. ⌜ Follows write r (now (image .exit)) (lookUp (now (olds .entry)) (now (news .entry))) (now (image .entry)) (planPairs (isOld (now (s .entry))) (poolOf (now (s .entry))) frame off size (spec.pairs (recordOf (now (s .entry)) at))) ⌝ }
+    requires { ⌜ Paired (now s) at start count × (count ≤ pairsMost) × (extentRight first (length (now image)) (frame .sp) size ≡ true) × (size ≤ imageMost) × (tableRight (now olds) (now news) ≡ true) ⌝ }
+    ensures { λ r. ⌜ Follows write r (now (image .exit)) (lookUp (now (olds .entry)) (now (news .entry))) (now (image .entry)) (planPairs (restore (now (s .entry)) (now (olds .entry)) (now (news .entry)) first) frame size (spec.pairs (recordOf (now (s .entry)) at))) ⌝ }
 {
-    let wrong = pairs::wrong_form(s, at, start, count);
+    let machine = frame.machine;
+    let wrong = pairs::wrong_form(machine, s, at, start, count);
     if wrong < count {
         return refused(18, wrong);
     }
@@ -63,6 +65,7 @@ fn move_pairs(
     let live = pairs::live_pairs(s, at, start, count);
     let bases = pairs::slots_of(s, at, start, count, frame, size, &live);
     let derived = pairs::slots_of(s, at, start + 1, count, frame, size, &live);
+    let off = (frame.sp - first) as usize;
     moves_window::move_window(
         image,
         off,
@@ -90,23 +93,22 @@ fn move_record(
     write: bool,
 ) -> Move
     requires { ⌜ Stands (now s) at × (imageRight first (length (now image)) ≡ true) × (tableRight (now olds) (now news) ≡ true) ⌝ }
-    ensures { λ r. ⌜ Follows write r (now (image .exit)) (lookUp (now (olds .entry)) (now (news .entry))) (now (image .entry)) (planRecord (isOld (now (s .entry))) (poolOf (now (s .entry))) first (length (now (image .entry))) frame size (recordOf (now (s .entry)) at)) ⌝ }
+    ensures { λ r. ⌜ Follows write r (now (image .exit)) (lookUp (now (olds .entry)) (now (news .entry))) (now (image .entry)) (planRecord (restore (now (s .entry)) (now (olds .entry)) (now (news .entry)) first) (length (now (image .entry))) frame size (recordOf (now (s .entry)) at)) ⌝ }
 {
     if statepoint::is_statepoint(s, at) {
-        if extent::extent_right(first, image.len(), frame.rsp, size) {
+        if extent::extent_right(first, image.len(), frame.sp, size) {
             let p = statepoint::pairs_of(s, at);
             let count = p.count;
             if count > PAIRS_MOST {
                 return refused(17, 0);
             }
-            let off = (frame.rsp - first) as usize;
             return move_pairs(
                 s,
                 at,
                 p.start,
                 count,
                 image,
-                off,
+                first,
                 size as usize,
                 olds,
                 news,
@@ -131,7 +133,7 @@ pub fn move_found(
     write: bool,
 ) -> Move
     requires { ⌜ Accepted (now s) × (found ≡ firstOf (recordsOf (now s) frame)) × (imageRight first (length (now image)) ≡ true) × (tableRight (now olds) (now news) ≡ true) ⌝ }
-    ensures { λ r. ⌜ Follows write r (now (image .exit)) (lookUp (now (olds .entry)) (now (news .entry))) (now (image .entry)) (only (recordsOf (now (s .entry)) frame) (planEntry (isOld (now (s .entry))) (poolOf (now (s .entry))) first (length (now (image .entry))) frame)) ⌝ }
+    ensures { λ r. ⌜ Follows write r (now (image .exit)) (lookUp (now (olds .entry)) (now (news .entry))) (now (image .entry)) (only (recordsOf (now (s .entry)) frame) (planEntry (restore (now (s .entry)) (now (olds .entry)) (now (news .entry)) first) (length (now (image .entry))) frame)) ⌝ }
 {
     if found.number != 0 {
         return refused(10, 0);

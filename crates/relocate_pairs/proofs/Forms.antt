@@ -15,6 +15,7 @@ use Rattle.questions.specs.Questions.{thisLocation}
 use Rattle.moves.specs.Search.{lowestFrom, lowest}
 use Rattle.moves.proofs.Searches.{low-start, low-end, low-hit, low-step}
 use Rattle.relocate.specs.declared.Frame.{Frame}
+use Rattle.relocate.specs.declared.Machine.{Machine}
 use Rattle.relocate.specs.Statepoint.{pairsAt, Pair, isZero, isNull, isSlot, slotAt, slotInside}
 use Rattle.relocate.specs.Code.{pairFrom, pairNumber, locationOf, zeroSaid, slotIn, Lives}
 
@@ -24,8 +25,8 @@ module _ (a : LocationAnswer) (pool : List ℕ) (l : Location) (e : a ≡ thisLo
   unfolding zeroSaid isZero
   zero-said = ap zeroSaid e
 
-  pub slot-said : {old old′ : Bool} → old ≡ old′ → isSlot old (locationOf a) ≡ isSlot old′ l
-  slot-said h = rw (h, e)
+  pub slot-said : (m : Machine) {old old′ : Bool} → old ≡ old′ → isSlot m old (locationOf a) ≡ isSlot m old′ l
+  slot-said m h = rw (h, e)
 
   pub place-said : (f : Frame) (n : ℕ) → slotIn f n (locationOf a) ≡ slotIn f n l
   place-said f n = ap (λ (x : LocationAnswer). slotIn f n (locationOf x)) e

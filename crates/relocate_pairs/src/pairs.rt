@@ -15,6 +15,7 @@ ghost use Rattle.relocate.specs.Code.{recordOf, poolOf, Stands, pairFrom, pairN
 use crate::reader;
 use moves::PAIRS_MOST;
 use relocate::Frame;
+use relocate::Machine;
 use relocate::Spot;
 use relocate_slots::slots;
 use stackmap_tables::tables;
@@ -31,16 +32,16 @@ fn is_null(s: &[u8], at: usize, j: usize) -> bool
 }
 
 // Whether a pair is null, or both its locations are slots.
-fn right_form(s: &[u8], at: usize, j: usize) -> bool
+fn right_form(machine: Machine, s: &[u8], at: usize, j: usize) -> bool
     requires { ⌜ Stands (now s) at × (j + 1 < numLocations (drop at (now s))) ⌝ }
-    ensures { λ r. ⌜ r ≡ rightForm (isOld (now (s .entry))) (poolOf (now (s .entry))) (pairFrom (recordOf (now (s .entry)) at) j) ⌝ }
+    ensures { λ r. ⌜ r ≡ rightForm machine (isOld (now (s .entry))) (poolOf (now (s .entry))) (pairFrom (recordOf (now (s .entry)) at) j) ⌝ }
 {
     if is_null(s, at, j) {
         return true;
     }
     let old = tables::is_old(s);
-    if slots::is_slot(old, reader::location(s, at, j)) {
-        return slots::is_slot(old, reader::location(s, at, j + 1));
+    if slots::is_slot(machine, old, reader::location(s, at, j)) {
+        return slots::is_slot(machine, old, reader::location(s, at, j + 1));
     }
     false
 }
@@ -71,13 +72,13 @@ fn is_inside(s: &[u8], at: usize, j: usize, frame: Frame, size: usize) -> bool
 }
 
 // The lowest pair of wrong form; `count` if there is none.
-pub fn wrong_form(s: &[u8], at: usize, start: usize, count: usize) -> usize
+pub fn wrong_form(machine: Machine, s: &[u8], at: usize, start: usize, count: usize) -> usize
     requires { ⌜ Paired (now s) at start count ⌝ }
-    ensures { λ r. ⌜ r ≡ lowest (λ p. not (rightForm (isOld (now (s .entry))) (poolOf (now (s .entry))) (pairNumber (recordOf (now (s .entry)) at) p))) count ⌝ }
+    ensures { λ r. ⌜ r ≡ lowest (λ p. not (rightForm machine (isOld (now (s .entry))) (poolOf (now (s .entry))) (pairNumber (recordOf (now (s .entry)) at) p))) count ⌝ }
 {
     let mut p: usize = 0;
     while p < count {
-        if right_form(s, at, start + 2 * p) {
+        if right_form(machine, s, at, start + 2 * p) {
             p += 1;
         } else {
             return p;
@@ -120,7 +121,7 @@ pub fn live_pairs(s: &[u8], at: usize, start: usize, count: usize) -> [u8; PAIRS
     live
 }
 
-// Where the slot of location j starts, counted from RSP, if it is inside.
+// Where the slot of location j starts, counted from the stack pointer, if it is inside.
 fn slot_at(s: &[u8], at: usize, j: usize, frame: Frame, size: usize) -> usize
     requires { ⌜ Stands (now s) at × (j < numLocations (drop at (now s))) × (size ≤ imageMost) × (slotInside frame size (locationAt (recordOf (now s) at) j) ≡ true) ⌝ }
     ensures { λ r. ⌜ r ≡ slotAt frame (locationAt (recordOf (now (s .entry)) at) j) ⌝ }
@@ -131,7 +132,7 @@ fn slot_at(s: &[u8], at: usize, j: usize, frame: Frame, size: usize) -> usize
     }
 }
 
-// The slots of every second location from number j on, counted from RSP, for the pairs that are not null.
+// The slots of every second location from number j on, counted from the stack pointer, for the pairs that are not null.
 pub fn slots_of(
     s: &[u8],
     at: usize,

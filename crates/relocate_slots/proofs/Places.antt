@@ -10,9 +10,20 @@ use lib.Dec.{leb}
 use Rattle.stackmap.specs.Section.{Location}
 use Rattle.moves.specs.Pointers.{orZero}
 use Rattle.relocate.specs.declared.Frame.{Frame}
+use Rattle.relocate.specs.declared.Machine.{Machine}
+use Rattle.relocate.specs.declared.Machine.the-variants.{Amd64}
+use Rattle.relocate.specs.Limits.{framePointer, stackPointer}
 use Rattle.relocate.specs.Statepoint.{registerOf, slotAddress, wholly, slotInside, slotAt}
 use Rattle.stackmap.specs.Section.{asOffset}
 use Rattle.relocate.specs.Code.{slotIn, positionIn, placeIn}
+
+-- a machine's registers
+
+pub frame-number : (m : Machine) → 6 ≡ framePointer m
+frame-number Amd64 = refl
+
+pub stack-number : (m : Machine) → 7 ≡ stackPointer m
+stack-number Amd64 = refl
 
 pub place-past : (p n : ℕ) → n < p + 8 → none ≡ placeIn p n
 unfolding placeIn
@@ -36,7 +47,7 @@ leb-same x y x′ y′ f g = go (leb x y) refl (leb x′ y′) refl
     go true d false e = let l = f (leb-true x y d) in absurd (omega (arith, leb-false x′ y′ e))
     go false d true e = let l = g (leb-true x′ y′ e) in absurd (omega (arith, leb-false x y d))
 
--- by the register r, RSP g, the offset's bits o and the n bytes of the extent
+-- by the register r, the stack pointer g, the offset's bits o and the n bytes of the extent
 module _ (r g o n : ℕ) where
   -- the slot by sums alone
   bySums : ℕ → Option ℕ
@@ -89,14 +100,14 @@ module _ (r g o n : ℕ) where
 
 -- a location's slot, by its register
 module _ (f : Frame) (n : ℕ) (l : Location) where
-  slot-position : positionIn (registerOf f l) (f .rsp) (l .offset) n ≡ slotIn f n l
+  slot-position : positionIn (registerOf f l) (f .sp) (l .offset) n ≡ slotIn f n l
   unfolding slotIn slotInside slotAt slotAddress positionIn
   slot-position = refl
 
-  pub slot-rbp : l .register ≡ 6 → positionIn (f .rbp) (f .rsp) (l .offset) n ≡ slotIn f n l
+  pub slot-frame : l .register ≡ framePointer (f .machine) → positionIn (f .fp) (f .sp) (l .offset) n ≡ slotIn f n l
   unfolding registerOf
-  slot-rbp e = let q : registerOf f l ≡ f .rbp = rw (eq-eqb (l .register) 6 e) in ap (λ (v : ℕ). positionIn v (f .rsp) (l .offset) n) (sym q) ∙ slot-position
+  slot-frame e = let q : registerOf f l ≡ f .fp = rw (eq-eqb (l .register) (framePointer (f .machine)) e) in ap (λ (v : ℕ). positionIn v (f .sp) (l .offset) n) (sym q) ∙ slot-position
 
-  pub slot-rsp : (l .register ≡ 6 → ⊥) → positionIn (f .rsp) (f .rsp) (l .offset) n ≡ slotIn f n l
+  pub slot-stack : (l .register ≡ framePointer (f .machine) → ⊥) → positionIn (f .sp) (f .sp) (l .offset) n ≡ slotIn f n l
   unfolding registerOf
-  slot-rsp e = let q : registerOf f l ≡ f .rsp = rw (ne-eqb (l .register) 6 e) in ap (λ (v : ℕ). positionIn v (f .rsp) (l .offset) n) (sym q) ∙ slot-position
+  slot-stack e = let q : registerOf f l ≡ f .sp = rw (ne-eqb (l .register) (framePointer (f .machine)) e) in ap (λ (v : ℕ). positionIn v (f .sp) (l .offset) n) (sym q) ∙ slot-position

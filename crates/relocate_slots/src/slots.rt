@@ -2,12 +2,13 @@
 // No entry point: it requires an extent inside the image, which 16 has tested.
 ghost use mathlib.Core.Path.{_≡_};
 ghost use Prim.Native.Nat.{_≤_};
-ghost use Rattle.relocate.specs.Limits.{imageMost};
+ghost use Rattle.relocate.specs.Limits.{imageMost, framePointer, stackPointer};
 ghost use Rattle.relocate.specs.Statepoint.{sizeRight, isSlot};
 ghost use Rattle.relocate.specs.Code.{locationOf, zeroSaid, spotOf, slotIn, positionIn, placeIn};
 use moves::POINTER_SIZE;
 use questions::LocationAnswer;
 use relocate::Frame;
+use relocate::Machine;
 use relocate::Spot;
 use stackmap::layout;
 
@@ -50,23 +51,39 @@ fn size_right(old: bool, size: u16) -> bool
     false
 }
 
-// Whether a location is a slot: kind 3, the right size, and register 6 or 7.
-pub fn is_slot(old: bool, l: LocationAnswer) -> bool
-    ensures { λ r. ⌜ r ≡ isSlot old (locationOf l) ⌝ }
+fn frame_pointer(machine: Machine) -> u16
+    ensures { λ r. ⌜ r ≡ framePointer machine ⌝ }
+{
+    match machine {
+        Machine::Amd64 => RBP,
+    }
+}
+
+fn stack_pointer(machine: Machine) -> u16
+    ensures { λ r. ⌜ r ≡ stackPointer machine ⌝ }
+{
+    match machine {
+        Machine::Amd64 => RSP,
+    }
+}
+
+// Whether a location is a slot: kind 3, the right size, and the machine's frame or stack pointer.
+pub fn is_slot(machine: Machine, old: bool, l: LocationAnswer) -> bool
+    ensures { λ r. ⌜ r ≡ isSlot machine old (locationOf l) ⌝ }
 {
     if l.kind != KIND_INDIRECT {
         return false;
     }
     if size_right(old, l.size) {
-        if l.register == RBP {
+        if l.register == frame_pointer(machine) {
             return true;
         }
-        return l.register == RSP;
+        return l.register == stack_pointer(machine);
     }
     false
 }
 
-// A slot that starts p bytes after RSP, in an extent of `size` bytes.
+// A slot that starts p bytes after the stack pointer, in an extent of `size` bytes.
 fn place(p: u64, size: usize) -> Spot
     requires { ⌜ size ≤ imageMost ⌝ }
     ensures { λ r. ⌜ spotOf r ≡ placeIn p size ⌝ }
@@ -82,30 +99,30 @@ fn place(p: u64, size: usize) -> Spot
 }
 
 // A slot at register plus offset, worked out as a whole number without wrapping.
-fn position(register: u64, rsp: u64, offset: u32, size: usize) -> Spot
+fn position(register: u64, sp: u64, offset: u32, size: usize) -> Spot
     requires { ⌜ size ≤ imageMost ⌝ }
-    ensures { λ r. ⌜ spotOf r ≡ positionIn register rsp offset size ⌝ }
+    ensures { λ r. ⌜ spotOf r ≡ positionIn register sp offset size ⌝ }
 {
     if offset < layout::NEGATIVE_FROM {
         let up = offset as u64;
-        if register < rsp {
-            let gap = rsp - register;
+        if register < sp {
+            let gap = sp - register;
             if up < gap {
                 return Spot::Outside;
             }
             return place(up - gap, size);
         }
-        let gap = register - rsp;
+        let gap = register - sp;
         if gap > size as u64 {
             return Spot::Outside;
         }
         return place(gap + up, size);
     }
     let down = EXCESS - offset as u64;
-    if register < rsp {
+    if register < sp {
         return Spot::Outside;
     }
-    let gap = register - rsp;
+    let gap = register - sp;
     if gap < down {
         return Spot::Outside;
     }
@@ -117,8 +134,9 @@ pub fn slot(frame: Frame, size: usize, l: LocationAnswer) -> Spot
     requires { ⌜ size ≤ imageMost ⌝ }
     ensures { λ r. ⌜ spotOf r ≡ slotIn frame size (locationOf l) ⌝ }
 {
-    if l.register == RBP {
-        return position(frame.rbp, frame.rsp, l.offset, size);
+    let machine = frame.machine;
+    if l.register == frame_pointer(machine) {
+        return position(frame.fp, frame.sp, l.offset, size);
     }
-    position(frame.rsp, frame.rsp, l.offset, size)
+    position(frame.sp, frame.sp, l.offset, size)
 }

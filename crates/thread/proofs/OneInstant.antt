@@ -20,6 +20,7 @@ use Rattle.moves.specs.Table.{tableRight}
 use Rattle.moves.specs.Settle.{refusedMove, acceptedMove}
 use Rattle.moves.proofs.Searches.{perm-mem}
 use Rattle.relocate.specs.declared.Frame.{Frame}
+use Rattle.relocate.specs.Restore.{Restore}
 use Rattle.relocate.specs.Plan.{imageRight}
 use Rattle.relocate.specs.Relocation.{answer}
 use Rattle.relocate.specs.Lists.{final, Holds}
@@ -47,35 +48,35 @@ passes-tells m i k h = go (eqb (m .number) 0) refl h
     go true e z = (eqb-true _ _ e, z)
     go false e z = absurd (eqb-false _ _ e z)
 
-module _ (s olds news : List ℕ) (first : ℕ) (im : List ℕ) where
+module _ (R : Restore) (im : List ℕ) where
   abbrev ans : Frame → Move
-  ans f = answer s olds news first im f
+  ans f = answer R im f
 
   -- each of these frames is accepted by itself
   abbrev Each : List Frame → Type 0
   Each fs = (f : Frame) → List·Memᴰ f fs → ans f .number ≡ 0
 
-  pub judged-tells : (i : ℕ) (fs : List Frame) (k : Move) → judged s olds news first im i fs k .number ≡ 0 → Each fs × (k .number ≡ 0)
+  pub judged-tells : (i : ℕ) (fs : List Frame) (k : Move) → judged R im i fs k .number ≡ 0 → Each fs × (k .number ≡ 0)
   unfolding judged
   judged-tells i [] k h = (λ f m. absurd (List·Memᴰ·not-nil m), h)
   judged-tells i (f ∷ fs) k h =
-      let p = passes-tells (ans f) i (judged s olds news first im (suc i) fs k) h in
+      let p = passes-tells (ans f) i (judged R im (suc i) fs k) h in
       let r = judged-tells (suc i) fs k (p .1) in
       (λ g m. ⊎-elim (λ e. rw e (p .0)) (λ n. r .0 g n) (List·Memᴰ·cases-cons m), r .1)
 
-  pub judged-passes : (i : ℕ) (fs : List Frame) (k : Move) → Each fs → judged s olds news first im i fs k ≡ k
+  pub judged-passes : (i : ℕ) (fs : List Frame) (k : Move) → Each fs → judged R im i fs k ≡ k
   unfolding judged passes
   judged-passes i [] k a = refl
   judged-passes i (f ∷ fs) k a =
       rw (eq-eqb _ 0 (a f (List·Memᴰ·head refl))) (judged-passes (suc i) fs k (λ g m. a g (List·Memᴰ·tail m)))
 
   -- the counts of the plain answers, added; and the same sum in any order
-  total-is : (fs : List Frame) → total (map ans fs) ≡ pairsIn s olds news first im fs
+  total-is : (fs : List Frame) → total (map ans fs) ≡ pairsIn R im fs
   unfolding pairsIn
   total-is [] = refl
   total-is (f ∷ fs) = rw (total-is fs)
 
-  pairs-perm : {fs gs : List Frame} → List·Permᴰ fs gs → pairsIn s olds news first im fs ≡ pairsIn s olds news first im gs
+  pairs-perm : {fs gs : List Frame} → List·Permᴰ fs gs → pairsIn R im fs ≡ pairsIn R im gs
   unfolding pairsIn
   pairs-perm List·Permᴰ·nil = refl
   pairs-perm (List·Permᴰ·cons e p) = rw (e, pairs-perm p)
@@ -83,17 +84,17 @@ module _ (s olds news : List ℕ) (first : ℕ) (im : List ℕ) where
   pairs-perm (List·Permᴰ·trans p q) = pairs-perm p ∙ pairs-perm q
 
   module _ (ns : List ℕ) where
-    accepted-tells : threadAnswer s olds news first im ns .number ≡ 0 → Movable s olds news first im ns
+    accepted-tells : threadAnswer R im ns .number ≡ 0 → Movable R im ns
     unfolding threadAnswer
     accepted-tells h =
-        let v = ask-tells (sectionCheck s) _ (section-numbered s) h in
-        let i = need-tells (imageRight first (length im)) 12 _ (v .1) in
-        let t = need-tells (tableRight olds news) 13 _ (i .1) in
+        let v = ask-tells (sectionCheck (R .section)) _ (section-numbered (R .section)) h in
+        let i = need-tells (imageRight (R .first) (length im)) 12 _ (v .1) in
+        let t = need-tells (tableRight (R .olds) (R .news)) 13 _ (i .1) in
         let l = need-tells (listRight ns) 24 _ (t .1) in
         let j = judged-tells 0 (framesOf ns) _ (l .1) in
-        let d = apart-tells s (framesOf ns) _ (j .1) in
+        let d = apart-tells (R .section) (framesOf ns) _ (j .1) in
         record {
-          section-right = v .0 .1 ∙ ap Valid (accepted-length s (v .0 .0) (v .0 .1) .0);
+          section-right = v .0 .1 ∙ ap Valid (accepted-length (R .section) (v .0 .0) (v .0 .1) .0);
           image-right = i .0;
           table-right = t .0;
           list-right = l .0;
@@ -101,21 +102,21 @@ module _ (s olds news : List ℕ) (first : ℕ) (im : List ℕ) where
           disjoint = d .0;
         }
 
-    module _ (m : Movable s olds news first im ns) where
-      movable-answer : threadAnswer s olds news first im ns ≡ acceptedMove (pairsIn s olds news first im (framesOf ns))
+    module _ (m : Movable R im ns) where
+      movable-answer : threadAnswer R im ns ≡ acceptedMove (pairsIn R im (framesOf ns))
       unfolding threadAnswer ask
       movable-answer =
           rw (m .section-right, m .image-right, m .table-right, m .list-right)
-          (judged-passes 0 (framesOf ns) _ (m .each) ∙ apart-passes s (framesOf ns) _ (m .disjoint))
+          (judged-passes 0 (framesOf ns) _ (m .each) ∙ apart-passes (R .section) (framesOf ns) _ (m .disjoint))
 
-      movable-image : threadImage s olds news first im ns ≡ final s olds news first (framesOf ns) im
+      movable-image : threadImage R im ns ≡ final R (framesOf ns) im
       unfolding threadImage
       movable-image = rw movable-answer
 
-      holds : Holds s olds news first im (framesOf ns)
-      holds = demand3 s olds news first im (framesOf ns) (m .disjoint)
+      holds : Holds R im (framesOf ns)
+      holds = demand3 R im (framesOf ns) (m .disjoint)
 
-      by-frames : ByFrames s olds news first im ns
+      by-frames : ByFrames R im ns
       by-frames =
           record {
             image-is = movable-image;
@@ -134,33 +135,33 @@ frame-by-frame = by-frames
 
 pub or-none : OrNone
 unfolding threadImage
-or-none s olds news first im ns h = rw (ne-eqb _ 0 h)
+or-none R im ns h = rw (ne-eqb _ 0 h)
 
 -- movable frames are movable in every order
-movable-perm : (s olds news : List ℕ) (first : ℕ) (im ns ns′ : List ℕ) → Movable s olds news first im ns → listRight ns′ ≡ true
-    → List·Permᴰ (framesOf ns) (framesOf ns′) → Movable s olds news first im ns′
-movable-perm s olds news first im ns ns′ m l p =
+movable-perm : (R : Restore) (im ns ns′ : List ℕ) → Movable R im ns → listRight ns′ ≡ true
+    → List·Permᴰ (framesOf ns) (framesOf ns′) → Movable R im ns′
+movable-perm R im ns ns′ m l p =
     record {
       section-right = m .section-right;
       image-right = m .image-right;
       table-right = m .table-right;
       list-right = l;
       each = λ f q. m .each f (perm-mem (Permᴰ·symm p) q);
-      disjoint = disjoint-perm s p (m .disjoint);
+      disjoint = disjoint-perm (R .section) p (m .disjoint);
     }
 
 pub any-order : AnyOrder
-any-order s olds news first im ns ns′ h l p =
-    let m = accepted-tells s olds news first im ns h in
-    let m′ = movable-perm s olds news first im ns ns′ m l p in
+any-order R im ns ns′ h l p =
+    let m = accepted-tells R im ns h in
+    let m′ = movable-perm R im ns ns′ m l p in
     record {
       same-answer =
-          movable-answer s olds news first im ns m ∙ ap acceptedMove (pairs-perm s olds news first im p)
-          ∙ sym (movable-answer s olds news first im ns′ m′);
+          movable-answer R im ns m ∙ ap acceptedMove (pairs-perm R im p)
+          ∙ sym (movable-answer R im ns′ m′);
       same-image =
-          movable-image s olds news first im ns m
-          ∙ order-free s olds news first im (framesOf ns) (framesOf ns′) p (m .disjoint) .same-image
-          ∙ sym (movable-image s olds news first im ns′ m′);
+          movable-image R im ns m
+          ∙ order-free R im (framesOf ns) (framesOf ns′) p (m .disjoint) .same-image
+          ∙ sym (movable-image R im ns′ m′);
     }
 
 pub one-instant : OneInstant

@@ -11,8 +11,7 @@ use Rattle.moves.proofs.Searches.{or-no}
 use Rattle.relocate.specs.declared.Frame.{Frame}
 use Rattle.relocate.specs.Relocation.{Extent, extentOf, InExtent}
 use Rattle.relocate.specs.Lists.{Disjoint}
-use Rattle.thread.specs.Stretches.{share}
-use Rattle.thread.specs.Thread.{sharesOne, apart}
+use Rattle.thread.specs.Thread.{share, sharesOne, apart}
 use Rattle.thread.proofs.StretchesApart.{share-yes, share-told}
 
 -- the byte x is in the stretch from a up to b

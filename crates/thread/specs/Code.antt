@@ -1,5 +1,5 @@
 -- For the code alone: nothing here has to be believed.
--- What the code's arrays hold while the frames' records are found.
+-- What the code's arrays and values hold.
 use Prim.Native.Nat.{ℕ, _+_, _*_, _^_, _≤_, _<_}
 use mathlib.Core.Path.{_≡_}
 use mathlib.Core.Bool.{Bool, true, false, cond}
@@ -15,13 +15,15 @@ use Rattle.questions.specs.Kept.{noted}
 use Rattle.questions.specs.Questions.{withAddress, notFound, firstOf}
 use Rattle.sorted.specs.Sorted.{Sorted, LowerBound, EntryOf}
 use Rattle.moves.specs.declared.Move.{Move}
+use Rattle.moves.specs.Search.{anyBelow}
 use Rattle.moves.specs.Table.{tableRight}
 use Rattle.moves.specs.Settle.{acceptedMove}
 use Rattle.relocate.specs.declared.Frame.{Frame}
+use Rattle.relocate.specs.Restore.{Restore}
 use Rattle.relocate.specs.Plan.{imageRight, stackSize}
 use Rattle.relocate.specs.Relocation.{moved, OneRecord, extentOf}
 use Rattle.relocate.specs.Lists.{final}
-use Rattle.thread.specs.Thread.{framesMost, frameNumbers, frameAt, apart, judged, pairsIn}
+use Rattle.thread.specs.Thread.{framesMost, frameNumbers, frameAt, share, apart, judged, pairsIn, threadAnswer, threadImage}
 
 -- The addresses of the first n frames, in order; equal ones stand side by side.
 pub record Gathered (ns keys : List ℕ) (n : ℕ) : Type 0 where
@@ -78,31 +80,47 @@ pub record Looked (s ns : List ℕ) (count : ℕ) (keys hits : List ℕ) : Type 
   pub found : Sought s keys count hits
 
 -- All that a frame's move relies on: 13 and 14 have passed too.
-pub record Ready (s olds news : List ℕ) (first long : ℕ) (ns : List ℕ) (count : ℕ) (keys hits : List ℕ) : Type 0 where
-  pub looked : Looked s ns count keys hits
-  pub image-right : imageRight first long ≡ true
-  pub table-right : tableRight olds news ≡ true
+pub record Ready (R : Restore) (long : ℕ) (ns : List ℕ) (count : ℕ) (keys hits : List ℕ) : Type 0 where
+  pub looked : Looked (R .section) ns count keys hits
+  pub image-right : imageRight (R .first) long ≡ true
+  pub table-right : tableRight (R .olds) (R .news) ≡ true
 
 -- a frame whose extent is known, and ends below 2^64
 pub record Sited (s : List ℕ) (f : Frame) : Type 0 where
   pub entry : Entry
   pub one : OneRecord s f entry
   pub known : stackSize entry ≡ stackSizeUnknown → ⊥
-  pub ends : f .rsp + stackSize entry < 2 ^ 64
+  pub ends : f .sp + stackSize entry < 2 ^ 64
 
 -- each of the first `count` frames has one
 pub record EachSited (s ns : List ℕ) (count : ℕ) : Type 0 where
   pub at : (k : ℕ) → k < count → Sited s (frameAt ns k)
 
+-- Stretches of memory, each from its start up to its end, where it no longer is.
+
+-- the stretch from a up to b shares a byte with one of the first n
+unfoldable pub sharesAny : List ℕ → List ℕ → ℕ → ℕ → ℕ → Bool
+sharesAny starts ends n a b = anyBelow (λ i. share a b (getD starts i 0) (getD ends i 0)) n
+
+-- the first n stretches are not empty, stand in order and share no byte
+pub record Apart (starts ends : List ℕ) (n : ℕ) : Type 0 where
+  pub full : (i : ℕ) → i < n → getD starts i 0 < getD ends i 0
+  pub apart : (i j : ℕ) → i < j → j < n → getD ends i 0 ≤ getD starts j 0
+
+-- an answer, and the image that is left, are those of the call
+pub record Threads (R : Restore) (im ns : List ℕ) (r : Move) (after : List ℕ) : Type 0 where
+  pub answer-is : r ≡ threadAnswer R im ns
+  pub image-is : after ≡ threadImage R im ns
+
 -- the image after a frame is moved, or is only judged
-abbrev pub movedIf : Bool → List ℕ → List ℕ → List ℕ → ℕ → List ℕ → Frame → List ℕ
-movedIf true s olds news first im f = moved s olds news first im f
-movedIf false s olds news first im f = im
+abbrev pub movedIf : Bool → Restore → List ℕ → Frame → List ℕ
+movedIf true R im f = moved R im f
+movedIf false R im f = im
 
 -- what is left to do once the list is right: the frames, then 26
-unfoldable pub framesAnswer : List ℕ → List ℕ → List ℕ → ℕ → List ℕ → List Frame → Move
-framesAnswer s olds news first im fs =
-    judged s olds news first im 0 fs (apart 0 [] (map (extentOf s) fs) (acceptedMove (pairsIn s olds news first im fs)))
+unfoldable pub framesAnswer : Restore → List ℕ → List Frame → Move
+framesAnswer R im fs =
+    judged R im 0 fs (apart 0 [] (map (extentOf (R .section)) fs) (acceptedMove (pairsIn R im fs)))
 
-unfoldable pub framesImage : List ℕ → List ℕ → List ℕ → ℕ → List ℕ → List Frame → List ℕ
-framesImage s olds news first im fs = cond (eqb (framesAnswer s olds news first im fs .number) 0) (final s olds news first fs im) im
+unfoldable pub framesImage : Restore → List ℕ → List Frame → List ℕ
+framesImage R im fs = cond (eqb (framesAnswer R im fs .number) 0) (final R fs im) im

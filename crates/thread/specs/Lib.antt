@@ -1,4 +1,3 @@
-pub mod Stretches
 pub mod Thread
 pub mod Code
 pub mod Theorems

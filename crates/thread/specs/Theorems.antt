@@ -9,19 +9,20 @@ use Rattle.moves.specs.declared.Move.{Move}
 use Rattle.moves.specs.Table.{tableRight}
 use Rattle.moves.specs.Settle.{acceptedMove}
 use Rattle.relocate.specs.declared.Frame.{Frame}
+use Rattle.relocate.specs.Restore.{Restore}
 use Rattle.relocate.specs.Plan.{imageRight}
 use Rattle.relocate.specs.Relocation.{answer}
 use Rattle.relocate.specs.Lists.{answers, final, Disjoint, Holds}
 use Rattle.thread.specs.Thread.{listRight, framesOf, threadAnswer, threadImage}
 
 -- every frame is accepted by itself on the starting image, and no two extents share a byte
-pub record Movable (s olds news : List ℕ) (first : ℕ) (im ns : List ℕ) : Type 0 where
-  pub section-right : Accepted s
-  pub image-right : imageRight first (length im) ≡ true
-  pub table-right : tableRight olds news ≡ true
+pub record Movable (R : Restore) (im ns : List ℕ) : Type 0 where
+  pub section-right : Accepted (R .section)
+  pub image-right : imageRight (R .first) (length im) ≡ true
+  pub table-right : tableRight (R .olds) (R .news) ≡ true
   pub list-right : listRight ns ≡ true
-  pub each : (f : Frame) → List·Memᴰ f (framesOf ns) → answer s olds news first im f .number ≡ 0
-  pub disjoint : Disjoint s (framesOf ns)
+  pub each : (f : Frame) → List·Memᴰ f (framesOf ns) → answer R im f .number ≡ 0
+  pub disjoint : Disjoint (R .section) (framesOf ns)
 
 -- the counts of these answers, added
 abbrev pub total : List Move → ℕ
@@ -30,39 +31,33 @@ total (m ∷ ms) = m .count + total ms
 
 -- 1. A call is accepted only if its frames are movable; that it is then, is 2.
 abbrev pub AcceptedOnly : Type 0
-AcceptedOnly =
-    (s olds news : List ℕ) (first : ℕ) (im ns : List ℕ)
-    → threadAnswer s olds news first im ns .number ≡ 0 → Movable s olds news first im ns
+AcceptedOnly = (R : Restore) (im ns : List ℕ) → threadAnswer R im ns .number ≡ 0 → Movable R im ns
 
 -- 2. Then the image equals the one got frame by frame in list order, each of these moves is accepted, and the answer is 0 and the
 -- sum of the pairs.
-pub record ByFrames (s olds news : List ℕ) (first : ℕ) (im ns : List ℕ) : Type 0 where
-  pub image-is : threadImage s olds news first im ns ≡ final s olds news first (framesOf ns) im
-  pub each-accepted : (m : Move) → List·Memᴰ m (answers s olds news first (framesOf ns) im) → m .number ≡ 0
-  pub answer-is : threadAnswer s olds news first im ns ≡ acceptedMove (total (answers s olds news first (framesOf ns) im))
+pub record ByFrames (R : Restore) (im ns : List ℕ) : Type 0 where
+  pub image-is : threadImage R im ns ≡ final R (framesOf ns) im
+  pub each-accepted : (m : Move) → List·Memᴰ m (answers R (framesOf ns) im) → m .number ≡ 0
+  pub answer-is : threadAnswer R im ns ≡ acceptedMove (total (answers R (framesOf ns) im))
   -- and every byte of the image is fixed by the starting image, as demand 3 says
-  pub bytes-are : Holds s olds news first im (framesOf ns)
+  pub bytes-are : Holds R im (framesOf ns)
 
 abbrev pub FrameByFrame : Type 0
-FrameByFrame =
-    (s olds news : List ℕ) (first : ℕ) (im ns : List ℕ) → Movable s olds news first im ns → ByFrames s olds news first im ns
+FrameByFrame = (R : Restore) (im ns : List ℕ) → Movable R im ns → ByFrames R im ns
 
 -- 3. In every other case the image is untouched.
 abbrev pub OrNone : Type 0
-OrNone =
-    (s olds news : List ℕ) (first : ℕ) (im ns : List ℕ)
-    → (threadAnswer s olds news first im ns .number ≡ 0 → ⊥) → threadImage s olds news first im ns ≡ im
+OrNone = (R : Restore) (im ns : List ℕ) → (threadAnswer R im ns .number ≡ 0 → ⊥) → threadImage R im ns ≡ im
 
 -- 4. The order of the frames changes neither answer nor image of an accepted call.
-pub record SameCall (s olds news : List ℕ) (first : ℕ) (im ns ns′ : List ℕ) : Type 0 where
-  pub same-answer : threadAnswer s olds news first im ns ≡ threadAnswer s olds news first im ns′
-  pub same-image : threadImage s olds news first im ns ≡ threadImage s olds news first im ns′
+pub record SameCall (R : Restore) (im ns ns′ : List ℕ) : Type 0 where
+  pub same-answer : threadAnswer R im ns ≡ threadAnswer R im ns′
+  pub same-image : threadImage R im ns ≡ threadImage R im ns′
 
 abbrev pub AnyOrder : Type 0
 AnyOrder =
-    (s olds news : List ℕ) (first : ℕ) (im ns ns′ : List ℕ)
-    → threadAnswer s olds news first im ns .number ≡ 0 → listRight ns′ ≡ true → List·Permᴰ (framesOf ns) (framesOf ns′)
-    → SameCall s olds news first im ns ns′
+    (R : Restore) (im ns ns′ : List ℕ) → threadAnswer R im ns .number ≡ 0 → listRight ns′ ≡ true → List·Permᴰ (framesOf ns) (framesOf ns′)
+    → SameCall R im ns ns′
 
 pub record OneInstant : Type 0 where
   pub accepted-only : AcceptedOnly

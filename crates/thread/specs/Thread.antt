@@ -1,9 +1,8 @@
 -- A whole thread in one call: document 02, requests 1 and 2. All frames of the list move, or none does.
 use Prim.Native.Nat.{ℕ, zero, suc, _+_, _*_, _/_, _%_}
-use mathlib.Core.Path.{_≡_}
 use mathlib.Core.Bool.{Bool, cond, _&&_, _||_, false}
 use mathlib.Core.List.{List, [], _∷_, map}
-use lib.Dec.{eqb, leb}
+use lib.Dec.{eqb, ltb, leb}
 use lib.ListN.{length, getD}
 use Rattle.stackmap.specs.Verdict.{need}
 use Rattle.stackmap.specs.Check.{sectionCheck}
@@ -12,10 +11,11 @@ use Rattle.moves.specs.declared.Move.{Move}
 use Rattle.moves.specs.Table.{tableRight}
 use Rattle.moves.specs.Settle.{refusedMove, acceptedMove}
 use Rattle.relocate.specs.declared.Frame.{Frame}
+use Rattle.relocate.specs.declared.Machine.the-variants.{Amd64}
+use Rattle.relocate.specs.Restore.{Restore}
 use Rattle.relocate.specs.Plan.{imageRight}
 use Rattle.relocate.specs.Relocation.{answer, Extent, extentOf}
 use Rattle.relocate.specs.Lists.{final}
-use Rattle.thread.specs.Stretches.{share}
 
 -- The list: four numbers a frame, address, RBP, RSP and the function number. In version 1 the address is the offset in that function; in
 -- version 3 the function number isn't read.
@@ -34,10 +34,11 @@ listRight ns = eqb (length ns % frameNumbers) 0 && leb (length ns / frameNumbers
 unfoldable pub frameAt : List ℕ → ℕ → Frame
 frameAt ns k =
     record {
+      machine = Amd64;
       address = getD ns (frameNumbers * k) 0;
-      rbp = getD ns (frameNumbers * k + 1) 0;
-      rsp = getD ns (frameNumbers * k + 2) 0;
       function = getD ns (frameNumbers * k + 3) 0;
+      fp = getD ns (frameNumbers * k + 1) 0;
+      sp = getD ns (frameNumbers * k + 2) 0;
     }
 
 -- n frames, from the position k on
@@ -48,12 +49,16 @@ framesFrom ns (suc n) k = frameAt ns k ∷ framesFrom ns n (suc k)
 unfoldable pub framesOf : List ℕ → List Frame
 framesOf ns = framesFrom ns (length ns / frameNumbers) 0
 
+-- the stretches of memory from a up to b and from c up to d share a byte: neither is empty, and each begins before the other ends
+unfoldable pub share : ℕ → ℕ → ℕ → ℕ → Bool
+share a b c d = ltb a b && (ltb c d && (ltb a d && ltb c b))
+
 -- an extent shares a byte with one of these
 abbrev pub sharesOne : Extent → List Extent → Bool
 sharesOne x [] = false
 sharesOne x (y ∷ ys) = share (x .start) (x .end) (y .start) (y .end) || sharesOne x ys
 
--- The call. Section, table, first address and image are those that were lent.
+-- The call. The image is the one that was lent.
 
 -- go on after an accepted frame; the number of a refused one is given with its position
 unfoldable pub passes : Move → ℕ → Move → Move
@@ -66,34 +71,29 @@ apart i earlier (x ∷ xs) k =
     let r = apart (suc i) (x ∷ earlier) xs k in
     cond (sharesOne x earlier) (refusedMove 26 i) r
 
-module _ (s olds news : List ℕ) (first : ℕ) (im : List ℕ) where
+module _ (R : Restore) (im : List ℕ) where
   -- the first refused frame's number with its position; each frame is judged by itself, and the first of these has the position i
   unfoldable pub judged : ℕ → List Frame → Move → Move
   judged i [] k = k
-  judged i (f ∷ fs) k = passes (answer s olds news first im f) i (judged (suc i) fs k)
+  judged i (f ∷ fs) k = passes (answer R im f) i (judged (suc i) fs k)
 
   -- the sum of the pairs, null ones included
   unfoldable pub pairsIn : List Frame → ℕ
   pairsIn [] = 0
-  pairsIn (f ∷ fs) = answer s olds news first im f .count + pairsIn fs
+  pairsIn (f ∷ fs) = answer R im f .count + pairsIn fs
 
   -- 1 to 9, 13, 14, 25, then the frames, then 26
   unfoldable pub threadAnswer : List ℕ → Move
   threadAnswer ns =
       ask refusedMove
-      (need (imageRight first (length im)) (refusedMove 13 0)
-      (need (tableRight olds news) (refusedMove 14 0)
+      (need (imageRight (R .first) (length im)) (refusedMove 13 0)
+      (need (tableRight (R .olds) (R .news)) (refusedMove 14 0)
       (need (listRight ns) (refusedMove 25 0)
       (judged 0 (framesOf ns)
-      (apart 0 [] (map (extentOf s) (framesOf ns))
+      (apart 0 [] (map (extentOf (R .section)) (framesOf ns))
       (acceptedMove (pairsIn (framesOf ns))))))))
-      (sectionCheck s)
+      (sectionCheck (R .section))
 
   -- the image got frame by frame in list order, or the image as lent
   unfoldable pub threadImage : List ℕ → List ℕ
-  threadImage ns = cond (eqb (threadAnswer ns .number) 0) (final s olds news first (framesOf ns) im) im
-
-  -- an answer, and the image that is left, are those of the call
-  pub record Threads (ns : List ℕ) (r : Move) (after : List ℕ) : Type 0 where
-    pub answer-is : r ≡ threadAnswer ns
-    pub image-is : after ≡ threadImage ns
+  threadImage ns = cond (eqb (threadAnswer ns .number) 0) (final R (framesOf ns) im) im

@@ -15,32 +15,32 @@ use Rattle.questions.specs.Questions.{firstOf}
 use Rattle.moves.specs.declared.Move.{Move}
 use Rattle.moves.specs.Settle.{refusedMove}
 use Rattle.relocate.specs.declared.Frame.{Frame}
+use Rattle.relocate.specs.Restore.{Restore}
 use Rattle.relocate.specs.Plan.{recordsOf, imageRight, stackSize}
 use Rattle.relocate.specs.Relocation.{answer, Extent, extentOf}
 use Rattle.stackmap.proofs.Tests.{and-true}
 use Rattle.relocate.proofs.Planned.{planned}
 use Rattle.relocate_frame.proofs.Asking.{functions-inside, owner-number, size-is}
 use Rattle.relocate.proofs.Demand.{accepts}
-use Rattle.thread.specs.Stretches.{share, sharesAny, Apart}
-use Rattle.thread.specs.Thread.{frameAt, framesFrom, sharesOne, apart}
-use Rattle.thread.specs.Code.{Sited}
+use Rattle.thread.specs.Thread.{frameAt, framesFrom, share, sharesOne, apart}
+use Rattle.thread.specs.Code.{sharesAny, Apart, Sited}
 use Rattle.thread.proofs.StretchesApart.{share-empty-2, apart-none, none-shares}
 use Rattle.thread_call.proofs.Judging.{frames-step, frames-end, frames-start}
 
 -- One frame's extent.
 
 -- an accepted frame has one
-pub accepted-sited : (s olds news : List ℕ) (first : ℕ) (im : List ℕ) (f : Frame) → Accepted s → imageRight first (length im) ≡ true
-    → answer s olds news first im f .number ≡ 0 → Sited s f
+pub accepted-sited : (R : Restore) (im : List ℕ) (f : Frame) → Accepted (R .section) → imageRight (R .first) (length im) ≡ true
+    → answer R im f .number ≡ 0 → Sited (R .section) f
 unfolding imageRight
-accepted-sited s olds news first im f k i z =
-    let a = accepts s olds news first (length s) k im f z in
-    let p = planned s olds news first (length im) f (length s) k (a .off) (a .size) (a .pairs) (a .is-window) in
-    let m = leb-true (first + length im) (2 ^ 64 - 1) (and-true (leb (length im) 1048576) (leb (first + length im) (2 ^ 64 - 1)) i .1) in
+accepted-sited R im f k i z =
+    let a = accepts R (length (R .section)) k im f z in
+    let p = planned R (length im) f (length (R .section)) k (a .off) (a .size) (a .pairs) (a .is-window) in
+    let m = leb-true (R .first + length im) (2 ^ 64 - 1) (and-true (leb (length im) 1048576) (leb (R .first + length im) (2 ^ 64 - 1)) i .1) in
     record { entry = p .entry; one = p .one; known = p .known; ends = omega (arith, p .high) }
 
 module _ (s : List ℕ) (f : Frame) (t : Sited s f) where
-  pub extent-is : (extentOf s f .start ≡ f .rsp) × (extentOf s f .end ≡ f .rsp + stackSize (t .entry))
+  pub extent-is : (extentOf s f .start ≡ f .sp) × (extentOf s f .end ≡ f .sp + stackSize (t .entry))
   unfolding extentOf
   extent-is = rw (t .one, ne-eqb _ _ (t .known)) (refl, refl)
 

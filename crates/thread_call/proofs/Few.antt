@@ -1,17 +1,17 @@
--- A frame's answer counts 256 pairs at most, so the sum of a thread's fits.
+-- A frame's answer counts no more than a restore's largest pointer count, so the sum of a thread's fits.
 use Prim.Native.Nat.{ℕ, suc, _≤_}
 use mathlib.Core.Path.{_≡_, refl}
 use mathlib.Core.Bool.{Bool, true, false}
 use mathlib.Core.Option.{Option}
-use mathlib.Core.List.{List, [], _∷_}
+use mathlib.Core.List.{List, [], _∷_, map, flatten}
 use native.Mathlib.Omega.{arith}
 use borrow.Author.Tests.{leb-true}
 use lib.Dec.{leb}
-use lib.ListN.{length, length-map}
+use lib.ListN.{length}
 use Rattle.stackmap.specs.declared.Verdict.{Verdict}
 use Rattle.stackmap.specs.declared.Verdict.the-variants.{Valid, Refused}
 use Rattle.stackmap.specs.Verdict.{need}
-use Rattle.stackmap.specs.Section.{isOld, Record, Entry, readSection}
+use Rattle.stackmap.specs.Section.{Record, Entry, readSection}
 use Rattle.stackmap.specs.Check.{sectionCheck}
 use Rattle.questions.specs.Questions.{ask}
 use Rattle.moves.specs.Table.{tableRight, lookUp}
@@ -19,62 +19,64 @@ use Rattle.moves.specs.Window.{part}
 use Rattle.moves.specs.Plan.{Plan, refuse, window, says}
 use Rattle.moves.proofs.Order.{settled-most}
 use Rattle.relocate.specs.declared.Frame.{Frame}
-use Rattle.relocate.specs.Statepoint.{isStatepoint, Pair, pairs, rightForm, inside, pointerOf}
+use Rattle.relocate.specs.Restore.{Restore}
+use Rattle.relocate.specs.Statepoint.{isStatepoint, Pair, pairs, pointersOf}
 use Rattle.relocate.specs.Plan.{recordsOf, only, every, imageRight, extentRight, stackSize, planPairs, planRecord, plan}
 use Rattle.relocate.specs.Relocation.{answer}
 
--- a plan with so few pointers
-abbrev Few : Plan → Type 0
-Few (refuse n p) = Unit {0}
-Few (window off size ps) = length ps ≤ 256
+module _ (R : Restore) where
+  -- a plan with so few pointers
+  abbrev Few : Plan → Type 0
+  Few (refuse n p) = Unit {0}
+  Few (window off size pss) = length (flatten pss) ≤ R .most
 
-need-few : (b : Bool) (n : ℕ) (k : Plan) → (b ≡ true → Few k) → Few (need b (refuse n 0) k)
-need-few true n k h = h refl
-need-few false n k h = tt
+  need-few : (b : Bool) (n : ℕ) (k : Plan) → (b ≡ true → Few k) → Few (need b (refuse n 0) k)
+  need-few true n k h = h refl
+  need-few false n k h = tt
 
-only-few : (es : List Entry) (k : Entry → Plan) → ((e : Entry) → Few (k e)) → Few (only es k)
-unfolding only
-only-few [] k h = tt
-only-few (e ∷ []) k h = h e
-only-few (e ∷ e′ ∷ es) k h = tt
+  only-few : (es : List Entry) (k : Entry → Plan) → ((e : Entry) → Few (k e)) → Few (only es k)
+  unfolding only
+  only-few [] k h = tt
+  only-few (e ∷ []) k h = h e
+  only-few (e ∷ e′ ∷ es) k h = tt
 
-every-few : (good : Pair → Bool) (n i : ℕ) (ps : List Pair) (k : Plan) → Few k → Few (every good n i ps k)
-unfolding every
-every-few good n i [] k h = h
-every-few good n i (p ∷ ps) k h = go (good p) (every-few good n (suc i) ps k h)
-  where
-    go : (b : Bool) → Few (every good n (suc i) ps k) → Few (elim b [ true ↦ every good n (suc i) ps k | false ↦ refuse n i ])
-    go true r = r
-    go false r = tt
+  every-few : (good : Pair → Bool) (n i : ℕ) (ps : List Pair) (k : Plan) → Few k → Few (every good n i ps k)
+  unfolding every
+  every-few good n i [] k h = h
+  every-few good n i (p ∷ ps) k h = go (good p) (every-few good n (suc i) ps k h)
+    where
+      go : (b : Bool) → Few (every good n (suc i) ps k) → Few (elim b [ true ↦ every good n (suc i) ps k | false ↦ refuse n i ])
+      go true r = r
+      go false r = tt
 
-ask-few : (v : Verdict) (k : Plan) → Few k → Few (ask refuse k v)
-unfolding ask
-ask-few (Valid e) k h = h
-ask-few (Refused n p) k h = tt
+  ask-few : (v : Verdict) (k : Plan) → Few k → Few (ask refuse k v)
+  unfolding ask
+  ask-few (Valid e) k h = h
+  ask-few (Refused n p) k h = tt
 
-pairs-few : (old : Bool) (pool : List ℕ) (f : Frame) (off size : ℕ) (ps : List Pair) → length ps ≤ 256 → Few (planPairs old pool f off size ps)
-unfolding planPairs
-pairs-few old pool f off size ps h =
-    every-few (rightForm old pool) 18 0 ps _
-    (every-few (inside pool f size) 19 0 ps _ (rw (length-map ps (pointerOf pool f)) h))
+  pairs-few : (f : Frame) (size : ℕ) (ps : List Pair) → Few (planPairs R f size ps)
+  unfolding planPairs
+  pairs-few f size ps =
+      let pss = map (pointersOf (readSection (R .section) .constants) f) ps in
+      need-few (leb (length ps) (R .most)) 17 _ (λ a. every-few _ 18 0 ps _
+      (need-few (leb (length (flatten pss)) (R .most)) 17 _ (λ b. every-few _ 19 0 ps _ (leb-true (length (flatten pss)) (R .most) b))))
 
-record-few : (old : Bool) (pool : List ℕ) (first n : ℕ) (f : Frame) (size : ℕ) (r : Record) → Few (planRecord old pool first n f size r)
-unfolding planRecord
-record-few old pool first n f size r =
-    need-few (isStatepoint r) 12 _ (λ a. need-few (extentRight first n (f .rsp) size) 16 _ (λ b. need-few (leb (length (pairs r)) 256) 17 _ (λ c.
-    pairs-few old pool f _ size (pairs r) (leb-true (length (pairs r)) 256 c))))
+  record-few : (n : ℕ) (f : Frame) (size : ℕ) (r : Record) → Few (planRecord R n f size r)
+  unfolding planRecord
+  record-few n f size r =
+      need-few (isStatepoint r) 12 _ (λ a. need-few (extentRight (R .first) n (f .sp) size) 16 _ (λ b. pairs-few f size (pairs r)))
 
-plan-few : (s olds news : List ℕ) (first n : ℕ) (f : Frame) → Few (plan s olds news first n f)
-unfolding plan
-plan-few s olds news first n f =
-    ask-few (sectionCheck s) _
-    (need-few (imageRight first n) 13 _ (λ a. need-few (tableRight olds news) 14 _ (λ b.
-    only-few (recordsOf s f) _ (λ e. record-few (isOld s) (readSection s .constants) first n f (stackSize e) (e .body)))))
+  plan-few : (n : ℕ) (f : Frame) → Few (plan R n f)
+  unfolding plan
+  plan-few n f =
+      ask-few (sectionCheck (R .section)) _
+      (need-few (imageRight (R .first) n) 13 _ (λ a. need-few (tableRight (R .olds) (R .news)) 14 _ (λ b.
+      only-few (recordsOf (R .section) f) _ (λ e. record-few n f (stackSize e) (e .body)))))
 
-says-few : (table : ℕ → Option ℕ) (im : List ℕ) (p : Plan) → Few p → says table im p .count ≤ 256
-says-few table im (refuse n q) h = omega arith
-says-few table im (window off size ps) h = omega (arith, settled-most table ps (part im off size))
+  says-few : (table : ℕ → Option ℕ) (im : List ℕ) (p : Plan) → Few p → says table im p .count ≤ R .most
+  says-few table im (refuse n q) h = omega arith
+  says-few table im (window off size pss) h = omega (arith, settled-most table (flatten pss) (part im off size))
 
-pub answer-few : (s olds news : List ℕ) (first : ℕ) (im : List ℕ) (f : Frame) → answer s olds news first im f .count ≤ 256
-unfolding answer
-answer-few s olds news first im f = says-few (lookUp olds news) im (plan s olds news first (length im) f) (plan-few s olds news first (length im) f)
+  pub answer-few : (im : List ℕ) (f : Frame) → answer R im f .count ≤ R .most
+  unfolding answer
+  answer-few im f = says-few (lookUp (R .olds) (R .news)) im (plan R (length im) f) (plan-few (length im) f)

@@ -6,17 +6,17 @@ use mathlib.Core.List.{List, [], _∷_}
 use native.Mathlib.Omega.{arith}
 use borrow.Author.Tests.{eq-eqb, ne-eqb}
 use lib.ListN.{length}
-use Rattle.stackmap.specs.Section.{isOld}
 use Rattle.stackmap.specs.Check.{Accepted}
 use Rattle.moves.specs.declared.Move.{Move}
 use Rattle.moves.specs.Table.{tableRight, lookUp}
 use Rattle.moves.specs.Settle.{refusedMove, acceptedMove}
-use Rattle.moves.specs.Plan.{Follows}
+use Rattle.moves.specs.Code.{Follows}
 use Rattle.relocate.specs.declared.Frame.{Frame}
-use Rattle.relocate.specs.Plan.{recordsOf, imageRight, only, planEntry}
+use Rattle.relocate.specs.Restore.{Restore}
+use Rattle.relocate.specs.Plan.{recordsOf, imageRight, only}
+use Rattle.relocate.specs.Code.{planEntry}
 use Rattle.relocate.specs.Relocation.{answer, moved}
 use Rattle.relocate.specs.Lists.{final}
-use Rattle.relocate.specs.Code.{poolOf}
 use Rattle.relocate_frame.proofs.Stages.{plan-on}
 use Rattle.thread.specs.Thread.{frameAt, framesFrom, passes, judged, pairsIn}
 use Rattle.thread.specs.Code.{movedIf}
@@ -24,14 +24,14 @@ use Rattle.thread_call.proofs.Few.{answer-few}
 
 -- One frame.
 
-module _ (s olds news : List ℕ) (first : ℕ) (im : List ℕ) (f : Frame) (k : Accepted s) (i : imageRight first (length im) ≡ true)
-    (t : tableRight olds news ≡ true) where
+module _ (R : Restore) (im : List ℕ) (f : Frame) (k : Accepted (R .section)) (i : imageRight (R .first) (length im) ≡ true)
+    (t : tableRight (R .olds) (R .news) ≡ true) where
   pub one-moved : (write : Bool) (r : Move) (after : List ℕ)
-      → Follows write r after (lookUp olds news) im (only (recordsOf s f) (planEntry (isOld s) (poolOf s) first (length im) f))
-      → (r ≡ answer s olds news first im f) × (after ≡ movedIf write s olds news first im f)
+      → Follows write r after (lookUp (R .olds) (R .news)) im (only (recordsOf (R .section) f) (planEntry R (length im) f))
+      → (r ≡ answer R im f) × (after ≡ movedIf write R im f)
   unfolding answer moved
-  one-moved true r after h = rw (plan-on s olds news first im f k i t) (h .answer, h .left)
-  one-moved false r after h = rw (plan-on s olds news first im f k i t) (h .answer, h .left)
+  one-moved true r after h = rw (plan-on R im f k i t) (h .answer, h .left)
+  one-moved false r after h = rw (plan-on R im f k i t) (h .answer, h .left)
 
 -- The list from the position k on.
 
@@ -47,45 +47,45 @@ frames-end ns n k h = let e : n - k ≡ 0 = omega arith in rw e
 pub frames-start : (ns : List ℕ) (n : ℕ) → framesFrom ns (n - 0) 0 ≡ framesFrom ns n 0
 frames-start ns n = let e : n - 0 ≡ n = omega arith in rw e
 
-module _ (s olds news : List ℕ) (first : ℕ) (im : List ℕ) (f : Frame) (m : Move) (e : m ≡ answer s olds news first im f) (fs : List Frame) where
-  judge-one : (k : ℕ) (K : Move) → m .number ≡ 0 → judged s olds news first im k (f ∷ fs) K ≡ judged s olds news first im (k + 1) fs K
+module _ (R : Restore) (im : List ℕ) (f : Frame) (m : Move) (e : m ≡ answer R im f) (fs : List Frame) where
+  judge-one : (k : ℕ) (K : Move) → m .number ≡ 0 → judged R im k (f ∷ fs) K ≡ judged R im (k + 1) fs K
   unfolding judged passes
   judge-one k K z = let g : k + 1 ≡ suc k = omega arith in rw (← e, eq-eqb (m .number) 0 z, g)
 
-  count-one : (sum : ℕ) → sum + pairsIn s olds news first im (f ∷ fs) ≡ sum + m .count + pairsIn s olds news first im fs
+  count-one : (sum : ℕ) → sum + pairsIn R im (f ∷ fs) ≡ sum + m .count + pairsIn R im fs
   unfolding pairsIn
   count-one sum = rw (← e) (omega arith)
 
-module _ (s olds news : List ℕ) (first : ℕ) (im ns : List ℕ) (n : ℕ) (K : Move) where
+module _ (R : Restore) (im ns : List ℕ) (n : ℕ) (K : Move) where
   -- the first k frames are accepted, and have so many pairs
   pub record Judging (k sum : ℕ) : Type 0 where
-    pub same : judged s olds news first im 0 (framesFrom ns n 0) K ≡ judged s olds news first im k (framesFrom ns (n - k) k) K
-    pub added : pairsIn s olds news first im (framesFrom ns n 0) ≡ sum + pairsIn s olds news first im (framesFrom ns (n - k) k)
-    pub few : sum ≤ 256 * k
+    pub same : judged R im 0 (framesFrom ns n 0) K ≡ judged R im k (framesFrom ns (n - k) k) K
+    pub added : pairsIn R im (framesFrom ns n 0) ≡ sum + pairsIn R im (framesFrom ns (n - k) k)
+    pub few : sum ≤ R .most * k
     pub most : k ≤ n
 
   pub judging-start : Judging 0 0
   judging-start = record { same = rw (frames-start ns n); added = rw (frames-start ns n) (omega arith); few = omega arith; most = omega arith }
 
-  module _ {k sum : ℕ} (j : Judging k sum) (l : k < n) (m : Move) (e : m ≡ answer s olds news first im (frameAt ns k)) where
-    pub judging-few : m .count ≤ 256
-    judging-few = rw e (answer-few s olds news first im (frameAt ns k))
+  module _ {k sum : ℕ} (j : Judging k sum) (l : k < n) (m : Move) (e : m ≡ answer R im (frameAt ns k)) where
+    pub judging-few : m .count ≤ R .most
+    judging-few = rw e (answer-few R im (frameAt ns k))
 
     pub judging-on : m .number ≡ 0 → Judging (k + 1) (sum + m .count)
     judging-on z =
         record {
-          same = j .same ∙ rw (frames-step ns n k l) (judge-one s olds news first im (frameAt ns k) m e _ k K z);
-          added = j .added ∙ rw (frames-step ns n k l) (count-one s olds news first im (frameAt ns k) m e _ sum);
+          same = j .same ∙ rw (frames-step ns n k l) (judge-one R im (frameAt ns k) m e _ k K z);
+          added = j .added ∙ rw (frames-step ns n k l) (count-one R im (frameAt ns k) m e _ sum);
           few = omega (arith, j .few, judging-few);
           most = omega arith;
         }
 
-    pub judging-stop : (m .number ≡ 0 → ⊥) → refusedMove (m .number) k ≡ judged s olds news first im 0 (framesFrom ns n 0) K
+    pub judging-stop : (m .number ≡ 0 → ⊥) → refusedMove (m .number) k ≡ judged R im 0 (framesFrom ns n 0) K
     unfolding judged passes
     judging-stop z = sym (j .same ∙ rw (frames-step ns n k l, ← e, ne-eqb (m .number) 0 z))
 
   pub judging-end : {k sum : ℕ} → Judging k sum → n ≤ k
-      → (judged s olds news first im 0 (framesFrom ns n 0) K ≡ K) × (pairsIn s olds news first im (framesFrom ns n 0) ≡ sum)
+      → (judged R im 0 (framesFrom ns n 0) K ≡ K) × (pairsIn R im (framesFrom ns n 0) ≡ sum)
   unfolding judged pairsIn
   judging-end {k} {sum} j l =
       let z : sum + 0 ≡ sum = omega arith in
@@ -93,19 +93,19 @@ module _ (s olds news : List ℕ) (first : ℕ) (im ns : List ℕ) (n : ℕ) (K 
 
 -- The moves.
 
-module _ (s olds news : List ℕ) (first : ℕ) (im ns : List ℕ) (n : ℕ) where
+module _ (R : Restore) (im ns : List ℕ) (n : ℕ) where
   pub record Moving (k : ℕ) (now : List ℕ) : Type 0 where
-    pub same : final s olds news first (framesFrom ns n 0) im ≡ final s olds news first (framesFrom ns (n - k) k) now
+    pub same : final R (framesFrom ns n 0) im ≡ final R (framesFrom ns (n - k) k) now
     pub long : length now ≡ length im
     pub most : k ≤ n
 
   pub moving-start : Moving 0 im
   moving-start = record { same = rw (frames-start ns n); long = refl; most = omega arith }
 
-  pub moving-on : {k : ℕ} {now after : List ℕ} → Moving k now → k < n → after ≡ moved s olds news first now (frameAt ns k) → length after ≡ length now
+  pub moving-on : {k : ℕ} {now after : List ℕ} → Moving k now → k < n → after ≡ moved R now (frameAt ns k) → length after ≡ length now
       → Moving (k + 1) after
   moving-on {k} {now} {after} m l e g =
       record { same = m .same ∙ rw (frames-step ns n k l, e); long = g ∙ m .long; most = omega arith }
 
-  pub moving-end : {k : ℕ} {now : List ℕ} → Moving k now → n ≤ k → now ≡ final s olds news first (framesFrom ns n 0) im
+  pub moving-end : {k : ℕ} {now : List ℕ} → Moving k now → n ≤ k → now ≡ final R (framesFrom ns n 0) im
   moving-end {k} {now} m l = sym (m .same ∙ rw (frames-end ns n k l))

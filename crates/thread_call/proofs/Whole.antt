@@ -19,11 +19,12 @@ use Rattle.moves.specs.declared.Move.{Move}
 use Rattle.moves.specs.Table.{tableRight}
 use Rattle.moves.specs.Settle.{refusedMove, acceptedMove}
 use Rattle.relocate.specs.declared.Frame.{Frame}
+use Rattle.relocate.specs.Restore.{Restore}
 use Rattle.relocate.specs.Plan.{imageRight}
 use Rattle.relocate.specs.Relocation.{answer, extentOf}
 use Rattle.relocate.specs.Lists.{final}
-use Rattle.thread.specs.Thread.{listRight, frameAt, framesFrom, framesOf, passes, apart, judged, pairsIn, threadAnswer, threadImage, Threads}
-use Rattle.thread.specs.Code.{Holding, Counted, EachSited, framesAnswer, framesImage}
+use Rattle.thread.specs.Thread.{listRight, frameAt, framesFrom, framesOf, passes, apart, judged, pairsIn, threadAnswer, threadImage}
+use Rattle.thread.specs.Code.{Holding, Counted, EachSited, Threads, framesAnswer, framesImage}
 use Rattle.thread.proofs.OneInstant.{judged-tells, judged-passes}
 use Rattle.thread_call.proofs.Earlier.{accepted-sited}
 
@@ -37,90 +38,90 @@ frame-in ns (suc n) i k a b = go (frame-in ns n (suc i) k) (ℕ-discrete i k)
     go rest (yes e) = let g : frameAt ns k ≡ frameAt ns i = ap (frameAt ns) (sym e) in List·Memᴰ·head g
     go rest (no d) = List·Memᴰ·tail (rest (omega arith) (omega arith))
 
-module _ (s olds news : List ℕ) (first : ℕ) (im : List ℕ) where
+module _ (R : Restore) (im : List ℕ) where
   -- a refused frame ends the call, whatever would follow
-  judged-ends : (i : ℕ) (fs : List Frame) (k k′ : Move) → k .number ≡ 0 → (judged s olds news first im i fs k .number ≡ 0 → ⊥)
-      → judged s olds news first im i fs k ≡ judged s olds news first im i fs k′
+  judged-ends : (i : ℕ) (fs : List Frame) (k k′ : Move) → k .number ≡ 0 → (judged R im i fs k .number ≡ 0 → ⊥)
+      → judged R im i fs k ≡ judged R im i fs k′
   unfolding judged passes
   judged-ends i [] k k′ z h = absurd (h z)
-  judged-ends i (f ∷ fs) k k′ z h = go (judged-ends (suc i) fs k k′ z) (eqb (answer s olds news first im f .number) 0) refl h
+  judged-ends i (f ∷ fs) k k′ z h = go (judged-ends (suc i) fs k k′ z) (eqb (answer R im f .number) 0) refl h
     where
-      go : ((judged s olds news first im (suc i) fs k .number ≡ 0 → ⊥) → judged s olds news first im (suc i) fs k ≡ judged s olds news first im (suc i) fs k′)
-          → (b : Bool) → eqb (answer s olds news first im f .number) 0 ≡ b
-          → (need b (refusedMove (answer s olds news first im f .number) i) (judged s olds news first im (suc i) fs k) .number ≡ 0 → ⊥)
-          → need b (refusedMove (answer s olds news first im f .number) i) (judged s olds news first im (suc i) fs k)
-          ≡ need b (refusedMove (answer s olds news first im f .number) i) (judged s olds news first im (suc i) fs k′)
+      go : ((judged R im (suc i) fs k .number ≡ 0 → ⊥) → judged R im (suc i) fs k ≡ judged R im (suc i) fs k′)
+          → (b : Bool) → eqb (answer R im f .number) 0 ≡ b
+          → (need b (refusedMove (answer R im f .number) i) (judged R im (suc i) fs k) .number ≡ 0 → ⊥)
+          → need b (refusedMove (answer R im f .number) i) (judged R im (suc i) fs k)
+          ≡ need b (refusedMove (answer R im f .number) i) (judged R im (suc i) fs k′)
       go rest true e g = rest g
       go rest false e g = refl
 
-  module _ (fs : List Frame) (r : Move) (e : r ≡ judged s olds news first im 0 fs (acceptedMove (pairsIn s olds news first im fs))) where
-    pub frames-refused : (r .number ≡ 0 → ⊥) → (r ≡ framesAnswer s olds news first im fs) × (im ≡ framesImage s olds news first im fs)
+  module _ (fs : List Frame) (r : Move) (e : r ≡ judged R im 0 fs (acceptedMove (pairsIn R im fs))) where
+    pub frames-refused : (r .number ≡ 0 → ⊥) → (r ≡ framesAnswer R im fs) × (im ≡ framesImage R im fs)
     unfolding framesAnswer framesImage
     frames-refused h =
-        let a : r ≡ judged s olds news first im 0 fs (apart 0 [] (map (extentOf s) fs) (acceptedMove (pairsIn s olds news first im fs))) =
+        let a : r ≡ judged R im 0 fs (apart 0 [] (map (extentOf (R .section)) fs) (acceptedMove (pairsIn R im fs))) =
         e ∙ judged-ends 0 fs _ _ refl (rw e at h) in
         (a, rw (← a, ne-eqb (r .number) 0 h))
 
     module _ (z : r .number ≡ 0) where
-      each : (f : Frame) → List·Memᴰ f fs → answer s olds news first im f .number ≡ 0
-      each = judged-tells s olds news first im 0 fs _ (rw e at z) .0
+      each : (f : Frame) → List·Memᴰ f fs → answer R im f .number ≡ 0
+      each = judged-tells R im 0 fs _ (rw e at z) .0
 
-      pub r-is : r ≡ acceptedMove (pairsIn s olds news first im fs)
-      r-is = e ∙ judged-passes s olds news first im 0 fs _ each
+      pub r-is : r ≡ acceptedMove (pairsIn R im fs)
+      r-is = e ∙ judged-passes R im 0 fs _ each
 
-      answer-is : framesAnswer s olds news first im fs ≡ apart 0 [] (map (extentOf s) fs) (acceptedMove (pairsIn s olds news first im fs))
+      answer-is : framesAnswer R im fs ≡ apart 0 [] (map (extentOf (R .section)) fs) (acceptedMove (pairsIn R im fs))
       unfolding framesAnswer
-      answer-is = judged-passes s olds news first im 0 fs _ each
+      answer-is = judged-passes R im 0 fs _ each
 
-      module _ (n : ℕ) (p : ℕ) (q : (m : Move) → apart 0 [] (map (extentOf s) fs) m ≡ cond (ltb p n) (refusedMove 26 p) m) where
-        pub frames-26 : p < n → (refusedMove 26 p ≡ framesAnswer s olds news first im fs) × (im ≡ framesImage s olds news first im fs)
+      module _ (n : ℕ) (p : ℕ) (q : (m : Move) → apart 0 [] (map (extentOf (R .section)) fs) m ≡ cond (ltb p n) (refusedMove 26 p) m) where
+        pub frames-26 : p < n → (refusedMove 26 p ≡ framesAnswer R im fs) × (im ≡ framesImage R im fs)
         unfolding framesImage
         frames-26 l =
-            let a : framesAnswer s olds news first im fs ≡ refusedMove 26 p = answer-is ∙ q _ ∙ rw (lt-ltb p n l) in
+            let a : framesAnswer R im fs ≡ refusedMove 26 p = answer-is ∙ q _ ∙ rw (lt-ltb p n l) in
             (sym a, rw a)
 
-        pub frames-moved : n ≤ p → (r ≡ framesAnswer s olds news first im fs) × (final s olds news first fs im ≡ framesImage s olds news first im fs)
+        pub frames-moved : n ≤ p → (r ≡ framesAnswer R im fs) × (final R fs im ≡ framesImage R im fs)
         unfolding framesImage
         frames-moved l =
-            let a : framesAnswer s olds news first im fs ≡ acceptedMove (pairsIn s olds news first im fs) = answer-is ∙ q _ ∙ rw (le-ltb p n l) in
+            let a : framesAnswer R im fs ≡ acceptedMove (pairsIn R im fs) = answer-is ∙ q _ ∙ rw (le-ltb p n l) in
             (r-is ∙ sym a, rw a)
 
-  pub each-sited : Accepted s → imageRight first (length im) ≡ true → (ns : List ℕ) (n : ℕ) (r : Move)
-      → r ≡ judged s olds news first im 0 (framesFrom ns n 0) (acceptedMove (pairsIn s olds news first im (framesFrom ns n 0))) → r .number ≡ 0 → EachSited s ns n
+  pub each-sited : Accepted (R .section) → imageRight (R .first) (length im) ≡ true → (ns : List ℕ) (n : ℕ) (r : Move)
+      → r ≡ judged R im 0 (framesFrom ns n 0) (acceptedMove (pairsIn R im (framesFrom ns n 0))) → r .number ≡ 0 → EachSited (R .section) ns n
   each-sited k i ns n r e z =
-      record { at = λ j l. accepted-sited s olds news first im (frameAt ns j) k i (each (framesFrom ns n 0) r e z _ (frame-in ns n 0 j (omega arith) (omega arith))) }
+      record { at = λ j l. accepted-sited R im (frameAt ns j) k i (each (framesFrom ns n 0) r e z _ (frame-in ns n 0 j (omega arith) (omega arith))) }
 
   -- The stages before the frames.
 
   module _ (ns : List ℕ) where
-    refused-threads : (n p : ℕ) → (n ≡ 0 → ⊥) → threadAnswer s olds news first im ns ≡ refusedMove n p → Threads s olds news first im ns (refusedMove n p) im
+    refused-threads : (n p : ℕ) → (n ≡ 0 → ⊥) → threadAnswer R im ns ≡ refusedMove n p → Threads R im ns (refusedMove n p) im
     unfolding threadImage
     refused-threads n p h e = record { answer-is = sym e; image-is = rw (e, ne-eqb n 0 h) }
 
-    pub thread-section : (n p : ℕ) → sectionCheck s ≡ Refused n p → Threads s olds news first im ns (refusedMove n p) im
+    pub thread-section : (n p : ℕ) → sectionCheck (R .section) ≡ Refused n p → Threads R im ns (refusedMove n p) im
     unfolding threadAnswer ask
     thread-section n p h =
-        let a = (rw h at (section-numbered s)) .above in
+        let a = (rw h at (section-numbered (R .section))) .above in
         refused-threads n p (λ z. omega arith) (rw h)
 
-    module _ (k : Accepted s) where
-      pub thread-13 : imageRight first (length im) ≡ false → Threads s olds news first im ns (refusedMove 13 0) im
+    module _ (k : Accepted (R .section)) where
+      pub thread-13 : imageRight (R .first) (length im) ≡ false → Threads R im ns (refusedMove 13 0) im
       unfolding threadAnswer ask
       thread-13 h = refused-threads 13 0 (λ z. omega arith) (rw (k, h))
 
-      module _ (i : imageRight first (length im) ≡ true) where
-        pub thread-14 : tableRight olds news ≡ false → Threads s olds news first im ns (refusedMove 14 0) im
+      module _ (i : imageRight (R .first) (length im) ≡ true) where
+        pub thread-14 : tableRight (R .olds) (R .news) ≡ false → Threads R im ns (refusedMove 14 0) im
         unfolding threadAnswer ask
         thread-14 h = refused-threads 14 0 (λ z. omega arith) (rw (k, i, h))
 
-        module _ (t : tableRight olds news ≡ true) where
-          pub thread-25 : listRight ns ≡ false → Threads s olds news first im ns (refusedMove 25 0) im
+        module _ (t : tableRight (R .olds) (R .news) ≡ true) where
+          pub thread-25 : listRight ns ≡ false → Threads R im ns (refusedMove 25 0) im
           unfolding threadAnswer ask
           thread-25 h = refused-threads 25 0 (λ z. omega arith) (rw (k, i, t, h))
 
           pub thread-frames : (n : ℕ) (r : Move) (after : List ℕ) → listRight ns ≡ true → n ≡ length ns / 4
-              → (r ≡ framesAnswer s olds news first im (framesFrom ns n 0)) × (after ≡ framesImage s olds news first im (framesFrom ns n 0))
-              → Threads s olds news first im ns r after
+              → (r ≡ framesAnswer R im (framesFrom ns n 0)) × (after ≡ framesImage R im (framesFrom ns n 0))
+              → Threads R im ns r after
           unfolding threadAnswer threadImage framesAnswer framesImage framesOf ask
           thread-frames n r after h e q =
               record { answer-is = q .0 ∙ rw (k, i, t, h, ← e); image-is = q .1 ∙ rw (k, i, t, h, ← e) }

@@ -40,8 +40,8 @@ fn extent(
     let found = search::of_frame(s, keys, count, hits, frame);
     let size = tables::stack_size(s, found.function);
     Stretch {
-        start: frame.rsp,
-        end: frame.rsp + size,
+        start: frame.sp,
+        end: frame.sp + size,
     }
 }
 

@@ -4,6 +4,7 @@ ghost use mathlib.Core.Path.{_≡_};
 ghost use Prim.Native.Nat.{_<_};
 ghost use lib.ListN.{length};
 ghost use Rattle.moves.specs.Settle.{acceptedMove};
+ghost use Rattle.relocate.specs.Restore.{restore};
 ghost use Rattle.relocate.specs.Relocation.{answer};
 ghost use Rattle.relocate.specs.Lists.{final};
 ghost use Rattle.thread.specs.Thread.{frameAt, framesFrom, judged, pairsIn};
@@ -29,9 +30,9 @@ fn one(
     k: usize,
     write: bool,
 ) -> Move
-    requires { ⌜ Ready (now s) (now olds) (now news) first (length (now image)) (now frames) count (now keys) (now hits) × (k < count) ⌝ }
-    ensures { λ r. ⌜ (r ≡ answer (now (s .entry)) (now (olds .entry)) (now (news .entry)) first (now (image .entry)) (frameAt (now (frames .entry)) k))
-        × (now (image .exit) ≡ movedIf write (now (s .entry)) (now (olds .entry)) (now (news .entry)) first (now (image .entry)) (frameAt (now (frames .entry)) k)) ⌝ }
+    requires { ⌜ Ready (restore (now s) (now olds) (now news) first) (length (now image)) (now frames) count (now keys) (now hits) × (k < count) ⌝ }
+    ensures { λ r. ⌜ (r ≡ answer (restore (now (s .entry)) (now (olds .entry)) (now (news .entry)) first) (now (image .entry)) (frameAt (now (frames .entry)) k))
+        × (now (image .exit) ≡ movedIf write (restore (now (s .entry)) (now (olds .entry)) (now (news .entry)) first) (now (image .entry)) (frameAt (now (frames .entry)) k)) ⌝ }
 {
     let frame = list::frame_at(frames, k);
     let found = search::of_frame(s, keys, count, hits, frame);
@@ -50,8 +51,8 @@ pub fn judge(
     keys: &[u64; FRAMES_MOST],
     hits: &[usize; HITS_LENGTH],
 ) -> Move
-    requires { ⌜ Ready (now s) (now olds) (now news) first (length (now image)) (now frames) count (now keys) (now hits) ⌝ }
-    ensures { λ r. ⌜ (r ≡ judged (now (s .entry)) (now (olds .entry)) (now (news .entry)) first (now (image .entry)) 0 (framesFrom (now (frames .entry)) count 0) (acceptedMove (pairsIn (now (s .entry)) (now (olds .entry)) (now (news .entry)) first (now (image .entry)) (framesFrom (now (frames .entry)) count 0))))
+    requires { ⌜ Ready (restore (now s) (now olds) (now news) first) (length (now image)) (now frames) count (now keys) (now hits) ⌝ }
+    ensures { λ r. ⌜ (r ≡ judged (restore (now (s .entry)) (now (olds .entry)) (now (news .entry)) first) (now (image .entry)) 0 (framesFrom (now (frames .entry)) count 0) (acceptedMove (pairsIn (restore (now (s .entry)) (now (olds .entry)) (now (news .entry)) first) (now (image .entry)) (framesFrom (now (frames .entry)) count 0))))
         × (now (image .exit) ≡ now (image .entry)) ⌝ }
 {
     let mut sum: usize = 0;
@@ -95,8 +96,8 @@ pub fn move_all(
     keys: &[u64; FRAMES_MOST],
     hits: &[usize; HITS_LENGTH],
 )
-    requires { ⌜ Ready (now s) (now olds) (now news) first (length (now image)) (now frames) count (now keys) (now hits) ⌝ }
-    ensures { λ r. ⌜ now (image .exit) ≡ final (now (s .entry)) (now (olds .entry)) (now (news .entry)) first (framesFrom (now (frames .entry)) count 0) (now (image .entry)) ⌝ }
+    requires { ⌜ Ready (restore (now s) (now olds) (now news) first) (length (now image)) (now frames) count (now keys) (now hits) ⌝ }
+    ensures { λ r. ⌜ now (image .exit) ≡ final (restore (now (s .entry)) (now (olds .entry)) (now (news .entry)) first) (framesFrom (now (frames .entry)) count 0) (now (image .entry)) ⌝ }
 {
     let mut next: usize = 0;
     while next < count {

@@ -3,8 +3,9 @@ ghost use mathlib.Core.Path.{_≡_};
 ghost use mathlib.Core.Bool.{true};
 ghost use Prim.Native.Nat.{_/_};
 ghost use lib.ListN.{length};
-ghost use Rattle.thread.specs.Thread.{frameNumbers, listRight, framesFrom, Threads};
-ghost use Rattle.thread.specs.Code.{Looked, Ready, framesAnswer, framesImage};
+ghost use Rattle.relocate.specs.Restore.{restore};
+ghost use Rattle.thread.specs.Thread.{frameNumbers, listRight, framesFrom};
+ghost use Rattle.thread.specs.Code.{Looked, Ready, Threads, framesAnswer, framesImage};
 use moves::Move;
 use moves_table::table;
 use relocate_frame::extent;
@@ -31,9 +32,9 @@ fn move_frames(
     keys: &[u64; FRAMES_MOST],
     hits: &[usize; search::HITS_LENGTH],
 ) -> Move
-    requires { ⌜ Ready (now s) (now olds) (now news) first (length (now image)) (now list) count (now keys) (now hits) ⌝ }
-    ensures { λ r. ⌜ (r ≡ framesAnswer (now (s .entry)) (now (olds .entry)) (now (news .entry)) first (now (image .entry)) (framesFrom (now (list .entry)) count 0))
-        × (now (image .exit) ≡ framesImage (now (s .entry)) (now (olds .entry)) (now (news .entry)) first (now (image .entry)) (framesFrom (now (list .entry)) count 0)) ⌝ }
+    requires { ⌜ Ready (restore (now s) (now olds) (now news) first) (length (now image)) (now list) count (now keys) (now hits) ⌝ }
+    ensures { λ r. ⌜ (r ≡ framesAnswer (restore (now (s .entry)) (now (olds .entry)) (now (news .entry)) first) (now (image .entry)) (framesFrom (now (list .entry)) count 0))
+        × (now (image .exit) ≡ framesImage (restore (now (s .entry)) (now (olds .entry)) (now (news .entry)) first) (now (image .entry)) (framesFrom (now (list .entry)) count 0)) ⌝ }
 {
     let judged = frames::judge(s, image, first, olds, news, list, count, keys, hits);
     if judged.number != 0 {
@@ -60,7 +61,7 @@ fn of_section(
     hits: &[usize; search::HITS_LENGTH],
 ) -> Move
     requires { ⌜ Looked (now s) (now list) count (now keys) (now hits) × (listRight (now list) ≡ true → count ≡ length (now list) / frameNumbers) ⌝ }
-    ensures { λ r. ⌜ Threads (now (s .entry)) (now (olds .entry)) (now (news .entry)) first (now (image .entry)) (now (list .entry)) r (now (image .exit)) ⌝ }
+    ensures { λ r. ⌜ Threads (restore (now (s .entry)) (now (olds .entry)) (now (news .entry)) first) (now (image .entry)) (now (list .entry)) r (now (image .exit)) ⌝ }
 {
     if extent::image_right(first, image.len()) {
         if table::table_right(olds, news) {
@@ -84,7 +85,7 @@ pub fn relocate_thread(
     news: &[u64],
     list: &[u64],
 ) -> Move
-    ensures { λ r. ⌜ Threads (now (section .entry)) (now (olds .entry)) (now (news .entry)) first (now (image .entry)) (now (list .entry)) r (now (image .exit)) ⌝ }
+    ensures { λ r. ⌜ Threads (restore (now (section .entry)) (now (olds .entry)) (now (news .entry)) first) (now (image .entry)) (now (list .entry)) r (now (image .exit)) ⌝ }
 {
     let count = list::count(list);
     let mut keys = [0u64; FRAMES_MOST];

@@ -6,6 +6,7 @@ ghost use Prim.Native.Nat.{_+_, _*_, _/_, _≤_};
 ghost use lib.ListN.{length};
 ghost use Rattle.thread.specs.Thread.{framesMost, frameNumbers, listRight, frameAt};
 use relocate::Frame;
+use relocate::Machine;
 use thread::FRAME_NUMBERS;
 use thread::FRAMES_MOST;
 
@@ -40,8 +41,9 @@ pub fn frame_at(frames: &[u64], k: usize) -> Frame
     let p = FRAME_NUMBERS * k;
     Frame {
         address: frames[p],
-        rbp: frames[p + 1],
-        rsp: frames[p + 2],
+        fp: frames[p + 1],
+        sp: frames[p + 2],
         function: frames[p + 3],
+        machine: Machine::Amd64,
     }
 }

@@ -3,6 +3,7 @@ ghost use mathlib.Core.Path.{_≡_};
 ghost use Rattle.stackmap.specs.Check.{sectionCheck};
 ghost use Rattle.questions.specs.Questions.{byAddress, byFunction, recordPlace, locationAnswer, liveOutAnswer};
 ghost use Rattle.listing.specs.Listing.{toListing, toSection};
+ghost use Rattle.relocate.specs.Restore.{restore};
 ghost use Rattle.relocate.specs.Relocation;
 ghost use Rattle.thread.specs.Thread.{threadAnswer, threadImage};
 ghost use Rattle.treskibben_answers.specs.Answer.{answer, converted, moveAnswer, frameOf, foundAt, standsAt, locationOf, liveOutOf};
@@ -117,7 +118,7 @@ pub extern "C" fn treskibben_relocate(
     news: &[u64],
     frame: answers::Frame,
 ) -> answers::Answer
-    ensures { λ r. ⌜ (r ≡ moveAnswer (Relocation.answer (now (section .entry)) (now (olds .entry)) (now (news .entry)) first (now (image .entry)) (frameOf frame))) × (now (image .exit) ≡ Relocation.moved (now (section .entry)) (now (olds .entry)) (now (news .entry)) first (now (image .entry)) (frameOf frame)) ⌝ }
+    ensures { λ r. ⌜ (r ≡ moveAnswer (Relocation.answer (restore (now (section .entry)) (now (olds .entry)) (now (news .entry)) first) (now (image .entry)) (frameOf frame))) × (now (image .exit) ≡ Relocation.moved (restore (now (section .entry)) (now (olds .entry)) (now (news .entry)) first) (now (image .entry)) (frameOf frame)) ⌝ }
 {
     answers::move_answer(relocate_frame::relocate(
         section,
@@ -140,7 +141,7 @@ pub extern "C" fn treskibben_thread(
     news: &[u64],
     frames: &[u64],
 ) -> answers::Answer
-    ensures { λ r. ⌜ (r ≡ moveAnswer (threadAnswer (now (section .entry)) (now (olds .entry)) (now (news .entry)) first (now (image .entry)) (now (frames .entry)))) × (now (image .exit) ≡ threadImage (now (section .entry)) (now (olds .entry)) (now (news .entry)) first (now (image .entry)) (now (frames .entry))) ⌝ }
+    ensures { λ r. ⌜ (r ≡ moveAnswer (threadAnswer (restore (now (section .entry)) (now (olds .entry)) (now (news .entry)) first) (now (image .entry)) (now (frames .entry)))) × (now (image .exit) ≡ threadImage (restore (now (section .entry)) (now (olds .entry)) (now (news .entry)) first) (now (image .entry)) (now (frames .entry))) ⌝ }
 {
     answers::move_answer(thread_call::relocate_thread(section, image, first, olds, news, frames))
 }

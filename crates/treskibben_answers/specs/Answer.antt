@@ -8,6 +8,7 @@ use Rattle.questions.specs.declared.LiveOutAnswer.{LiveOutAnswer}
 use Rattle.listing.specs.Listing.{Converted}
 use Rattle.moves.specs.declared.Move.{Move}
 use Rattle.relocate.specs.declared.Frame.{Frame}
+use Rattle.relocate.specs.declared.Machine.the-variants.{Amd64}
 use Rattle.treskibben_answers.specs.declared.Frame
 use Rattle.treskibben_answers.specs.declared.Answer.{Answer}
 use Rattle.treskibben_answers.specs.declared.Found
@@ -28,7 +29,7 @@ abbrev pub moveAnswer : Move → Answer
 moveAnswer m = record { number = m .number; place = m .place; value = m .count }
 
 abbrev pub frameOf : Frame.Frame → Frame
-frameOf f = record { address = f .address; rbp = f .rbp; rsp = f .rsp; function = f .function }
+frameOf f = record { machine = Amd64; address = f .address; function = f .function; fp = f .rbp; sp = f .rsp }
 
 -- The answers of the questions, field by field.
 

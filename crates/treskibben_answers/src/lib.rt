@@ -151,10 +151,11 @@ pub fn frame_of(f: Frame) -> relocate::Frame
     ensures { λ r. ⌜ r ≡ frameOf f ⌝ }
 {
     relocate::Frame {
+        machine: relocate::Machine::Amd64,
         address: f.address,
-        rbp: f.rbp,
-        rsp: f.rsp,
         function: f.function,
+        fp: f.rbp,
+        sp: f.rsp,
     }
 }
 

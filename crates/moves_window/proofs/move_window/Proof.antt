@@ -1,8 +1,8 @@
 use Prim.Native.Nat.{_-_}
-use mathlib.Core.Path.{_≡_, sym, _∙_}
+use mathlib.Core.Path.{_≡_, sym}
 use native.Mathlib.Omega.{arith}
 use lib.ListN.{length, take, drop}
-use Rattle.moves.proofs.Splice.{part-length, splice-mid, splice-if}
+use Rattle.moves.proofs.Splice.{part-length, splice-mid}
 use Rattle.moves_window.proofs.Meets.{within-more}
 use borrow.Author.Needs.{needs}
 use Rattle.moves_window.proofs.move_window.Statement.{statement}
@@ -31,7 +31,7 @@ returns : tie.Need-returns
 returns c =
     let s = c .before .before .before .before .before .before .before in
     let o = c .before .before .settle-pairs .ensures in
-    record { answer = o .answer; left = splice-mid (s .args .image .now) (s .args .off) (s .args .end - s .args .off) _ _ (o .left) ∙ splice-if (s .args .write) _ (s .args .image .now) (s .args .off) (s .args .end - s .args .off) _ }
+    record { answer = o .answer; left = splice-mid (s .args .image .now) (s .args .off) (s .args .end - s .args .off) _ _ (o .left) }
 
 pub move-window-spec : {M : Type 1} → statement M
 move-window-spec =

@@ -21,8 +21,8 @@ returns : tie.Need-returns
 returns c =
     let t = c .before .before .before .relocate .ensures in
     let f = c .before .before .before .before .frame-of .ensures in (
-      c .move-answer .ensures ∙ ap moveAnswer (t .answer-is ∙ ap (Relocation.answer _ _ _ _ _) f),
-      t .image-is ∙ ap (Relocation.moved _ _ _ _ _) f,
+      c .move-answer .ensures ∙ ap moveAnswer (t .answer-is ∙ ap (Relocation.answer _ _) f),
+      t .image-is ∙ ap (Relocation.moved _ _) f,
     )
 
 pub treskibben-relocate-spec : {M : Type 1} → statement M

@@ -1,9 +1,9 @@
 use native.Mathlib.Omega.{arith}
 use lib.ListN.{length}
 use Rattle.wire.specs.Word.{Bytes}
-use Rattle.stackmap.specs.Section.{isOld}
-use Rattle.relocate.specs.Plan.{recordsOf, planEntry}
-use Rattle.relocate.specs.Code.{poolOf}
+use Rattle.relocate.specs.Restore.{restore}
+use Rattle.relocate.specs.Plan.{recordsOf}
+use Rattle.relocate.specs.Code.{planEntry}
 use Rattle.relocate_frame.proofs.Asking.{none-found, several-found, found-stands, found-function}
 use Rattle.relocate_frame.proofs.Stages.{refuses, entry-plan}
 use borrow.Author.Needs.{needs}
@@ -16,7 +16,7 @@ refused-requires c κs = search needs
 returns : tie.Need-returns
 returns c =
     let s = c .before .before .before .before .before .before .before in
-    refuses _ _ _ _ _ 10 0 (c .refused .ensures) (none-found (s .args .found) (planEntry (isOld (s .args .s .now)) (poolOf (s .args .s .now)) (s .args .first) (length (s .args .image .now)) (s .args .frame)) (recordsOf (s .args .s .now) (s .args .frame)) (s .pre .1) (c .before .if1 .taken))
+    refuses _ _ _ _ _ 10 0 (c .refused .ensures) (none-found (s .args .found) (planEntry (restore (s .args .s .now) (s .args .olds .now) (s .args .news .now) (s .args .first)) (length (s .args .image .now)) (s .args .frame)) (recordsOf (s .args .s .now) (s .args .frame)) (s .pre .1) (c .before .if1 .taken))
 
 refused-requires-2 : tie.Need-refused-requires-2
 refused-requires-2 c κs = search needs
@@ -24,7 +24,7 @@ refused-requires-2 c κs = search needs
 returns-2 : tie.Need-returns-2
 returns-2 c =
     let s = c .before .before .before .before .before .before .before .before .before in
-    refuses _ _ _ _ _ 15 0 (c .refused2 .ensures) (several-found (s .args .found) (planEntry (isOld (s .args .s .now)) (poolOf (s .args .s .now)) (s .args .first) (length (s .args .image .now)) (s .args .frame)) (recordsOf (s .args .s .now) (s .args .frame)) (s .pre .1) (c .before .before .before .if1 .left) (c .before .if2 .taken))
+    refuses _ _ _ _ _ 15 0 (c .refused2 .ensures) (several-found (s .args .found) (planEntry (restore (s .args .s .now) (s .args .olds .now) (s .args .news .now) (s .args .first)) (length (s .args .image .now)) (s .args .frame)) (recordsOf (s .args .s .now) (s .args .frame)) (s .pre .1) (c .before .before .before .if1 .left) (c .before .if2 .taken))
 
 stack-size-requires : tie.Need-stack-size-requires
 stack-size-requires c κs =
@@ -45,7 +45,7 @@ returns-3 : tie.Need-returns-3
 returns-3 c =
     let s = c .before .before .before .before .before .before .before .before .before .before .before .before .before in
     let w : Bytes (s .args .s .now) = record { below = λ i. c .before .before .before .before .before .before .before .before .before .before .before .before .shared-slice-known .given i .fits } in
-    rw (entry-plan (s .args .s .now) (poolOf (s .args .s .now)) (s .args .first) (length (s .args .image .now)) (s .args .frame) (s .args .found) (c .before .before .before .before .stack-size .result)
+    rw (entry-plan (restore (s .args .s .now) (s .args .olds .now) (s .args .news .now) (s .args .first)) (length (s .args .image .now)) (s .args .frame) (s .args .found) (c .before .before .before .before .stack-size .result)
     (s .pre .0) w (s .pre .1) (c .before .before .before .before .before .before .before .if1 .left) (c .before .before .before .before .before .if2 .left) (c .before .before .before .before .stack-size .ensures))
     (c .before .before .move-record .ensures)
 

@@ -1,8 +1,8 @@
 use mathlib.Core.Path.{sym, _∙_}
 use native.Mathlib.Omega.{arith}
 use lib.ListN.{length}
-use Rattle.stackmap.specs.Section.{isOld}
-use Rattle.relocate.specs.Code.{recordOf, poolOf}
+use Rattle.relocate.specs.Restore.{restore}
+use Rattle.relocate.specs.Code.{recordOf}
 use Rattle.relocate_frame.proofs.Stages.{refuses, image-most, extent-tells, record-12, record-16, record-17, record-on}
 use borrow.Author.Needs.{needs}
 use Rattle.relocate_frame.proofs.moving.move_record.Statement.{statement}
@@ -24,30 +24,26 @@ returns : tie.Need-returns
 returns c =
     let s = c .before .before .before .before .before .before .before .before .before .before .before in
     refuses _ _ _ _ _ 17 0 (c .refused .ensures)
-    (record-17 (isOld (s .args .s .now)) (poolOf (s .args .s .now)) (s .args .first) (length (s .args .image .now)) (s .args .frame) (s .args .size) (recordOf (s .args .s .now) (s .args .at))
+    (record-17 (restore (s .args .s .now) (s .args .olds .now) (s .args .news .now) (s .args .first)) (length (s .args .image .now)) (s .args .frame) (s .args .size) (recordOf (s .args .s .now) (s .args .at))
     (sym (c .before .before .before .before .before .before .is-statepoint .ensures) ∙ c .before .before .before .before .before .if1 .taken) (sym (c .before .before .before .before .extent-right .ensures) ∙ c .before .before .before .if2 .taken) _ (c .before .before .pairs-of .ensures .counted) (c .before .if3 .taken))
-
-sub-off : tie.Need-sub-off
-sub-off c =
-    let a = c .before .before .before .before .before .before .before .before .before .before .before .args in
-    omega (arith, extent-tells (a .first) (length (a .image .now)) (a .frame .rsp) (a .size) (sym (c .before .before .before .before .extent-right .ensures) ∙ c .before .before .before .if2 .taken))
 
 move-pairs-requires : tie.Need-move-pairs-requires
 move-pairs-requires c κs =
-    let s = c .before .before .before .before .before .before .before .before .before .before .before .before in
+    let s = c .before .before .before .before .before .before .before .before .before .before .before in
     let a = s .args in
-    let t = extent-tells (a .first) (length (a .image .now)) (a .frame .rsp) (a .size) (sym (c .before .before .before .before .before .extent-right .ensures) ∙ c .before .before .before .before .if2 .taken) in
+    let x = sym (c .before .before .before .before .extent-right .ensures) ∙ c .before .before .before .if2 .taken in
+    let t = extent-tells (a .first) (length (a .image .now)) (a .frame .sp) (a .size) x in
     let m = image-most (a .first) (length (a .image .now)) (s .pre .1) in
-    (c .before .before .before .pairs-of .ensures, c .before .before .if3 .left, omega arith, omega arith, s .pre .2)
+    (c .before .before .pairs-of .ensures, c .before .if3 .left, x, omega arith, s .pre .2)
 
 same-length : tie.Need-same-length
 same-length c = search needs
 
 returns-2 : tie.Need-returns-2
 returns-2 c =
-    let s = c .before .before .before .before .before .before .before .before .before .before .before .before .before .before .before in
-    rw (record-on (isOld (s .args .s .now)) (poolOf (s .args .s .now)) (s .args .first) (length (s .args .image .now)) (s .args .frame) (s .args .size) (recordOf (s .args .s .now) (s .args .at))
-    (sym (c .before .before .before .before .before .before .before .before .before .before .is-statepoint .ensures) ∙ c .before .before .before .before .before .before .before .before .before .if1 .taken) (sym (c .before .before .before .before .before .before .before .before .extent-right .ensures) ∙ c .before .before .before .before .before .before .before .if2 .taken) _ (c .before .before .before .before .before .before .pairs-of .ensures .counted) (c .before .before .before .before .before .if3 .left))
+    let s = c .before .before .before .before .before .before .before .before .before .before .before .before .before .before in
+    rw (record-on (restore (s .args .s .now) (s .args .olds .now) (s .args .news .now) (s .args .first)) (length (s .args .image .now)) (s .args .frame) (s .args .size) (recordOf (s .args .s .now) (s .args .at))
+    (sym (c .before .before .before .before .before .before .before .before .before .is-statepoint .ensures) ∙ c .before .before .before .before .before .before .before .before .if1 .taken) (sym (c .before .before .before .before .before .before .before .extent-right .ensures) ∙ c .before .before .before .before .before .before .if2 .taken) _ (c .before .before .before .before .before .pairs-of .ensures .counted))
     (c .before .before .move-pairs .ensures)
 
 refused-requires-2 : tie.Need-refused-requires-2
@@ -57,7 +53,7 @@ returns-3 : tie.Need-returns-3
 returns-3 c =
     let s = c .before .before .before .before .before .before .before .before .before in
     refuses _ _ _ _ _ 16 0 (c .refused2 .ensures)
-    (record-16 (isOld (s .args .s .now)) (poolOf (s .args .s .now)) (s .args .first) (length (s .args .image .now)) (s .args .frame) (s .args .size) (recordOf (s .args .s .now) (s .args .at))
+    (record-16 (restore (s .args .s .now) (s .args .olds .now) (s .args .news .now) (s .args .first)) (length (s .args .image .now)) (s .args .frame) (s .args .size) (recordOf (s .args .s .now) (s .args .at))
     (sym (c .before .before .before .before .is-statepoint .ensures) ∙ c .before .before .before .if1 .taken) (sym (c .before .before .extent-right .ensures) ∙ c .before .if2 .left))
 
 refused-requires-3 : tie.Need-refused-requires-3
@@ -67,7 +63,7 @@ returns-4 : tie.Need-returns-4
 returns-4 c =
     let s = c .before .before .before .before .before .before .before in
     refuses _ _ _ _ _ 12 0 (c .refused3 .ensures)
-    (record-12 (isOld (s .args .s .now)) (poolOf (s .args .s .now)) (s .args .first) (length (s .args .image .now)) (s .args .frame) (s .args .size) (recordOf (s .args .s .now) (s .args .at))
+    (record-12 (restore (s .args .s .now) (s .args .olds .now) (s .args .news .now) (s .args .first)) (length (s .args .image .now)) (s .args .frame) (s .args .size) (recordOf (s .args .s .now) (s .args .at))
     (sym (c .before .before .is-statepoint .ensures) ∙ c .before .if1 .left))
 
 pub move-record-spec : {M : Type 1} → statement M
@@ -79,7 +75,6 @@ move-record-spec =
     pairs-of-requires
     refused-requires
     returns
-    sub-off
     move-pairs-requires
     same-length
     returns-2

@@ -35,14 +35,14 @@ is-slot-requires-2 c κs = search needs
 returns-2 : tie.Need-returns-2
 unfolding rightForm
 returns-2 c =
-    (c .is-slot2 .ensures ∙ slot-said _ _ _ (c .before .location2 .ensures) (c .before .before .before .before .before .is-old .ensures)
-    ∙ and-rest _ _ (sym (slot-said _ _ _ (c .before .before .before .before .location .ensures) (c .before .before .before .before .before .is-old .ensures)) ∙ sym (c .before .before .before .is-slot .ensures) ∙ c .before .before .if2 .taken)
+    (c .is-slot2 .ensures ∙ slot-said _ _ _ (c .before .location2 .ensures) _ (c .before .before .before .before .before .is-old .ensures)
+    ∙ and-rest _ _ (sym (slot-said _ _ _ (c .before .before .before .before .location .ensures) _ (c .before .before .before .before .before .is-old .ensures)) ∙ sym (c .before .before .before .is-slot .ensures) ∙ c .before .before .if2 .taken)
     ∙ or-rest _ _ (sym (c .before .before .before .before .before .before .before .is-null .ensures) ∙ c .before .before .before .before .before .before .if1 .left))
 
 returns-3 : tie.Need-returns-3
 unfolding rightForm
 returns-3 c =
-    (and-no _ _ (sym (slot-said _ _ _ (c .before .before .location .ensures) (c .before .before .before .is-old .ensures)) ∙ sym (c .before .is-slot .ensures) ∙ c .if2 .left)
+    (and-no _ _ (sym (slot-said _ _ _ (c .before .before .location .ensures) _ (c .before .before .before .is-old .ensures)) ∙ sym (c .before .is-slot .ensures) ∙ c .if2 .left)
     ∙ or-rest _ _ (sym (c .before .before .before .before .before .is-null .ensures) ∙ c .before .before .before .before .if1 .left))
 
 pub right-form-spec : {M : Type 1} → statement M

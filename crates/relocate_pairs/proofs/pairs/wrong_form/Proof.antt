@@ -11,10 +11,10 @@ use Rattle.relocate_pairs.proofs.pairs.wrong_form.Statement.{statement}
 use Rattle.relocate_pairs.proofs.pairs.wrong_form.Tie as tie
 
 abbrev Inv-loop : tie.InvT-loop
-Inv-loop s at start count p₀ p = Looking (rightForm (isOld s) (poolOf s)) (recordOf s at) count p
+Inv-loop machine s at start count p₀ p = Looking (rightForm machine (isOld s) (poolOf s)) (recordOf s at) count p
 
 abbrev μ-loop : tie.MeasureT-loop
-μ-loop s at start count p₀ p = count - p
+μ-loop machine s at start count p₀ p = count - p
 
 loop-holds : tie.Need-loop-holds Inv-loop μ-loop
 loop-holds c = look-start _ _ _

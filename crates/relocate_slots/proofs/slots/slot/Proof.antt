@@ -1,25 +1,28 @@
-use mathlib.Core.Path.{_∙_}
+use mathlib.Core.Path.{sym, _∙_}
 use Rattle.relocate.specs.Code.{locationOf}
-use Rattle.relocate_slots.proofs.Places.{slot-rbp, slot-rsp}
+use Rattle.relocate_slots.proofs.Places.{slot-frame, slot-stack}
 use borrow.Author.Needs.{needs}
 use Rattle.relocate_slots.proofs.slots.slot.Statement.{statement}
 use Rattle.relocate_slots.proofs.slots.slot.Tie as tie
+
+frame-pointer-requires : tie.Need-frame-pointer-requires
+frame-pointer-requires c κs = search needs
 
 position-requires : tie.Need-position-requires
 position-requires c κs = search needs
 
 returns : tie.Need-returns
 returns c =
-    let a = c .before .before .before .args in
-    c .position .ensures ∙ slot-rbp (a .frame) (a .size) (locationOf (a .l)) (c .before .if1 .taken)
+    let a = c .before .before .before .before .args in
+    c .position .ensures ∙ slot-frame (a .frame) (a .size) (locationOf (a .l)) (c .before .if1 .taken ∙ c .before .before .before .frame-pointer .ensures)
 
 position-requires-2 : tie.Need-position-requires-2
 position-requires-2 c κs = search needs
 
 returns-2 : tie.Need-returns-2
 returns-2 c =
-    let a = c .before .before .before .args in
-    c .position2 .ensures ∙ slot-rsp (a .frame) (a .size) (locationOf (a .l)) (c .before .if1 .left)
+    let a = c .before .before .before .before .args in
+    c .position2 .ensures ∙ slot-stack (a .frame) (a .size) (locationOf (a .l)) (λ e. c .before .if1 .left (e ∙ sym (c .before .before .before .frame-pointer .ensures)))
 
 pub slot-spec : {M : Type 1} → statement M
-slot-spec = tie.close (tie.spec position-requires returns position-requires-2 returns-2)
+slot-spec = tie.close (tie.spec frame-pointer-requires position-requires returns position-requires-2 returns-2)

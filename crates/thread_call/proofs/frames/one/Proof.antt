@@ -1,4 +1,5 @@
 use native.Mathlib.Omega.{arith}
+use Rattle.relocate.specs.Restore.{restore}
 use Rattle.thread_call.proofs.Judging.{one-moved}
 use borrow.Author.Needs.{needs}
 use Rattle.thread_call.proofs.frames.one.Statement.{statement}
@@ -23,7 +24,7 @@ returns : tie.Need-returns
 returns c =
     let s = c .before .before .before .before .before .before .before .before .before .before .before in
     rw (← c .before .before .before .before .before .frame-at .ensures)
-    (one-moved (s .args .s .now) (s .args .olds .now) (s .args .news .now) (s .args .first) (s .args .image .now) (c .before .before .before .before .before .frame-at .result) (s .pre .0 .looked .section-right) (s .pre .0 .image-right) (s .pre .0 .table-right) (s .args .write) _ _ (c .before .before .move-found .ensures))
+    (one-moved (restore (s .args .s .now) (s .args .olds .now) (s .args .news .now) (s .args .first)) (s .args .image .now) (c .before .before .before .before .before .frame-at .result) (s .pre .0 .looked .section-right) (s .pre .0 .image-right) (s .pre .0 .table-right) (s .args .write) _ _ (c .before .before .move-found .ensures))
 
 pub one-spec : {M : Type 1} → statement M
 one-spec =
