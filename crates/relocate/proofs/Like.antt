@@ -206,10 +206,10 @@ pub like-address : (e e′ : Entry) → EntryLike e e′ → address e′ ≡ ad
 unfolding address
 like-address e e′ l = rw (l .owner-same, l .body-like .offset-same)
 
-like-good : (c : ℕ) (e e′ : Entry) → EntryLike e e′ → GoodEntry c e → GoodEntry c e′
-like-good c e e′ l g =
+like-good : (old : Bool) (c : ℕ) (e e′ : Entry) → EntryLike e e′ → GoodEntry old c e → GoodEntry old c e′
+like-good old c e e′ l g =
     record {
-      address-fits = rw (like-address e e′ l) (g .address-fits);
+      address-right = rw (like-address e e′ l) (g .address-right);
       locations-good = λ x m. g .locations-good x (l .body-like .locations-from x m);
     }
 
@@ -256,5 +256,5 @@ module _ (t : Section) (rs′ : List Record) (each : EachReordered (t .records) 
         small = omega (arith, w .small, h .1);
         adds-up = rw (h .0) (w .adds-up);
         no-counts = w .no-counts;
-        entries-good = λ e′ m. let r = like-mem (entriesOf t) section-like m in like-good _ (r .0) e′ (r .2) (w .entries-good (r .0) (r .1));
+        entries-good = λ e′ m. let r = like-mem (entriesOf t) section-like m in like-good _ _ (r .0) e′ (r .2) (w .entries-good (r .0) (r .1));
       }

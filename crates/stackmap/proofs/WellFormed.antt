@@ -60,30 +60,30 @@ module _ (old : Bool) (c : ℕ) where
       go ih (inl q) = rw q (valid-location x at _ (chain-first _ _ _ h .1))
       go ih (inr q) = ih q
 
-  good-entry : (e : Entry) → GoodEntry c e → entryFault old c e ≡ Valid (size (recordFields old (e .body)))
+  good-entry : (e : Entry) → GoodEntry old c e → entryFault old c e ≡ Valid (size (recordFields old (e .body)))
   unfolding entryFault must chain
-  good-entry e g = rw (le-leb _ _ (g .address-fits), good-locations (e .body .locations) 16 (g .locations-good))
+  good-entry e g = rw (g .address-right, good-locations (e .body .locations) 16 (g .locations-good))
 
-  valid-entry : (e : Entry) (n : ℕ) → entryFault old c e ≡ Valid n → GoodEntry c e
+  valid-entry : (e : Entry) (n : ℕ) → entryFault old c e ≡ Valid n → GoodEntry old c e
   unfolding entryFault
   valid-entry e n h =
       record {
-        address-fits = leb-true _ _ (must-held _ _ _ _ _ h);
+        address-right = must-held _ _ _ _ _ h;
         locations-good = valid-locations (e .body .locations) 16 _ (chain-first _ _ _ (must-rest _ _ _ _ _ h) .1);
       }
 
-  good-entries : (es : List Entry) (stop : ℕ) → ((e : Entry) → List·Memᴰ e es → GoodEntry c e) → entriesFault old c es stop ≡ Valid stop
+  good-entries : (es : List Entry) (stop : ℕ) → ((e : Entry) → List·Memᴰ e es → GoodEntry old c e) → entriesFault old c es stop ≡ Valid stop
   unfolding entriesFault chain shift
   good-entries [] stop g = refl
   good-entries (e ∷ es) stop g =
       rw (good-entry e (g e (List·Memᴰ·head refl)), good-entries es stop (λ x m. g x (List·Memᴰ·tail m)))
 
-  valid-entries : (es : List Entry) (stop n : ℕ) → entriesFault old c es stop ≡ Valid n → (e : Entry) → List·Memᴰ e es → GoodEntry c e
+  valid-entries : (es : List Entry) (stop n : ℕ) → entriesFault old c es stop ≡ Valid n → (e : Entry) → List·Memᴰ e es → GoodEntry old c e
   unfolding entriesFault
   valid-entries [] stop n h e m = absurd (List·Memᴰ·not-nil m)
   valid-entries (x ∷ xs) stop n h e m = go (valid-entries xs stop n (chain-rest _ _ _ h) e) (List·Memᴰ·cases-cons m)
     where
-      go : (List·Memᴰ e xs → GoodEntry c e) → (e ≡ x) ⊎ List·Memᴰ e xs → GoodEntry c e
+      go : (List·Memᴰ e xs → GoodEntry old c e) → (e ≡ x) ⊎ List·Memᴰ e xs → GoodEntry old c e
       go ih (inl q) = rw q (valid-entry x _ (shift-valid _ _ _ (chain-first _ _ _ h .1) .1))
       go ih (inr q) = ih q
 

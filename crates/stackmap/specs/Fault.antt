@@ -8,11 +8,11 @@ use lib.ListN.{length}
 use lib.Dec.{leb}
 use Rattle.stackmap.specs.declared.Verdict.{Verdict}
 use Rattle.stackmap.specs.declared.Verdict.the-variants.{Valid}
-use Rattle.stackmap.specs.Layout.{sectionMost, addressMost, negativeFrom, recordHeadSize, locationSize, kindLeast, kindMost, kindConstIndex, numRecordsAt}
+use Rattle.stackmap.specs.Layout.{sectionMost, negativeFrom, recordHeadSize, locationSize, kindLeast, kindMost, kindConstIndex, numRecordsAt}
 use Rattle.stackmap.specs.Verdict.{must, chain, shift}
 use Rattle.stackmap.specs.Fields.{size}
 use Rattle.stackmap.specs.Section.{Function, Location, Section, recordFields, sectionFields, Encodable, Entry, address, entriesOf}
-use Rattle.stackmap.specs.Record.{poolCheck}
+use Rattle.stackmap.specs.Record.{poolCheck, addressRight}
 use Rattle.stackmap.specs.Check.{countsRight}
 
 unfoldable pub locationFault : Bool → ℕ → Location → ℕ → Verdict
@@ -28,7 +28,7 @@ locationsFault old constants (l ∷ ls) at =
 
 unfoldable pub entryFault : Bool → ℕ → Entry → Verdict
 entryFault old constants e =
-    must (leb (address e) addressMost) 8 0
+    must (addressRight old (address e)) 8 0
     (chain (locationsFault old constants (e .body .locations) recordHeadSize) (Valid (size (recordFields old (e .body)))))
 
 unfoldable pub entriesFault : Bool → ℕ → List Entry → ℕ → Verdict
@@ -50,8 +50,8 @@ pub record GoodLocation (constants : ℕ) (l : Location) : Type 0 where
   pub kind-high : l .kind ≤ kindMost
   pub pool : l .kind ≡ kindConstIndex → (l .offset < negativeFrom) × (l .offset < constants)
 
-pub record GoodEntry (constants : ℕ) (e : Entry) : Type 0 where
-  pub address-fits : address e ≤ addressMost
+pub record GoodEntry (old : Bool) (constants : ℕ) (e : Entry) : Type 0 where
+  pub address-right : addressRight old (address e) ≡ true
   pub locations-good : (l : Location) → List·Memᴰ l (e .body .locations) → GoodLocation constants l
 
 pub record WellFormed (t : Section) : Type 0 where
@@ -60,4 +60,4 @@ pub record WellFormed (t : Section) : Type 0 where
   pub adds-up : countsRight (t .old) (t .functions) (length (t .records)) ≡ true
   -- version 1 states no record counts
   pub no-counts : t .old ≡ true → (f : Function) → List·Memᴰ f (t .functions) → f .count ≡ 0
-  pub entries-good : (e : Entry) → List·Memᴰ e (entriesOf t) → GoodEntry (length (t .constants)) e
+  pub entries-good : (e : Entry) → List·Memᴰ e (entriesOf t) → GoodEntry (t .old) (length (t .constants)) e

@@ -65,7 +65,12 @@ recordBytes old s c =
     (chain (zeros (liveOutsPadding (numLiveOuts old s)) s (liveOutsAt old s + liveOutSize * numLiveOuts old s))
     (Valid (recordLength old s))))))
 
--- 4, 8, then its bytes; it belongs to a function at the address a, which is 0 in version 1, where 8 isn't given
+-- 8: a record's address, its function's plus its instruction offset, is one; version 1 does not say whose a record is
+unfoldable pub addressRight : Bool → ℕ → Bool
+addressRight true a = true
+addressRight false a = leb a addressMost
+
+-- 4, 8, then its bytes; it belongs to a function at the address a
 unfoldable pub recordCheck : Bool → List ℕ → ℕ → ℕ → Verdict
 recordCheck old s c a =
-    chain (recordInside old s) (must (leb (a + word 4 s instructionOffsetAt) addressMost) 8 0 (recordBytes old s c))
+    chain (recordInside old s) (must (addressRight old (a + word 4 s instructionOffsetAt)) 8 0 (recordBytes old s c))
