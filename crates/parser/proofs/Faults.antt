@@ -1,11 +1,11 @@
 -- The refusals of a listing's items, as the section that is built of them would get them.
 use Prim.Native.Nat.{ℕ, _+_, _-_, _≤_, _<_, _^_}
-use mathlib.Core.Path.{_≡_, refl, ap}
+use mathlib.Core.Path.{_≡_, refl, sym, ap}
 use mathlib.Core.List.{List, [], _∷_}
-use mathlib.Core.Bool.{Bool, true, false}
+use mathlib.Core.Bool.{Bool, true, false, true≢false}
+use borrow.Author.Tests.{lt-leb}
 use native.Mathlib.Omega.{arith}
 use native.Mathlib.Nat.{add-zero, add-assoc}
-use borrow.Author.Tests.{le-leb}
 use lib.ListN.{getD}
 use lib.Dec.{leb, eqb, ltb}
 use Rattle.wire.specs.Word.{word}
@@ -15,7 +15,8 @@ use Rattle.stackmap.specs.Layout.{locationSize}
 use Rattle.stackmap.specs.Verdict.{must, chain, pick, shift}
 use Rattle.stackmap.specs.Fields.{many, size}
 use Rattle.stackmap.specs.Section.{Location, recordFields, Entry, address}
-use Rattle.stackmap.specs.Record.{poolCheck}
+use Rattle.stackmap.specs.Record.{poolCheck, addressRight}
+use Rattle.stackmap.proofs.Addresses.{address-fits, same-test}
 use Rattle.stackmap.specs.Fault.{locationFault, locationsFault, entryFault}
 use Rattle.stackmap.proofs.Steps.{many-step}
 use Rattle.stackmap.proofs.Items.{byte-word}
@@ -56,7 +57,7 @@ shift-locations old p c (x ∷ xs) at = rw (shift-chain, shift-location, shift-l
 
 -- a record's refusal, with places of the section
 pub entry-placed : (old : Bool) (p c : ℕ) (e : Entry)
-    → shift p (entryFault old c e) ≡ must (leb (address e) (2 ^ 64 - 1)) 8 p (chain (locationsFault old c (e .body .locations) (p + 16)) (Valid (p + size (recordFields old (e .body)))))
+    → shift p (entryFault old c e) ≡ must (addressRight old (address e)) 8 p (chain (locationsFault old c (e .body .locations) (p + 16)) (Valid (p + size (recordFields old (e .body)))))
 unfolding entryFault
 entry-placed old p c e = rw (shift-must, add-zero, shift-chain, shift-locations) (unfold shift in refl)
 
@@ -81,13 +82,24 @@ location-listed old c l at p = rw byte-word
 -- a record's refusal, by the bytes of its items and its owner's address
 pub entry-listed : {l : List ℕ} {at n m stop : ℕ} (old : Bool) (i p c : ℕ) → Shaped l at n m stop
     → shift p (entryFault old c (entryAt l old i at p))
-    ≡ must (leb (ownerBy l old i .function .address + word 4 l (at + 9)) (2 ^ 64 - 1)) 8 p
+    ≡ must (addressRight old (ownerBy l old i .function .address + word 4 l (at + 9))) 8 p
     (chain (locationsFault old c (many listedLocation 10 n l (at + 13)) (p + 16)) (Valid (p + recordSize old n m)))
 unfolding address listedRecord
 entry-listed {l} {at} old i p c h = rw (entry-placed old p c (entryAt l old i at p), shape-size h old, h .locations-are)
+
+owner-zero : (old : Bool) (l : List ℕ) (i : ℕ) → old ≡ true → ownerBy l old i .function .address ≡ 0
+unfolding ownerBy
+owner-zero true l i h = refl
+owner-zero false l i h = absurd (true≢false (sym h))
+
+-- 8: its address does not fit; a record of version 1 is at its offset, which always does
+pub entry-over : {l : List ℕ} {at n m stop : ℕ} (old : Bool) (i p c : ℕ) → Shaped l at n m stop → word 4 l (at + 9) < 2 ^ 32
+    → 2 ^ 64 - 1 < ownerBy l old i .function .address + word 4 l (at + 9) → shift p (entryFault old c (entryAt l old i at p)) ≡ Refused 8 p
+unfolding must
+entry-over {l} {at} old i p c h small over = rw (entry-listed old i p c h, same-test old (ownerBy l old i .function .address) (word 4 l (at + 9)) (owner-zero old l i) small, lt-leb _ _ over)
 
 -- its address fits
 pub entry-fits : {l : List ℕ} {at n m stop : ℕ} (old : Bool) (i p c : ℕ) → Shaped l at n m stop → ownerBy l old i .function .address + word 4 l (at + 9) ≤ 2 ^ 64 - 1
     → shift p (entryFault old c (entryAt l old i at p)) ≡ chain (locationsFault old c (many listedLocation 10 n l (at + 13)) (p + 16)) (Valid (p + recordSize old n m))
 unfolding must
-entry-fits old i p c h f = rw (entry-listed old i p c h, le-leb _ _ f)
+entry-fits old i p c h f = rw (entry-listed old i p c h, address-fits old _ f)

@@ -6,7 +6,7 @@ use mathlib.Core.List.{List}
 use mathlib.Core.Bool.{Bool, true, false}
 use lib.ListN.{length}
 use Rattle.stackmap.specs.declared.Verdict.the-variants.{Refused}
-use Rattle.stackmap.specs.Layout.{recordHeadSize, locationSize, locationsPadding, liveOutsHeadSize, liveOutSize, liveOutsPadding}
+use Rattle.stackmap.specs.Layout.{recordHeadSize, locationSize, locationsPadding, liveOutSize, liveOutsPadding}
 use Rattle.stackmap.specs.Fields.{size, all, many}
 use Rattle.stackmap.specs.Section.{Function, Record, recordFields}
 use Rattle.listing.specs.Layout.{functionItemSize, constantItemSize, recordKind, recordItemSize}
@@ -15,7 +15,7 @@ use Rattle.parser_items.specs.Count.{Tabled}
 
 -- the bytes of a record with n locations and m live-outs, in a section of version 1 where `old` is true
 abbrev pub recordSize : Bool → ℕ → ℕ → ℕ
-recordSize old n m = recordHeadSize + locationSize old * n + locationsPadding old n + liveOutsHeadSize + liveOutSize * m + liveOutsPadding m
+recordSize old n m = recordHeadSize + locationSize old * n + locationsPadding old n + 4 + liveOutSize * m + liveOutsPadding m
 
 module _ (l : List ℕ) where
   -- n functions from the start on

@@ -7,7 +7,7 @@ use Rattle.stackmap.specs.Fields.{bytesOf, size, all, many}
 use Rattle.stackmap.specs.Section.{functionFields, constantFields, locationFields, liveOutFields, recordFields, sectionFields, encodeSection}
 use Rattle.stackmap.specs.Section.{readFunction, readConstant, readLocation, readLiveOut, recordLength, readRecord, readRecords, readFunctions}
 use Rattle.stackmap.specs.Section.{readSection, owners, recordOwners, counted, address, entriesFrom, entriesOf, entries}
-use Rattle.stackmap.specs.Record.{zeros, locationZeros, poolCheck, locationCheck, locations, liveOuts, recordInside, recordBytes, recordCheck}
+use Rattle.stackmap.specs.Record.{zeros, locationZeros, poolCheck, locationCheck, locations, liveOuts, recordInside, recordBytes, addressRight, recordCheck}
 use Rattle.stackmap.specs.Check.{firstOutside, countsRight, headerCheck, tablesCheck, recordsCheck, walkCheck, sectionCheck}
 use Rattle.listing.specs.Listing.{functionItem, constantItem, recordItem, locationItem, liveOutItem, recordItems, versionItem, itemFields}
 use Rattle.listing.specs.Listing.{listingFields, encodeListing, stands, run, listedFunction, listedConstant, listedLocation, listedLiveOut}
@@ -32,7 +32,7 @@ pub worked : WorkedTable
 unfolding word bytes must chain bind pick shift bytesOf size all many functionFields constantFields locationFields liveOutFields
     recordFields sectionFields encodeSection readFunction readConstant readLocation readLiveOut recordLength readRecord readRecords
     readFunctions readSection owners recordOwners counted zeros locationZeros poolCheck locationCheck locations liveOuts recordInside
-    recordBytes recordCheck firstOutside countsRight headerCheck tablesCheck recordsCheck walkCheck sectionCheck functionItem constantItem recordItem
+    recordBytes addressRight recordCheck firstOutside countsRight headerCheck tablesCheck recordsCheck walkCheck sectionCheck functionItem constantItem recordItem
     locationItem liveOutItem recordItems versionItem itemFields listingFields encodeListing stands run listedFunction listedConstant
     listedLocation listedLiveOut listedRecord recordStop listedRecords recordsStop readItems listedOld readListing itemsStop notTooMany
     noCounts smallSizes allSmallSizes oldRight itemsCheck listingCheck toListing toSection result address entriesFrom entriesOf entries ask

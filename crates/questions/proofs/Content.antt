@@ -59,11 +59,12 @@ times-up a (suc m) (suc n) h = let i = times-up a m n (omega arith) in omega ari
 
 -- The record at the place `first` of s.
 
-module _ (old : Bool) (s : List ℕ) (first : ℕ) where
-  location-here : (at : ℕ) → readLocation old (drop first s) at ≡ readLocation old s (first + at)
-  unfolding readLocation
-  location-here at = simp (word-drop, ← add-assoc)
+location-here : (old : Bool) (s : List ℕ) (first at : ℕ) → readLocation old (drop first s) at ≡ readLocation old s (first + at)
+unfolding readLocation
+location-here true s first at = simp (word-drop, ← add-assoc)
+location-here false s first at = simp (word-drop, ← add-assoc)
 
+module _ (old : Bool) (s : List ℕ) (first : ℕ) where
   -- it has n locations, as its head says
   module _ (n : ℕ) (locations : n ≡ word 2 s (first + 14)) where
     num-here : numLocations (drop first s) ≡ n
@@ -81,7 +82,7 @@ module _ (old : Bool) (s : List ℕ) (first : ℕ) where
     unfolding readRecord
     location-at j h =
         let p : first + (16 + locationSize old * j) ≡ first + 16 + locationSize old * j = omega arith in
-        rw (num-here, many-some (readLocation old) (locationSize old) n (drop first s) 16 j h, location-here (16 + locationSize old * j), p)
+        rw (num-here, many-some (readLocation old) (locationSize old) n (drop first s) 16 j h, location-here old s first (16 + locationSize old * j), p)
 
     pub location-past : (j : ℕ) → n ≤ j → getElem? (readRecord old (drop first s) .locations) j ≡ none
     unfolding readRecord

@@ -9,7 +9,7 @@ use Rattle.stackmap.specs.declared.Verdict.{Verdict}
 use Rattle.stackmap.specs.declared.Verdict.the-variants.{Valid, Refused}
 use Rattle.stackmap.specs.Layout.{negativeFrom}
 use Rattle.stackmap.specs.Fields.{size}
-use Rattle.stackmap.specs.Section.{Location, LiveOut, Owner, recordFields, isOld, readSection, Entry, address, entries}
+use Rattle.stackmap.specs.Section.{Location, Offset, asOffset, LiveOut, Owner, recordFields, isOld, readSection, Entry, address, entries}
 use Rattle.stackmap.specs.Check.{sectionCheck}
 use Rattle.questions.specs.declared.Found.{Found}
 use Rattle.questions.specs.declared.Located.{Located}
@@ -39,14 +39,7 @@ notFound n p = record { number = n; place = p; index = 0; function = 0; sharing 
 abbrev pub firstOf : List Entry → Found
 firstOf [] = notFound 10 0
 firstOf (e ∷ es) =
-    record {
-      number = 0;
-      place = 0;
-      index = e .number;
-      function = e .owner .number;
-      sharing = length (e ∷ es);
-      first = e .first;
-    }
+    record { number = 0; place = 0; index = e .number; function = e .owner .number; sharing = length (e ∷ es); first = e .first }
 
 -- 27 on version 1, which does not say which function owns a record
 unfoldable pub byAddress : List ℕ → ℕ → Found
@@ -90,7 +83,29 @@ recordPlace s k = ask notLocated (among (notLocated 10 0) (located (isOld s)) (g
 unfoldable pub recordPart : List ℕ → ℕ → List ℕ
 recordPart s k = take (recordPlace s k .size) (drop (recordPlace s k .first) s)
 
--- By record and location number: kind, size, register, offset, and the 64-bit constant, 0 for kinds 1 to 3. 10 before 11.
+-- By record and location number: kind, size, register, signed offset, and the 64-bit constant, 0 for kinds 1 to 3. 10 before 11.
+
+pub record SignedLocation : Type 0 where
+  pub number : ℕ
+  pub place : ℕ
+  pub kind : ℕ
+  pub size : ℕ
+  pub register : ℕ
+  pub offset : Offset
+  pub constant : ℕ
+
+-- an answer that holds the 32 bits of the offset, as the number that they are: -8 and not 4294967288
+abbrev pub signed : LocationAnswer → SignedLocation
+signed a =
+    record {
+      number = a .number;
+      place = a .place;
+      kind = a .kind;
+      size = a .size;
+      register = a .register;
+      offset = asOffset (a .offset);
+      constant = a .constant;
+    }
 
 -- kind 4: the offset sign-extended; kind 5: pool entry number offset
 unfoldable pub constantOf : List ℕ → Location → ℕ
@@ -113,13 +128,14 @@ thisLocation pool l =
       constant = constantOf pool l;
     }
 
-unfoldable pub locationAnswer : List ℕ → ℕ → ℕ → LocationAnswer
+unfoldable pub locationAnswer : List ℕ → ℕ → ℕ → SignedLocation
 locationAnswer s k j =
-    ask noLocation
+    signed
+    (ask noLocation
     (among (noLocation 10 0)
     (λ e. among (noLocation 11 0) (thisLocation (readSection s .constants)) (getElem? (e .body .locations) j))
     (getElem? (entries s) k))
-    (sectionCheck s)
+    (sectionCheck s))
 
 -- Live-outs likewise.
 

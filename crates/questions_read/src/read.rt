@@ -5,7 +5,7 @@ ghost use Prim.Native.Nat.{ℕ, _+_, _≤_};
 ghost use lib.ListN.{length, drop, getElem?};
 ghost use Rattle.stackmap.specs.Layout.{headerSize, locationSize};
 ghost use Rattle.stackmap.specs.Section.{recordsAt, isOld, readLocation, recordLength, readRecord, readSection};
-ghost use Rattle.questions.specs.Questions.{among, constantOf, noLocation, thisLocation, locationAnswer, noLiveOut, thisLiveOut, liveOutAnswer};
+ghost use Rattle.questions.specs.Questions.{among, constantOf, noLocation, thisLocation, signed, locationAnswer, noLiveOut, thisLiveOut, liveOutAnswer};
 use questions::LiveOutAnswer;
 use questions::LocationAnswer;
 use stackmap::layout;
@@ -115,7 +115,7 @@ pub fn location_in(s: &[u8], first: usize, number: u64) -> LocationAnswer
 
 // A location by its record's number and its own: 10 before 11.
 pub fn location(s: &[u8], wanted: u64, number: u64) -> LocationAnswer
-    ensures { λ r. ⌜ r ≡ locationAnswer (now (s .entry)) wanted number ⌝ }
+    ensures { λ r. ⌜ signed r ≡ locationAnswer (now (s .entry)) wanted number ⌝ }
 {
     let l = questions_locate::locate(s, wanted);
     if l.number != 0 {

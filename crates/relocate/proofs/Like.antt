@@ -9,7 +9,8 @@ use lib.ListN.{length, getD, take, drop, length-append, length-drop, take-append
 use lib.Seq.{length-take-le, drop-at, getD-take}
 use Rattle.stackmap.specs.Fields.{Field, size, Fit, all}
 use Rattle.stackmap.specs.Section.{Location, Record, Section, functionFields, constantFields, locationFields, liveOutFields, recordHead, recordMiddle, recordEnd, recordFields, header, sectionFields, Encodable, Owner, recordOwners, Entry, address, entriesFrom, entriesOf}
-use Rattle.stackmap.specs.Fault.{GoodEntry, WellFormed}
+use Rattle.stackmap.specs.Fault.{WellFormed}
+use Rattle.stackmap.proofs.WellFormed.{GoodEntry, good-valid, valid-good}
 use Rattle.stackmap.proofs.Fields.{size-append, fit-join, fit-first, fit-second, fit-each, each-fit}
 use Rattle.stackmap.proofs.Back.{record-size, section-size}
 use Rattle.moves.proofs.Searches.{perm-mem, perm-length}
@@ -206,10 +207,10 @@ pub like-address : (e e′ : Entry) → EntryLike e e′ → address e′ ≡ ad
 unfolding address
 like-address e e′ l = rw (l .owner-same, l .body-like .offset-same)
 
-like-good : (c : ℕ) (e e′ : Entry) → EntryLike e e′ → GoodEntry c e → GoodEntry c e′
-like-good c e e′ l g =
+like-good : (old : Bool) (c : ℕ) (e e′ : Entry) → EntryLike e e′ → GoodEntry old c e → GoodEntry old c e′
+like-good old c e e′ l g =
     record {
-      address-fits = rw (like-address e e′ l) (g .address-fits);
+      address-right = rw (like-address e e′ l) (g .address-right);
       locations-good = λ x m. g .locations-good x (l .body-like .locations-from x m);
     }
 
@@ -251,10 +252,15 @@ module _ (t : Section) (rs′ : List Record) (each : EachReordered (t .records) 
       let f = still-fits (w .fits) in
       let z₁ = section-size t in
       let z₂ = section-size t′ in
+      let g = valid-good t _ (w .no-fault) in
       record {
         fits = f;
-        small = omega (arith, w .small, h .1);
-        adds-up = rw (h .0) (w .adds-up);
         no-counts = w .no-counts;
-        entries-good = λ e′ m. let r = like-mem (entriesOf t) section-like m in like-good _ (r .0) e′ (r .2) (w .entries-good (r .0) (r .1));
+        no-fault =
+            good-valid t′
+            (record {
+              small = omega (arith, g .small, h .1);
+              adds-up = rw (h .0) (g .adds-up);
+              entries-good = λ e′ m. let r = like-mem (entriesOf t) section-like m in like-good _ _ (r .0) e′ (r .2) (g .entries-good (r .0) (r .1));
+            });
       }

@@ -13,3 +13,4 @@ pub mod Turns
 pub mod Entries
 pub mod OneWalk
 pub mod Numbers
+pub mod Addresses

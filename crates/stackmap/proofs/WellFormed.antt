@@ -1,5 +1,5 @@
 -- Accepted bytes and well-formed sections correspond one to one.
-use Prim.Native.Nat.{ℕ, zero, suc, _+_, _*_, _/_, _^_, _<_}
+use Prim.Native.Nat.{ℕ, zero, suc, _+_, _*_, _/_, _^_, _≤_, _<_}
 use mathlib.Core.Path.{_≡_, refl, sym, _∙_, ap}
 use mathlib.Core.List.{List, [], _∷_, _++_, List·Memᴰ, List·Memᴰ·head, List·Memᴰ·tail, List·Memᴰ·not-nil, List·Memᴰ·cases-cons}
 use mathlib.Core.Logic.{_⊎_, inl, inr, ⊎-elim}
@@ -13,14 +13,31 @@ use Rattle.stackmap.specs.declared.Verdict.the-variants.{Valid}
 use Rattle.stackmap.specs.Layout.{versionNumber, functionSize, locationSize}
 use Rattle.stackmap.specs.Verdict.{must, chain, pick, shift}
 use Rattle.stackmap.specs.Fields.{Field, bytesOf, size, many}
-use Rattle.stackmap.specs.Section.{Function, Location, Section, numFunctions, isOld, readFunction, readFunctions, recordFields, sectionFields, encodeSection, Encodable, readSection, Entry, entriesOf}
-use Rattle.stackmap.specs.Record.{poolCheck}
-use Rattle.stackmap.specs.Check.{sectionCheck}
-use Rattle.stackmap.specs.Fault.{locationFault, locationsFault, entryFault, entriesFault, sectionFault, GoodLocation, GoodEntry, WellFormed}
+use Rattle.stackmap.specs.Section.{Function, Location, Section, numFunctions, isOld, readFunction, readFunctions, recordFields, sectionFields, encodeSection, Encodable, readSection, Entry, address, entriesOf}
+use Rattle.stackmap.specs.Record.{poolCheck, addressRight}
+use Rattle.stackmap.specs.Check.{countsRight, sectionCheck}
+use Rattle.stackmap.specs.Fault.{locationFault, locationsFault, entryFault, entriesFault, sectionFault, WellFormed}
 use Rattle.stackmap.specs.Laws.{OneToOne, BuiltRefusal}
 use Rattle.stackmap.proofs.Verdicts.{must-held, must-rest, chain-first, chain-rest, shift-valid}
 use Rattle.stackmap.proofs.Back.{read-back, check-back, encoded-length}
 use Rattle.stackmap.proofs.Forth.{accepted-encodable, accepted-bytes, accepted-fault}
+
+-- What a section without fault is, item by item.
+
+-- a location of kind 1 to 5, whose pool entry exists where it has one
+pub record GoodLocation (constants : ℕ) (l : Location) : Type 0 where
+  pub kind-low : 1 ≤ l .kind
+  pub kind-high : l .kind ≤ 5
+  pub pool : l .kind ≡ 5 → (l .offset < 2 ^ 31) × (l .offset < constants)
+
+pub record GoodEntry (old : Bool) (constants : ℕ) (e : Entry) : Type 0 where
+  pub address-right : addressRight old (address e) ≡ true
+  pub locations-good : (l : Location) → List·Memᴰ l (e .body .locations) → GoodLocation constants l
+
+pub record Good (t : Section) : Type 0 where
+  pub small : size (sectionFields t) ≤ 16777216
+  pub adds-up : countsRight (t .old) (t .functions) (length (t .records)) ≡ true
+  pub entries-good : (e : Entry) → List·Memᴰ e (entriesOf t) → GoodEntry (t .old) (length (t .constants)) e
 
 module _ (old : Bool) (c : ℕ) where
   good-location : (l : Location) (at : ℕ) → GoodLocation c l → locationFault old c l at ≡ Valid (at + locationSize old)
@@ -60,49 +77,45 @@ module _ (old : Bool) (c : ℕ) where
       go ih (inl q) = rw q (valid-location x at _ (chain-first _ _ _ h .1))
       go ih (inr q) = ih q
 
-  good-entry : (e : Entry) → GoodEntry c e → entryFault old c e ≡ Valid (size (recordFields old (e .body)))
+  good-entry : (e : Entry) → GoodEntry old c e → entryFault old c e ≡ Valid (size (recordFields old (e .body)))
   unfolding entryFault must chain
-  good-entry e g = rw (le-leb _ _ (g .address-fits), good-locations (e .body .locations) 16 (g .locations-good))
+  good-entry e g = rw (g .address-right, good-locations (e .body .locations) 16 (g .locations-good))
 
-  valid-entry : (e : Entry) (n : ℕ) → entryFault old c e ≡ Valid n → GoodEntry c e
+  valid-entry : (e : Entry) (n : ℕ) → entryFault old c e ≡ Valid n → GoodEntry old c e
   unfolding entryFault
   valid-entry e n h =
       record {
-        address-fits = leb-true _ _ (must-held _ _ _ _ _ h);
+        address-right = must-held _ _ _ _ _ h;
         locations-good = valid-locations (e .body .locations) 16 _ (chain-first _ _ _ (must-rest _ _ _ _ _ h) .1);
       }
 
-  good-entries : (es : List Entry) (stop : ℕ) → ((e : Entry) → List·Memᴰ e es → GoodEntry c e) → entriesFault old c es stop ≡ Valid stop
+  good-entries : (es : List Entry) (stop : ℕ) → ((e : Entry) → List·Memᴰ e es → GoodEntry old c e) → entriesFault old c es stop ≡ Valid stop
   unfolding entriesFault chain shift
   good-entries [] stop g = refl
   good-entries (e ∷ es) stop g =
       rw (good-entry e (g e (List·Memᴰ·head refl)), good-entries es stop (λ x m. g x (List·Memᴰ·tail m)))
 
-  valid-entries : (es : List Entry) (stop n : ℕ) → entriesFault old c es stop ≡ Valid n → (e : Entry) → List·Memᴰ e es → GoodEntry c e
+  valid-entries : (es : List Entry) (stop n : ℕ) → entriesFault old c es stop ≡ Valid n → (e : Entry) → List·Memᴰ e es → GoodEntry old c e
   unfolding entriesFault
   valid-entries [] stop n h e m = absurd (List·Memᴰ·not-nil m)
   valid-entries (x ∷ xs) stop n h e m = go (valid-entries xs stop n (chain-rest _ _ _ h) e) (List·Memᴰ·cases-cons m)
     where
-      go : (List·Memᴰ e xs → GoodEntry c e) → (e ≡ x) ⊎ List·Memᴰ e xs → GoodEntry c e
+      go : (List·Memᴰ e xs → GoodEntry old c e) → (e ≡ x) ⊎ List·Memᴰ e xs → GoodEntry old c e
       go ih (inl q) = rw q (valid-entry x _ (shift-valid _ _ _ (chain-first _ _ _ h .1) .1))
       go ih (inr q) = ih q
 
--- well formed is: encodable, and without fault
-pub well-valid : (t : Section) → WellFormed t → sectionFault t ≡ Valid (size (sectionFields t))
+pub good-valid : (t : Section) → Good t → sectionFault t ≡ Valid (size (sectionFields t))
 unfolding sectionFault must
-well-valid t w =
-    rw (le-leb _ _ (w .small), w .adds-up, good-entries (t .old) (length (t .constants)) (entriesOf t) (size (sectionFields t)) (w .entries-good))
+good-valid t g =
+    rw (le-leb _ _ (g .small), g .adds-up, good-entries (t .old) (length (t .constants)) (entriesOf t) (size (sectionFields t)) (g .entries-good))
 
-pub valid-well : (t : Section) (n : ℕ) → Encodable t → (t .old ≡ true → (f : Function) → List·Memᴰ f (t .functions) → f .count ≡ 0)
-    → sectionFault t ≡ Valid n → WellFormed t
+pub valid-good : (t : Section) (n : ℕ) → sectionFault t ≡ Valid n → Good t
 unfolding sectionFault
-valid-well t n f none h =
+valid-good t n h =
     let h₁ = must-rest _ _ _ _ _ h in
     record {
-      fits = f;
       small = leb-true _ _ (must-held _ _ _ _ _ h);
       adds-up = must-held _ _ _ _ _ h₁;
-      no-counts = none;
       entries-good = valid-entries _ _ _ _ n (must-rest _ _ _ _ _ h₁);
     }
 
@@ -118,11 +131,13 @@ read-no-counts s e f m = no-count (numFunctions s) s 16 f (rw e at m)
 
 -- a well-formed section's bytes are accepted, and read back as the section
 pub well-formed-accepted : (t : Section) → WellFormed t → (sectionCheck (encodeSection t) ≡ Valid (length (encodeSection t))) × (readSection (encodeSection t) ≡ t)
-well-formed-accepted t w = (check-back t (w .fits) ∙ well-valid t w ∙ ap Valid (sym (encoded-length t)), read-back t (w .fits) (w .no-counts))
+well-formed-accepted t w = (check-back t (w .fits) ∙ w .no-fault ∙ ap Valid (sym (encoded-length t)), read-back t (w .fits) (w .no-counts))
 
 -- accepted bytes are read as a well-formed section, and are its bytes
 pub accepted-well-formed : (s : List ℕ) (e : ℕ) → Bytes s → sectionCheck s ≡ Valid e → WellFormed (readSection s) × (encodeSection (readSection s) ≡ s)
-accepted-well-formed s e w k = (valid-well (readSection s) e (accepted-encodable s e k w) (read-no-counts s) (accepted-fault s e k w), accepted-bytes s e k w)
+accepted-well-formed s e w k =
+    let t = readSection s in
+    (record { fits = accepted-encodable s e k w; no-counts = read-no-counts s; no-fault = good-valid t (valid-good t e (accepted-fault s e k w)) }, accepted-bytes s e k w)
 
 abbrev Below : List ℕ → Type 0
 Below [] = Unit {0}

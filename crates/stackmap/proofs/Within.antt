@@ -14,7 +14,7 @@ use Rattle.stackmap.specs.declared.Verdict.the-variants.{Valid, Refused}
 use Rattle.stackmap.specs.Layout.{locationSize}
 use Rattle.stackmap.specs.Verdict.{must, chain, bind, pick, shift}
 use Rattle.stackmap.specs.Section.{Function, numLocations, locationsEnd, numLiveOuts, recordLength, recordsAt, Owner, counted}
-use Rattle.stackmap.specs.Record.{zeros, locationZeros, poolCheck, locationCheck, locations, liveOuts, recordInside, recordBytes, recordCheck}
+use Rattle.stackmap.specs.Record.{zeros, locationZeros, poolCheck, locationCheck, locations, liveOuts, recordInside, recordBytes, addressRight, recordCheck}
 use Rattle.stackmap.specs.Check.{headerCheck, countsRight, tablesCheck, recordsCheck, walkCheck, sectionCheck}
 use Rattle.stackmap.specs.Walk.{Walkable}
 use Rattle.stackmap.proofs.Verdicts.{must-held, must-rest, chain-first, chain-rest, chain-chain, shift-valid}
@@ -105,7 +105,7 @@ unfolding recordCheck recordInside chain must
 record-within old s c a = go (leb (recordLength old s) (length s)) refl
   where
     go : (b : Bool) → leb (recordLength old s) (length s) ≡ b → Within (length s) (recordCheck old s c a)
-    go true e = rw e (within-must (length s) (leb (a + word 4 s 8) (2 ^ 64 - 1)) 8 0 (recordBytes old s c) (omega arith) (bytes-within old s c (leb-true _ _ e)))
+    go true e = rw e (within-must (length s) (addressRight old (a + word 4 s 8)) 8 0 (recordBytes old s c) (omega arith) (bytes-within old s c (leb-true _ _ e)))
     go false e = rw e (record { most = omega arith })
 
 within-shift : (m p : ℕ) (r : Verdict) → p ≤ m → Within (m - p) r → Within m (shift p r)

@@ -8,7 +8,7 @@ use lib.ListN.{length, getD, drop}
 use lib.Dec.{leb, eqb}
 use Rattle.stackmap.specs.declared.Verdict.{Verdict}
 use Rattle.stackmap.specs.declared.Verdict.the-variants.{Valid}
-use Rattle.stackmap.specs.Layout.{headerSize, versionNumber, headerZerosAt, headerZeros, numRecordsAt, functionSize, constantSize, sectionMost}
+use Rattle.stackmap.specs.Layout.{headerSize, versionNumber, numRecordsAt, functionSize, constantSize, sectionMost}
 use Rattle.stackmap.specs.Verdict.{must, chain, bind, shift}
 use Rattle.stackmap.specs.Section.{Function, numFunctions, numConstants, numRecords, isOld, constantsAt, recordsAt, readFunctions, Owner, recordOwners, counted}
 use Rattle.stackmap.specs.Record.{zeros, recordCheck}
@@ -17,13 +17,13 @@ use Rattle.stackmap.specs.Record.{zeros, recordCheck}
 abbrev pub versionRight : ℕ → Bool
 versionRight b = eqb b (versionNumber false) || eqb b (versionNumber true)
 
--- 1, 2, 3: the bytes of the header
+-- 1, 2, 3: the bytes of the header; three zero bytes follow the version
 unfoldable pub headerCheck : List ℕ → Verdict
 headerCheck s =
     must (leb headerSize (length s)) 1 0
     (must (leb (length s) sectionMost) 1 0
     (must (versionRight (getD s 0 0)) 2 0
-    (zeros headerZeros s headerZerosAt)))
+    (zeros 3 s 1)))
 
 -- 4: of m items of n bytes each from `at`, the first byte of the first that is not wholly inside
 unfoldable pub firstOutside : ℕ → ℕ → List ℕ → ℕ → ℕ

@@ -1,6 +1,6 @@
 -- The refusal of a section's bytes, said of the section as data: 1, 5, 8, 6 or 7, or its length. These are the refusals that
 -- bytes written from data can get. A place in a record is counted from the record's first byte.
-use Prim.Native.Nat.{ℕ, _+_, _≤_, _<_}
+use Prim.Native.Nat.{ℕ, _+_}
 use mathlib.Core.Path.{_≡_}
 use mathlib.Core.Bool.{Bool, true}
 use mathlib.Core.List.{List, [], _∷_, List·Memᴰ}
@@ -8,11 +8,11 @@ use lib.ListN.{length}
 use lib.Dec.{leb}
 use Rattle.stackmap.specs.declared.Verdict.{Verdict}
 use Rattle.stackmap.specs.declared.Verdict.the-variants.{Valid}
-use Rattle.stackmap.specs.Layout.{sectionMost, addressMost, negativeFrom, recordHeadSize, locationSize, kindLeast, kindMost, kindConstIndex, numRecordsAt}
+use Rattle.stackmap.specs.Layout.{sectionMost, recordHeadSize, locationSize, kindLeast, kindMost, numRecordsAt}
 use Rattle.stackmap.specs.Verdict.{must, chain, shift}
 use Rattle.stackmap.specs.Fields.{size}
 use Rattle.stackmap.specs.Section.{Function, Location, Section, recordFields, sectionFields, Encodable, Entry, address, entriesOf}
-use Rattle.stackmap.specs.Record.{poolCheck}
+use Rattle.stackmap.specs.Record.{poolCheck, addressRight}
 use Rattle.stackmap.specs.Check.{countsRight}
 
 unfoldable pub locationFault : Bool → ℕ → Location → ℕ → Verdict
@@ -28,7 +28,7 @@ locationsFault old constants (l ∷ ls) at =
 
 unfoldable pub entryFault : Bool → ℕ → Entry → Verdict
 entryFault old constants e =
-    must (leb (address e) addressMost) 8 0
+    must (addressRight old (address e)) 8 0
     (chain (locationsFault old constants (e .body .locations) recordHeadSize) (Valid (size (recordFields old (e .body)))))
 
 unfoldable pub entriesFault : Bool → ℕ → List Entry → ℕ → Verdict
@@ -42,22 +42,8 @@ sectionFault t =
     (must (countsRight (t .old) (t .functions) (length (t .records))) 5 numRecordsAt
     (entriesFault (t .old) (length (t .constants)) (entriesOf t) (size (sectionFields t))))
 
--- What an accepted section's data is.
-
--- a location of kind 1 to 5, whose pool entry exists where it has one
-pub record GoodLocation (constants : ℕ) (l : Location) : Type 0 where
-  pub kind-low : kindLeast ≤ l .kind
-  pub kind-high : l .kind ≤ kindMost
-  pub pool : l .kind ≡ kindConstIndex → (l .offset < negativeFrom) × (l .offset < constants)
-
-pub record GoodEntry (constants : ℕ) (e : Entry) : Type 0 where
-  pub address-fits : address e ≤ addressMost
-  pub locations-good : (l : Location) → List·Memᴰ l (e .body .locations) → GoodLocation constants l
-
+-- what an accepted section's data is: its numbers fit, version 1 states no record counts, and it has no fault
 pub record WellFormed (t : Section) : Type 0 where
   pub fits : Encodable t
-  pub small : size (sectionFields t) ≤ sectionMost
-  pub adds-up : countsRight (t .old) (t .functions) (length (t .records)) ≡ true
-  -- version 1 states no record counts
   pub no-counts : t .old ≡ true → (f : Function) → List·Memᴰ f (t .functions) → f .count ≡ 0
-  pub entries-good : (e : Entry) → List·Memᴰ e (entriesOf t) → GoodEntry (length (t .constants)) e
+  pub no-fault : sectionFault t ≡ Valid (size (sectionFields t))

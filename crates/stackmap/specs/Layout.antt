@@ -1,4 +1,5 @@
--- The numbers of document 01, "Section bytes", each named once: sizes in bytes, places in an item, paddings and limits.
+-- The numbers of document 01, "Section bytes", each named once: sizes in bytes, paddings, kinds and limits. A place in an item is
+-- written as its number, where the item is read.
 use Prim.Native.Nat.{ℕ, _+_, _*_, _-_, _%_, _^_}
 use mathlib.Core.Bool.{Bool, true, false}
 
@@ -14,19 +15,6 @@ abbrev pub versionNumber : Bool → ℕ
 versionNumber true = 1
 versionNumber false = 3
 
--- three zero bytes stand after the version
-abbrev pub headerZerosAt : ℕ
-headerZerosAt = 1
-
-abbrev pub headerZeros : ℕ
-headerZeros = 3
-
-abbrev pub numFunctionsAt : ℕ
-numFunctionsAt = 4
-
-abbrev pub numConstantsAt : ℕ
-numConstantsAt = 8
-
 abbrev pub numRecordsAt : ℕ
 numRecordsAt = 12
 
@@ -35,12 +23,6 @@ numRecordsAt = 12
 abbrev pub functionSize : Bool → ℕ
 functionSize true = 16
 functionSize false = 24
-
-abbrev pub stackSizeAt : ℕ
-stackSizeAt = 8
-
-abbrev pub recordCountAt : ℕ
-recordCountAt = 16
 
 -- a stack size that is not known
 abbrev pub stackSizeUnknown : ℕ
@@ -55,29 +37,10 @@ constantSize = 8
 abbrev pub recordHeadSize : ℕ
 recordHeadSize = 16
 
-abbrev pub instructionOffsetAt : ℕ
-instructionOffsetAt = 8
-
-abbrev pub flagsAt : ℕ
-flagsAt = 12
-
-abbrev pub flagsSize : ℕ
-flagsSize = 2
-
-abbrev pub numLocationsAt : ℕ
-numLocationsAt = 14
-
 -- 4 zero bytes if NumLocations is odd; none in version 1
 abbrev pub locationsPadding : Bool → ℕ → ℕ
 locationsPadding true n = 0
 locationsPadding false n = n % 2 * 4
-
--- 2 zero bytes and NumLiveOuts stand before the live-outs
-abbrev pub liveOutsHeadZeros : ℕ
-liveOutsHeadZeros = 2
-
-abbrev pub liveOutsHeadSize : ℕ
-liveOutsHeadSize = 4
 
 -- 4 zero bytes if NumLiveOuts is even
 abbrev pub liveOutsPadding : ℕ → ℕ
@@ -89,19 +52,6 @@ liveOutsPadding n = (n + 1) % 2 * 4
 abbrev pub locationSize : Bool → ℕ
 locationSize true = 8
 locationSize false = 12
-
-abbrev pub locationSizeAt : Bool → ℕ
-locationSizeAt true = 1
-locationSizeAt false = 2
-
--- the width of the size
-abbrev pub locationSizeWidth : Bool → ℕ
-locationSizeWidth true = 1
-locationSizeWidth false = 2
-
-abbrev pub locationRegisterAt : Bool → ℕ
-locationRegisterAt true = 2
-locationRegisterAt false = 4
 
 abbrev pub locationOffsetAt : Bool → ℕ
 locationOffsetAt true = 4
@@ -126,12 +76,6 @@ negativeFrom = 2 ^ 31
 
 abbrev pub liveOutSize : ℕ
 liveOutSize = 4
-
-abbrev pub liveOutZeroAt : ℕ
-liveOutZeroAt = 2
-
-abbrev pub liveOutSizeAt : ℕ
-liveOutSizeAt = 3
 
 -- Limits: a section's length, and an address.
 

@@ -8,7 +8,7 @@ use lib.Dec.{ltb, leb, eqb}
 use Rattle.wire.specs.Word.{word}
 use Rattle.stackmap.specs.declared.Verdict.{Verdict}
 use Rattle.stackmap.specs.declared.Verdict.the-variants.{Valid}
-use Rattle.stackmap.specs.Layout.{recordHeadSize, instructionOffsetAt, flagsAt, flagsSize, locationsPadding, liveOutsHeadZeros, liveOutsPadding, locationSize, locationOffsetAt, kindLeast, kindMost, kindConstIndex, negativeFrom, liveOutSize, liveOutZeroAt, addressMost}
+use Rattle.stackmap.specs.Layout.{recordHeadSize, locationsPadding, liveOutsPadding, locationSize, locationOffsetAt, kindLeast, kindMost, kindConstIndex, negativeFrom, liveOutSize, addressMost}
 use Rattle.stackmap.specs.Verdict.{must, chain, pick}
 use Rattle.stackmap.specs.Section.{numLocations, numLiveOuts, liveOutsAt, recordLength}
 
@@ -45,27 +45,32 @@ unfoldable pub locations : Bool → ℕ → List ℕ → ℕ → ℕ → Verdict
 locations old zero s c at = Valid at
 locations old (suc n) s c at = chain (locationCheck old s c at) (locations old n s c (at + locationSize old))
 
--- n live-outs from `at`
+-- n live-outs from `at`: the third byte of each is zero
 unfoldable pub liveOuts : ℕ → List ℕ → ℕ → Verdict
 liveOuts zero s at = Valid at
 liveOuts (suc n) s at =
-    must (eqb (getD s (at + liveOutZeroAt) 0) 0) 3 (at + liveOutZeroAt) (liveOuts n s (at + liveOutSize))
+    must (eqb (getD s (at + 2) 0) 0) 3 (at + 2) (liveOuts n s (at + liveOutSize))
 
 -- 4: it is wholly inside
 unfoldable pub recordInside : Bool → List ℕ → Verdict
 recordInside old s = must (leb (recordLength old s) (length s)) 4 0 (Valid (recordLength old s))
 
--- its bytes from left to right
+-- its bytes from left to right: the flags, the locations, the padding with 2 zero bytes more, the live-outs, the padding
 unfoldable pub recordBytes : Bool → List ℕ → ℕ → Verdict
 recordBytes old s c =
-    chain (zeros flagsSize s flagsAt)
+    chain (zeros 2 s 12)
     (chain (locations old (numLocations s) s c recordHeadSize)
-    (chain (zeros (locationsPadding old (numLocations s) + liveOutsHeadZeros) s (recordHeadSize + locationSize old * numLocations s))
+    (chain (zeros (locationsPadding old (numLocations s) + 2) s (recordHeadSize + locationSize old * numLocations s))
     (chain (liveOuts (numLiveOuts old s) s (liveOutsAt old s))
     (chain (zeros (liveOutsPadding (numLiveOuts old s)) s (liveOutsAt old s + liveOutSize * numLiveOuts old s))
     (Valid (recordLength old s))))))
 
--- 4, 8, then its bytes; it belongs to a function at the address a, which is 0 in version 1, where 8 isn't given
+-- 8: a record's address, its function's plus its instruction offset, is one; version 1 does not say whose a record is
+unfoldable pub addressRight : Bool → ℕ → Bool
+addressRight true a = true
+addressRight false a = leb a addressMost
+
+-- 4, 8, then its bytes; it belongs to a function at the address a
 unfoldable pub recordCheck : Bool → List ℕ → ℕ → ℕ → Verdict
 recordCheck old s c a =
-    chain (recordInside old s) (must (leb (a + word 4 s instructionOffsetAt) addressMost) 8 0 (recordBytes old s c))
+    chain (recordInside old s) (must (addressRight old (a + word 4 s 8)) 8 0 (recordBytes old s c))

@@ -5,7 +5,7 @@ use mathlib.Core.List.{List, [], _∷_, _++_}
 use lib.Dec.{eqb, ltb}
 use lib.ListN.{length, getD, drop, replicate}
 use Rattle.wire.specs.Word.{word}
-use Rattle.stackmap.specs.Layout.{headerSize, versionNumber, headerZeros, numFunctionsAt, numConstantsAt, numRecordsAt, functionSize, stackSizeAt, recordCountAt, constantSize, recordHeadSize, instructionOffsetAt, flagsSize, numLocationsAt, locationsPadding, liveOutsHeadZeros, liveOutsHeadSize, liveOutsPadding, locationSize, locationSizeAt, locationSizeWidth, locationRegisterAt, locationOffsetAt, negativeFrom, liveOutSize, liveOutSizeAt}
+use Rattle.stackmap.specs.Layout.{headerSize, versionNumber, numRecordsAt, functionSize, constantSize, recordHeadSize, locationsPadding, liveOutsPadding, locationSize, negativeFrom, liveOutSize}
 use Rattle.stackmap.specs.Fields.{Field, _of_, bytesOf, size, Fit, all, many}
 
 pub record Function : Type 0 where
@@ -71,11 +71,11 @@ liveOutFields o = (2 of o .register) ∷ (1 of 0) ∷ (1 of o .size) ∷ []
 
 -- ID (8), instruction offset (4), flags (2, zero here), NumLocations (2)
 abbrev pub recordHead : Record → List Field
-recordHead r = (8 of r .id) ∷ (4 of r .offset) ∷ (flagsSize of 0) ∷ (2 of length (r .locations)) ∷ []
+recordHead r = (8 of r .id) ∷ (4 of r .offset) ∷ (2 of 0) ∷ (2 of length (r .locations)) ∷ []
 
--- the padding after the locations, and 2 zero bytes; NumLiveOuts (2)
+-- the padding after the locations and 2 zero bytes; NumLiveOuts (2)
 abbrev pub recordMiddle : Bool → Record → List Field
-recordMiddle old r = ((locationsPadding old (length (r .locations)) + liveOutsHeadZeros) of 0) ∷ (2 of length (r .liveOuts)) ∷ []
+recordMiddle old r = ((locationsPadding old (length (r .locations)) + 2) of 0) ∷ (2 of length (r .liveOuts)) ∷ []
 
 -- the padding after the live-outs
 abbrev pub recordEnd : Record → List Field
@@ -88,7 +88,7 @@ recordFields old r =
 -- version (one byte), three zero bytes, then NumFunctions, NumConstants, NumRecords (4 bytes each)
 abbrev pub header : Section → List Field
 header t =
-    (1 of versionNumber (t .old)) ∷ (headerZeros of 0)
+    (1 of versionNumber (t .old)) ∷ (3 of 0)
     ∷ (4 of length (t .functions)) ∷ (4 of length (t .constants)) ∷ (4 of length (t .records)) ∷ []
 
 unfoldable pub sectionFields : Section → List Field
@@ -103,13 +103,14 @@ encodeSection t = bytesOf (sectionFields t)
 abbrev pub Encodable : Section → Type 0
 Encodable t = Fit (sectionFields t)
 
--- What a list of bytes is read as.
+-- What a list of bytes is read as: each number from where the fields above put it.
 
+-- the header's counts, 4 bytes each after the version and three zero bytes
 abbrev pub numFunctions : List ℕ → ℕ
-numFunctions s = word 4 s numFunctionsAt
+numFunctions s = word 4 s 4
 
 abbrev pub numConstants : List ℕ → ℕ
-numConstants s = word 4 s numConstantsAt
+numConstants s = word 4 s 8
 
 abbrev pub numRecords : List ℕ → ℕ
 numRecords s = word 4 s numRecordsAt
@@ -127,39 +128,33 @@ recordsAt s = constantsAt s + constantSize * numConstants s
 
 -- version 1 states no record count
 unfoldable pub readFunction : Bool → List ℕ → ℕ → Function
-readFunction true s at = record { address = word 8 s at; stackSize = word 8 s (at + stackSizeAt); count = 0 }
-readFunction false s at =
-    record { address = word 8 s at; stackSize = word 8 s (at + stackSizeAt); count = word 8 s (at + recordCountAt) }
+readFunction true s at = record { address = word 8 s at; stackSize = word 8 s (at + 8); count = 0 }
+readFunction false s at = record { address = word 8 s at; stackSize = word 8 s (at + 8); count = word 8 s (at + 16) }
 
 unfoldable pub readConstant : List ℕ → ℕ → ℕ
 readConstant s at = word 8 s at
 
 unfoldable pub readLocation : Bool → List ℕ → ℕ → Location
-readLocation old s at =
-    record {
-      kind = word 1 s at;
-      size = word (locationSizeWidth old) s (at + locationSizeAt old);
-      register = word 2 s (at + locationRegisterAt old);
-      offset = word 4 s (at + locationOffsetAt old);
-    }
+readLocation true s at = record { kind = word 1 s at; size = word 1 s (at + 1); register = word 2 s (at + 2); offset = word 4 s (at + 4) }
+readLocation false s at = record { kind = word 1 s at; size = word 2 s (at + 2); register = word 2 s (at + 4); offset = word 4 s (at + 8) }
 
 unfoldable pub readLiveOut : List ℕ → ℕ → LiveOut
-readLiveOut s at = record { register = word 2 s at; size = word 1 s (at + liveOutSizeAt) }
+readLiveOut s at = record { register = word 2 s at; size = word 1 s (at + 3) }
 
 -- The record at the start of s.
 
 abbrev pub numLocations : List ℕ → ℕ
-numLocations s = word 2 s numLocationsAt
+numLocations s = word 2 s 14
 
 -- where the locations and their padding end
 abbrev pub locationsEnd : Bool → List ℕ → ℕ
 locationsEnd old s = recordHeadSize + locationSize old * numLocations s + locationsPadding old (numLocations s)
 
 abbrev pub numLiveOuts : Bool → List ℕ → ℕ
-numLiveOuts old s = word 2 s (locationsEnd old s + liveOutsHeadZeros)
+numLiveOuts old s = word 2 s (locationsEnd old s + 2)
 
 abbrev pub liveOutsAt : Bool → List ℕ → ℕ
-liveOutsAt old s = locationsEnd old s + liveOutsHeadSize
+liveOutsAt old s = locationsEnd old s + 4
 
 unfoldable pub recordLength : Bool → List ℕ → ℕ
 recordLength old s = liveOutsAt old s + liveOutSize * numLiveOuts old s + liveOutsPadding (numLiveOuts old s)
@@ -168,7 +163,7 @@ unfoldable pub readRecord : Bool → List ℕ → Record
 readRecord old s =
     record {
       id = word 8 s 0;
-      offset = word 4 s instructionOffsetAt;
+      offset = word 4 s 8;
       locations = many (readLocation old) (locationSize old) (numLocations s) s recordHeadSize;
       liveOuts = many readLiveOut liveOutSize (numLiveOuts old s) s (liveOutsAt old s);
     }

@@ -14,6 +14,7 @@ use Rattle.stackmap.specs.declared.Verdict.the-variants.{Valid}
 use Rattle.stackmap.specs.Layout.{locationSize, locationsPadding}
 use Rattle.stackmap.specs.Verdict.{must, chain, pick}
 use Rattle.stackmap.specs.Section.{numLocations, locationsEnd, recordLength}
+use Rattle.stackmap.proofs.Addresses.{address-fits}
 use Rattle.stackmap.specs.Record.{zeros, locationZeros, poolCheck, locationCheck, locations, liveOuts, recordInside, recordBytes, recordCheck}
 use Rattle.stackmap_quick.specs.Quick.{Ending}
 use Rattle.stackmap.proofs.Items.{zeros-back}
@@ -150,7 +151,7 @@ module _ (old : Bool) (s : List ℕ) (c a next : ℕ) (ending : Ending s (locati
       rw (
         long,
         le-leb _ _ (ending .inside),
-        le-leb _ _ reach,
+        address-fits old _ reach,
         zeros-back 2 s 12 flags,
         right,
         zeros-back (locationsPadding old (numLocations s) + 2) s (16 + locationSize old * numLocations s) (padded (locationsPadding old (numLocations s)) s _ pad (ending .zeros)),

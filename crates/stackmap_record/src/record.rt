@@ -7,7 +7,7 @@ ghost use lib.ListN.{length};
 ghost use Rattle.stackmap.specs.Layout.{locationSize, liveOutSize};
 ghost use Rattle.stackmap.specs.Section.{recordLength};
 ghost use Rattle.wire.specs.Word.{word};
-ghost use Rattle.stackmap.specs.Record.{zeros, poolCheck, locationCheck, locations, liveOuts, recordInside, recordBytes, recordCheck};
+ghost use Rattle.stackmap.specs.Record.{zeros, poolCheck, locationCheck, locations, liveOuts, recordInside, recordBytes, addressRight, recordCheck};
 use stackmap::Verdict;
 use stackmap::layout;
 
@@ -181,6 +181,19 @@ fn record_bytes(s: &[u8], old: bool, constants: u32) -> Verdict
     Verdict::Valid(pad2 + (outs + 1) % 2 * 4)
 }
 
+// Whether a function's address and an instruction offset add up to an address; version 1 does not say whose a record is.
+fn address_right(old: bool, address: u64, offset: u64) -> bool
+    ensures { λ r. ⌜ r ≡ addressRight old (address + offset) ⌝ }
+{
+    if old {
+        return true;
+    }
+    if offset > layout::ADDRESS_MOST - address {
+        return false;
+    }
+    true
+}
+
 // The record at the start of `s`, of a function at `address`.
 pub fn check_record(s: &[u8], old: bool, constants: u32, address: u64) -> Verdict
     ensures { λ r. ⌜ r ≡ recordCheck old (now (s .entry)) constants address ⌝ }
@@ -189,7 +202,7 @@ pub fn check_record(s: &[u8], old: bool, constants: u32, address: u64) -> Verdic
         return Verdict::Refused(n, p);
     }
     let offset = wire::u32_at(s, layout::INSTRUCTION_OFFSET_AT) as u64;
-    if offset > layout::ADDRESS_MOST - address {
+    if !address_right(old, address, offset) {
         return Verdict::Refused(8, 0);
     }
     record_bytes(s, old, constants)

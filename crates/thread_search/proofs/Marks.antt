@@ -9,7 +9,8 @@ use borrow.Author.Tests.{eq-eqb, ne-eqb, leb-true}
 use lib.ListN.{length, getD, set, drop, length-set}
 use lib.Seq.{getD-set-same, getD-set-other}
 use lib.Dec.{eqb}
-use Rattle.wire.specs.Word.{word}
+use Rattle.wire.specs.Word.{Bytes, word}
+use Rattle.wire.proofs.Laws.{word-bound, word-drop}
 use Rattle.stackmap.specs.declared.Verdict.{Verdict}
 use Rattle.stackmap.specs.declared.Verdict.the-variants.{Valid, Refused}
 use Rattle.stackmap.specs.Verdict.{must, chain, bind, shift}
@@ -18,6 +19,7 @@ use Rattle.stackmap.specs.Record.{recordCheck}
 use Rattle.stackmap.specs.Check.{headerCheck, tablesCheck, recordsCheck, walkCheck, sectionCheck}
 use Rattle.stackmap.specs.Walk.{ownerAt, entryAt}
 use Rattle.stackmap.proofs.Verdicts.{never, must-held, chain-rest, shift-valid}
+use Rattle.stackmap.proofs.Addresses.{same-test, owner-zero}
 use Rattle.stackmap.proofs.OneWalk.{fold}
 use Rattle.stackmap.proofs.Within.{section-parts}
 use Rattle.questions.specs.declared.Hits.{Hits}
@@ -144,13 +146,15 @@ counted-stored before after i m h t l c = record { most = λ j. go j (decLt j i)
         let q = ap (λ (x : Hits). x .sharing) (t .here) in
         rw z (omega arith)
 
--- a valid record's address fits: refusal 8
-pub address-fits : (s : List ℕ) (c number function p q : ℕ) → shift p (recordCheck (isOld s) (drop p s) c (ownerAt s function .function .address)) ≡ Valid q
+-- a valid record's address fits: refusal 8, and in version 1 it is an offset of 32 bits
+pub address-fits : (s : List ℕ) (c number function p q : ℕ) → Bytes s → shift p (recordCheck (isOld s) (drop p s) c (ownerAt s function .function .address)) ≡ Valid q
     → address (entryAt s number function p) < 2 ^ 64
 unfolding recordCheck address readRecord
-address-fits s c number function p q v =
+address-fits s c number function p q w v =
     let x = shift-valid _ _ _ v in
-    let m : ownerAt s function .function .address + word 4 (drop p s) 8 ≤ 2 ^ 64 - 1 = leb-true _ _ (must-held _ _ _ _ _ (chain-rest _ _ _ (x .1))) in
+    let k : word 4 (drop p s) 8 < 2 ^ 32 = rw word-drop (word-bound 4 s (p + 8) w) in
+    let e = same-test (isOld s) (ownerAt s function .function .address) (word 4 (drop p s) 8) (owner-zero (isOld s) s function) k in
+    let m : ownerAt s function .function .address + word 4 (drop p s) 8 ≤ 2 ^ 64 - 1 = leb-true _ _ (sym e ∙ must-held _ _ _ _ _ (chain-rest _ _ _ (x .1))) in
     omega arith
 
 -- The whole walk.

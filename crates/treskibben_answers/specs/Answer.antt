@@ -1,10 +1,11 @@
 -- The answers that cross the C boundary: number, place, and what was asked for.
 use Rattle.stackmap.specs.declared.Verdict.{Verdict}
 use Rattle.stackmap.specs.Verdict.{numberOf, placeOf}
+use Rattle.stackmap.specs.Section.{offsetBits}
 use Rattle.questions.specs.declared.Found.{Found}
 use Rattle.questions.specs.declared.Located.{Located}
-use Rattle.questions.specs.declared.LocationAnswer.{LocationAnswer}
 use Rattle.questions.specs.declared.LiveOutAnswer.{LiveOutAnswer}
+use Rattle.questions.specs.Questions.{SignedLocation}
 use Rattle.listing.specs.Listing.{Converted}
 use Rattle.moves.specs.declared.Move.{Move}
 use Rattle.relocate.specs.declared.Frame.{Frame}
@@ -39,14 +40,14 @@ foundAt f = record { number = f .number; place = f .place; index = f .index; fun
 abbrev pub standsAt : Located → Stands
 standsAt l = record { number = l .number; place = l .place; first = l .first; length = l .size }
 
--- the offset is its 32 bits: `asOffset` says which signed number they are
-abbrev pub locationOf : LocationAnswer → Location
+-- the offset crosses as its 32 bits, which are those of an int32_t
+abbrev pub locationOf : SignedLocation → Location
 locationOf l =
     record {
       number = l .number;
       place = l .place;
       constant = l .constant;
-      offset = l .offset;
+      offset = offsetBits (l .offset);
       size = l .size;
       register = l .register;
       kind = l .kind;

@@ -1,6 +1,7 @@
 // What crosses the C boundary: the structs, and the answers of the layers below turned into them, field by field.
 ghost use mathlib.Core.Path.{_≡_};
 ghost use Rattle.treskibben_answers.specs.Answer.{answer, moveAnswer, frameOf, foundAt, standsAt, locationOf, liveOutOf};
+ghost use Rattle.questions.specs.Questions.{signed};
 ghost use Rattle.treskibben_answers.specs.Version.{version};
 use stackmap::Verdict;
 
@@ -93,7 +94,7 @@ pub struct Location {
 }
 
 pub fn location_answer(l: questions::LocationAnswer) -> Location
-    ensures { λ r. ⌜ r ≡ locationOf l ⌝ }
+    ensures { λ r. ⌜ r ≡ locationOf (signed l) ⌝ }
 {
     Location {
         number: l.number as u64,

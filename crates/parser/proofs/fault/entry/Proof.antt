@@ -1,7 +1,6 @@
 use Prim.Native.Nat.{_+_, _-_, _^_, _<_}
-use borrow.Author.Tests.{lt-leb}
-use Rattle.stackmap.specs.Verdict.{must, chain}
-use Rattle.parser.proofs.Faults.{entry-listed, entry-fits}
+use Rattle.stackmap.specs.Verdict.{chain}
+use Rattle.parser.proofs.Faults.{entry-over, entry-fits}
 use borrow.Author.Needs.{needs}
 use native.Mathlib.Omega.{arith}
 use Rattle.parser.proofs.fault.entry.Statement.{statement}
@@ -23,11 +22,9 @@ sub-if1 : tie.Need-sub-if1
 sub-if1 c = search needs
 
 returns : tie.Need-returns
-unfolding must
 returns c =
     let a = c .before .before .before .before .args in
-    let over : 2 ^ 64 - 1 < c .before .before .owner-address .result + c .before .u32-at .result = omega arith in
-    rw (entry-listed (a .plan .old) (a .function) (a .place) (a .plan .constants) (c .before .before .before .before .pre .0), ← c .before .before .owner-address .ensures, ← c .before .u32-at .ensures, lt-leb _ _ over)
+    rw (entry-over (a .plan .old) (a .function) (a .place) (a .plan .constants) (c .before .before .before .before .pre .0) (omega arith) (omega (arith, c .before .before .owner-address .ok)))
 
 add-first : tie.Need-add-first
 add-first c = search needs

@@ -1,7 +1,7 @@
 -- Where the record stands, then what stands in it.
-use mathlib.Core.Path.{sym, _∙_}
+use mathlib.Core.Path.{sym, ap, _∙_}
 use native.Mathlib.Omega.{arith}
-use Rattle.questions.specs.Questions.{locationAnswer}
+use Rattle.questions.specs.Questions.{signed, locationAnswer}
 use Rattle.questions.proofs.Standing.{refused-at, found-at}
 use borrow.Author.Needs.{needs}
 use Rattle.questions_read.proofs.read.location.Statement.{statement}
@@ -15,7 +15,7 @@ no-location-requires c κs = search needs
 
 returns : tie.Need-returns
 unfolding locationAnswer
-returns c = c .no-location .ensures ∙ sym (refused-at _ _ (c .before .before .before .before .before .args .s .now) (c .before .before .before .before .before .args .wanted) _ (c .before .before .before .locate .ensures .0) (c .before .if1 .taken))
+returns c = ap signed (c .no-location .ensures ∙ sym (refused-at _ _ (c .before .before .before .before .before .args .s .now) (c .before .before .before .before .before .args .wanted) _ (c .before .before .before .locate .ensures .0) (c .before .if1 .taken)))
 
 location-in-requires : tie.Need-location-in-requires
 location-in-requires c κs =
@@ -26,7 +26,7 @@ returns-2 : tie.Need-returns-2
 unfolding locationAnswer
 returns-2 c =
     let h = found-at _ _ (c .before .before .before .before .before .args .s .now) (c .before .before .before .before .before .args .wanted) _ (c .before .before .before .locate .ensures .0) (c .before .if1 .left) in
-    c .location-in .ensures ∙ sym (h .answer ∙ rw (h .body))
+    ap signed (c .location-in .ensures ∙ sym (h .answer ∙ rw (h .body)))
 
 pub location-spec : {M : Type 1} → statement M
 location-spec =

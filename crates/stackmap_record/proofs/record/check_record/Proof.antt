@@ -1,9 +1,9 @@
 use Prim.Native.Nat.{_+_, _<_, _≤_}
 use native.Mathlib.Omega.{arith}
 use mathlib.Core.Path.{sym, _∙_}
-use borrow.Author.Tests.{lt-leb, le-leb}
 use Rattle.stackmap.specs.Record.{recordCheck}
 use Rattle.stackmap.specs.Verdict.{chain, must}
+use Rattle.stackmap.proofs.Tests.{not-true, not-false}
 use Rattle.stackmap.proofs.Within.{is-inside, header-inside}
 use borrow.Author.Needs.{needs}
 use Rattle.stackmap_record.proofs.record.check_record.Statement.{statement}
@@ -28,23 +28,21 @@ u32-at-requires c κs = let h = header-inside _ _ (is-inside _ _ _ (sym (c .befo
 cast-offset : tie.Need-cast-offset
 cast-offset c = search needs
 
-sub-if1 : tie.Need-sub-if1
-sub-if1 c = search needs
+address-right-requires : tie.Need-address-right-requires
+address-right-requires c κs = search needs
 
 returns-2 : tie.Need-returns-2
 unfolding recordCheck chain must
 returns-2 c =
-    let h : 18446744073709551615 < c .before .before .before .before .before .before .args .address + c .before .u32-at .result = omega arith in
-    rw (← c .before .before .before .before .record-inside .ensures, c .before .before .enum-told .given .1, ← c .before .u32-at .ensures, lt-leb _ _ h)
+    rw (← c .before .before .before .before .before .record-inside .ensures, c .before .before .before .enum-told .given .1, ← c .before .before .u32-at .ensures, ← c .before .address-right .ensures, not-true (c .before .address-right .result) (c .if1 .taken))
 
 record-bytes-requires : tie.Need-record-bytes-requires
-record-bytes-requires c κs = is-inside _ _ _ (sym (c .before .before .before .before .record-inside .ensures) ∙ c .before .before .enum-told .given .1)
+record-bytes-requires c κs = is-inside _ _ _ (sym (c .before .before .before .before .before .record-inside .ensures) ∙ c .before .before .before .enum-told .given .1)
 
 returns-3 : tie.Need-returns-3
 unfolding recordCheck chain must
 returns-3 c =
-    let h : c .before .before .before .before .before .before .before .args .address + c .before .before .u32-at .result ≤ 18446744073709551615 = omega arith in
-    rw (← c .before .before .before .before .before .record-inside .ensures, c .before .before .before .enum-told .given .1, ← c .before .before .u32-at .ensures, le-leb _ _ h, ← c .record-bytes .ensures)
+    rw (← c .before .before .before .before .before .before .record-inside .ensures, c .before .before .before .before .enum-told .given .1, ← c .before .before .before .u32-at .ensures, ← c .before .before .address-right .ensures, not-false (c .before .before .address-right .result) (c .before .if1 .left), ← c .record-bytes .ensures)
 
 pub check-record-spec : {M : Type 1} → statement M
 check-record-spec =
@@ -56,7 +54,7 @@ check-record-spec =
     enum-told
     u32-at-requires
     cast-offset
-    sub-if1
+    address-right-requires
     returns-2
     record-bytes-requires
     returns-3)

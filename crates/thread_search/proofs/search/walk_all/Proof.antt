@@ -2,6 +2,7 @@
 use Prim.Native.Nat.{ℕ, _+_, _-_, _^_, _≤_, _<_}
 use mathlib.Core.Path.{_≡_, sym, _∙_}
 use native.Mathlib.Omega.{arith}
+use Rattle.wire.specs.Word.{Bytes}
 use Rattle.stackmap.specs.Walk.{entryAt}
 use Rattle.stackmap.proofs.Turns.{walk-stop, walk-end}
 use Rattle.stackmap.proofs.OneWalk.{Folding, fold-start, fold-on, fold-end}
@@ -82,7 +83,8 @@ mark-requires c κs =
     let q = c .before .before .before .before .before .before .before .before .before .before .before .before .before .before in
     let v = sym (c .before .before .before .before .before .record-at .ensures) ∙ c .before .before .before .end .given .1 in
     let i = here-inside _ _ _ _ _ _ (w .inside) v in
-    (c .before .owner-address .ensures, i, omega (arith, c .before .before .before .before .before .before .before .before .loop .inv .4), address-fits (q .args .s .now) _ (c .before .before .before .before .before .before .before .before .loop .index) _ _ _ v, q .pre .3, q .pre .4, c .before .before .before .before .before .before .before .before .loop .inv .3)
+    let b : Bytes (q .args .s .now) = record { below = λ j. omega (arith, c .before .before .before .before .before .before .before .before .before .before .before .before .before .shared-slice-known .given j) } in
+    (c .before .owner-address .ensures, i, omega (arith, c .before .before .before .before .before .before .before .before .loop .inv .4), address-fits (q .args .s .now) _ (c .before .before .before .before .before .before .before .before .loop .index) _ _ _ b v, q .pre .3, q .pre .4, c .before .before .before .before .before .before .before .before .loop .inv .3)
 
 sub-t24 : tie.Need-sub-t24 Inv-loop μ-loop
 sub-t24 c = search needs
