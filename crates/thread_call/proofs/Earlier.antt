@@ -25,6 +25,7 @@ use Rattle.relocate.proofs.Demand.{accepts}
 use Rattle.thread.specs.Thread.{frameAt, framesFrom, share, sharesOne, apart}
 use Rattle.thread.specs.Code.{sharesAny, Apart, Sited}
 use Rattle.thread.proofs.StretchesApart.{share-empty-2, apart-none, none-shares}
+use Rattle.thread_stretches.specs.Listed.{AllApart}
 use Rattle.thread_call.proofs.Judging.{frames-step, frames-end, frames-start}
 
 -- One frame's extent.
@@ -127,3 +128,20 @@ module _ (s ns : List ℕ) where
     pub keeping-end : {k kept : ℕ} {starts ends : List ℕ} → Keeping k kept starts ends → n ≤ k → (m : Move) → whole m ≡ cond (ltb k n) (refusedMove 26 k) m
     unfolding apart
     keeping-end {k} g l m = g .same m ∙ rw (frames-end ns n k l, le-ltb k n l)
+
+    -- Where no two share a byte, none is refused.
+    module _ (c : AllApart (λ j. extentOf s (frameAt ns j) .start) (λ j. extentOf s (frameAt ns j) .end) n) where
+      none-earlier : (k j : ℕ) → k < n → j ≤ k → sharesOne (extentOf s (frameAt ns k)) (earlierOf j) ≡ false
+      none-earlier k zero l m = refl
+      none-earlier k (suc j) l m = rw (c .apart k j l (omega arith) (λ z. omega arith)) (none-earlier k j l (omega arith))
+
+      up-to : (k : ℕ) → k ≤ n → (m : Move) → whole m ≡ from k m
+      unfolding apart
+      up-to zero l m = rw (frames-start ns n)
+      up-to (suc k) l m =
+          let z : k + 1 ≡ suc k = omega arith in
+          up-to k (omega arith) m ∙ rw (frames-step ns n k l, none-earlier k k l (omega arith), z)
+
+      pub none-shared : (m : Move) → whole m ≡ cond (ltb n n) (refusedMove 26 n) m
+      unfolding apart
+      none-shared m = up-to n (omega arith) m ∙ rw (frames-end ns n n (omega arith), le-ltb n n (omega arith))

@@ -1,34 +1,41 @@
--- The addresses are put in order one by one.
+-- The addresses are copied and put in order.
 use Prim.Native.Nat.{ℕ, _+_, _*_, _/_, _%_, _≤_, _<_}
-use mathlib.Core.Path.{_≡_, refl}
+use mathlib.Core.Path.{_≡_, refl, _∙_}
 use mathlib.Core.Bool.{true}
 use mathlib.Core.List.{List}
 use native.Mathlib.Omega.{arith}
 use native.Mathlib.Decide.{decLt}
 use borrow.Author.Tests.{leb-true}
 use lib.Dec.{eqb, leb}
-use lib.ListN.{length, getD}
-use Rattle.sorted.specs.Sorted.{Sorted, LowerBound, Inserted, EntryOf}
-use Rattle.sorted.proofs.Laws.{old-kept, new-there, inserted-sorted}
+use lib.ListN.{length, getD, set}
+use lib.Seq.{getD-set-same, getD-set-other}
+use Rattle.sorted.specs.Sorted.{Sorted}
+use Rattle.sorted_numbers.specs.Numbers.{Rearranged}
 use Rattle.stackmap.proofs.Tests.{and-true}
 use Rattle.thread.specs.Thread.{listRight, frameAt}
 use Rattle.thread.specs.Code.{Gathered}
 
-pub gathered-start : (ns keys : List ℕ) → Gathered ns keys 0
-gathered-start ns keys = record { sorted = record { order = λ i j a b. absurd (omega arith) }; each = λ k l. absurd (omega arith) }
+-- the first k are copied
+pub record Copied (ns keys : List ℕ) (k : ℕ) : Type 0 where
+  pub at : (j : ℕ) → j < k → getD keys j 0 ≡ frameAt ns j .address
 
-pub gathered-on : (ns before after : List ℕ) (k x r : ℕ) → Gathered ns before k → LowerBound before k x r → Inserted before after k r x
-    → x ≡ frameAt ns k .address → Gathered ns after (k + 1)
-gathered-on ns before after k x r g b i e =
-    record { sorted = inserted-sorted (g .sorted) b i; each = λ j l. go j l (decLt j k) }
+pub copied-start : (ns keys : List ℕ) → Copied ns keys 0
+copied-start ns keys = record { at = λ j l. absurd (omega arith) }
+
+pub copied-on : {ns keys : List ℕ} {k : ℕ} (v : ℕ) → Copied ns keys k → k < length keys → v ≡ frameAt ns k .address → Copied ns (set keys k v) (k + 1)
+copied-on {ns} {keys} {k} v c l e = record { at = λ j m. go j m (decLt j k) }
   where
-    go : (j : ℕ) → j < k + 1 → Dec (j < k) → EntryOf after (k + 1) (frameAt ns j .address)
-    go j l (yes m) =
-        let o = g .each j m in
-        rw (← o .same) (old-kept i (o .place) (o .inside) (b .most))
-    go j l (no m) =
+    go : (j : ℕ) → j < k + 1 → Dec (j < k) → getD (set keys k v) j 0 ≡ frameAt ns j .address
+    go j m (yes d) = getD-set-other keys k j v 0 (λ z. omega arith) ∙ c .at j d
+    go j m (no d) =
         let z : j ≡ k = omega arith in
-        rw (z, ← e) (new-there i (b .most))
+        rw z (getD-set-same keys k v 0 l ∙ e)
+
+-- copied and put in order
+pub gathered : (ns before after : List ℕ) (n : ℕ) → ((j : ℕ) → j < n → getD before j 0 ≡ frameAt ns j .address) → Rearranged before after n → Sorted after n
+    → Gathered ns after n
+gathered ns before after n c r s =
+    record { sorted = s; each = λ k l. record { place = r .place k; inside = r .inside k l; same = r .same k l ∙ c k l } }
 
 pub first-number : (ns : List ℕ) (k : ℕ) → getD ns (4 * k) 0 ≡ frameAt ns k .address
 unfolding frameAt

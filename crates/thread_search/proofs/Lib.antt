@@ -1,2 +1,2 @@
 pub mod Gathering
-pub mod Marks
+pub mod Walked

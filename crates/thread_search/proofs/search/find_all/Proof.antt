@@ -1,7 +1,7 @@
 use mathlib.Core.Path.{sym, _∙_}
 use native.Mathlib.Omega.{arith}
 use Rattle.stackmap.proofs.Within.{begin-held}
-use Rattle.thread_search.proofs.Marks.{section-stop, section-on, never-valid}
+use Rattle.thread_search.proofs.Walked.{section-stop, section-on, never-valid}
 use borrow.Author.Needs.{needs}
 use Rattle.thread_search.proofs.search.find_all.Statement.{statement}
 use Rattle.thread_search.proofs.search.find_all.Tie as tie

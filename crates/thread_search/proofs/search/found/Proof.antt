@@ -1,6 +1,6 @@
 use mathlib.Core.Path.{sym, _∙_}
 use native.Mathlib.Omega.{arith}
-use Rattle.thread_search.proofs.Marks.{at-bound, found-there, found-10, found-0}
+use Rattle.thread_search.proofs.Walked.{at-bound, found-there, found-10, found-0}
 use borrow.Author.Needs.{needs}
 use Rattle.thread_search.proofs.search.found.Statement.{statement}
 use Rattle.thread_search.proofs.search.found.Tie as tie

@@ -9,19 +9,21 @@ use Rattle.stackmap.proofs.OneWalk.{Folding, fold-start, fold-on, fold-end}
 use Rattle.stackmap.proofs.Within.{here-inside}
 use Rattle.questions.specs.declared.Hits.{Hits}
 use Rattle.questions.specs.Kept.{noHits}
+use Rattle.sorted_numbers.specs.Numbers.{Between}
+use Rattle.sorted_numbers.proofs.Gaps.{between-start}
 use Rattle.thread.specs.Code.{Holding, Counted, notedAll}
-use Rattle.thread_search.proofs.Marks.{address-fits, sought, walk-refused, walk-after, walk-whole, never-valid}
+use Rattle.thread_search.proofs.Walked.{address-fits, sought, walk-refused, walk-after, walk-whole, never-valid}
 use borrow.Author.Needs.{needs}
 use Rattle.thread_search.proofs.search.walk_all.Statement.{statement}
 use Rattle.thread_search.proofs.search.walk_all.Tie as tie
 
 abbrev Inv-loop : tie.InvT-loop
-Inv-loop s at keys count hits₀ constants remaining₀ index₀ old turn₀ p₀ hits remaining index turn p =
+Inv-loop s at keys count hits₀ constants remaining₀ index₀ old turn₀ p₀ gap₀ hits remaining index turn p gap =
     (h : ℕ → Hits) × Folding notedAll s constants (λ a. noHits) (turn .next) (turn .left) remaining index p h × Holding keys count hits h × Counted hits index
-    × (index + remaining < 2 ^ 32)
+    × (index + remaining < 2 ^ 32) × Between keys count (gap .below) (gap .above) (gap .place)
 
 abbrev μ-loop : tie.MeasureT-loop
-μ-loop s at keys count hits₀ constants remaining₀ index₀ old turn₀ p₀ hits remaining index turn p = remaining
+μ-loop s at keys count hits₀ constants remaining₀ index₀ old turn₀ p₀ gap₀ hits remaining index turn p gap = remaining
 
 u32-at-requires : tie.Need-u32-at-requires Inv-loop μ-loop
 u32-at-requires c κs = let w = c .before .pre .0 .inside in omega arith
@@ -38,7 +40,7 @@ start-requires c κs = (c .is-old .ensures, c .before .before .before .before .p
 loop-holds : tie.Need-loop-holds Inv-loop μ-loop
 loop-holds c =
     let q = c .before .before .before .before .before in
-    ((λ a. noHits), fold-start notedAll (λ a. noHits) (q .pre .0) (c .start .ensures) (q .pre .1) (q .pre .2) (c .before .before .u32-at2 .ensures), q .pre .5, q .pre .6, omega arith)
+    ((λ a. noHits), fold-start notedAll (λ a. noHits) (q .pre .0) (c .start .ensures) (q .pre .1) (q .pre .2) (c .before .before .u32-at2 .ensures), q .pre .5, q .pre .6, omega arith, between-start _ _)
 
 owner-requires : tie.Need-owner-requires Inv-loop μ-loop
 owner-requires c κs =
@@ -84,7 +86,7 @@ mark-requires c κs =
     let v = sym (c .before .before .before .before .before .record-at .ensures) ∙ c .before .before .before .end .given .1 in
     let i = here-inside _ _ _ _ _ _ (w .inside) v in
     let b : Bytes (q .args .s .now) = record { below = λ j. omega (arith, c .before .before .before .before .before .before .before .before .before .before .before .before .before .shared-slice-known .given j) } in
-    (c .before .owner-address .ensures, i, omega (arith, c .before .before .before .before .before .before .before .before .loop .inv .4), address-fits (q .args .s .now) _ (c .before .before .before .before .before .before .before .before .loop .index) _ _ _ b v, q .pre .3, q .pre .4, c .before .before .before .before .before .before .before .before .loop .inv .3)
+    (c .before .owner-address .ensures, i, omega (arith, c .before .before .before .before .before .before .before .before .loop .inv .4), address-fits (q .args .s .now) _ (c .before .before .before .before .before .before .before .before .loop .index) _ _ _ b v, q .pre .3, q .pre .4, c .before .before .before .before .before .before .before .before .loop .inv .3, c .before .before .before .before .before .before .before .before .loop .inv .5)
 
 sub-t24 : tie.Need-sub-t24 Inv-loop μ-loop
 sub-t24 c = search needs
@@ -109,6 +111,7 @@ loop-again c =
       c .before .mark .ensures .0 (l .inv .0) (l .inv .2),
       c .before .mark .ensures .1,
       omega arith,
+      c .before .mark .ensures .2,
     )
 
 returns-2 : tie.Need-returns-2 Inv-loop μ-loop

@@ -1,9 +1,9 @@
 use native.Mathlib.Omega.{arith}
 use lib.ListN.{length-set}
-use Rattle.thread_search.proofs.Marks.{stored}
+use Rattle.thread_marks.proofs.Marks.{stored}
 use borrow.Author.Needs.{needs}
-use Rattle.thread_search.proofs.search.store.Statement.{statement}
-use Rattle.thread_search.proofs.search.store.Tie as tie
+use Rattle.thread_marks.proofs.store.Statement.{statement}
+use Rattle.thread_marks.proofs.store.Tie as tie
 
 mul-p : tie.Need-mul-p
 mul-p c = search needs
