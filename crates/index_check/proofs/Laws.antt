@@ -125,7 +125,7 @@ rows-many s w =
     let m = length-records (isOld s) s (numRecords s) (recordsAt s) in
     length-map (entries s) rowOf ∙ ap length (entries-are s) ∙ from-length (isOld s) 0 (recordsAt s) _ _ (start-length s w ∙ sym m) ∙ m
 
-same-one : (xs ys : List ℕ) → same xs ys ≡ true → xs ≡ ys
+pub same-one : (xs ys : List ℕ) → same xs ys ≡ true → xs ≡ ys
 unfolding same
 same-one [] [] h = refl
 same-one [] (y ∷ ys) h = absurd (true≢false (sym h))

@@ -10,7 +10,7 @@ add-result : tie.Need-add-result
 add-result c = search needs
 
 returns : tie.Need-returns
-returns c = (record { most = omega arith; usable = λ l. absurd (omega arith) }, record { unusable = λ l u. c .if1 .taken (u .long) })
+returns c = (record { most = omega arith; usable = λ l. absurd (omega arith) }, record { unusable = λ l u. c .if1 .taken (let k = u .long in omega arith) })
 
 rises-requires : tie.Need-rises-requires
 rises-requires c κs = search needs
