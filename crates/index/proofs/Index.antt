@@ -27,7 +27,7 @@ Rises [] = Unit {0}
 Rises (x ∷ xs) = ((y : Row) → List·Memᴰ y xs → rank x < rank y) × Rises xs
 
 -- two such lists with the same rows are one
-one-list : (xs ys : List Row) → Rises xs → Rises ys → ((x : Row) → List·Memᴰ x xs → List·Memᴰ x ys) → ((x : Row) → List·Memᴰ x ys → List·Memᴰ x xs) → xs ≡ ys
+pub one-list : (xs ys : List Row) → Rises xs → Rises ys → ((x : Row) → List·Memᴰ x xs → List·Memᴰ x ys) → ((x : Row) → List·Memᴰ x ys → List·Memᴰ x xs) → xs ≡ ys
 one-list [] [] u v a b = refl
 one-list [] (y ∷ ys) u v a b = absurd (List·Memᴰ·not-nil (b y (List·Memᴰ·head refl)))
 one-list (x ∷ xs) [] u v a b = absurd (List·Memᴰ·not-nil (a x (List·Memᴰ·head refl)))
@@ -47,7 +47,7 @@ one-list (x ∷ xs) (y ∷ ys) u v a b = rw (heads, one-list xs ys (u .1) (v .1)
 
 -- The rows in order.
 
-before-true : (x y : Row) → x .number < 18446744073709551616 → y .number < 18446744073709551616 → rank x < rank y → precedes x y ≡ true
+pub before-true : (x y : Row) → x .number < 18446744073709551616 → y .number < 18446744073709551616 → rank x < rank y → precedes x y ≡ true
 unfolding precedes
 before-true x y n m l = go (decLt (x .address) (y .address))
   where
@@ -58,7 +58,7 @@ before-true x y n m l = go (decLt (x .address) (y .address))
         let k : x .number < y .number = omega arith in
         rw (le-ltb (x .address) (y .address) (omega arith), eq-eqb _ _ e, lt-ltb _ _ k)
 
-before-false : (x y : Row) → x .number < 18446744073709551616 → y .number < 18446744073709551616 → rank y ≤ rank x → precedes x y ≡ false
+pub before-false : (x y : Row) → x .number < 18446744073709551616 → y .number < 18446744073709551616 → rank y ≤ rank x → precedes x y ≡ false
 unfolding precedes
 before-false x y n m l = go (decLt (y .address) (x .address))
   where
@@ -276,12 +276,12 @@ place-length x (y ∷ ys) = go (place-length x ys) (precedes x y)
     go rest true = refl
     go rest false = ap suc rest
 
-ordered-length : (xs : List Row) → length (ordered xs) ≡ length xs
+pub ordered-length : (xs : List Row) → length (ordered xs) ≡ length xs
 unfolding ordered
 ordered-length [] = refl
 ordered-length (x ∷ xs) = place-length x (ordered xs) ∙ ap suc (ordered-length xs)
 
-flat-length : (xs : List Row) → length (flat xs) ≡ 2 * length xs
+pub flat-length : (xs : List Row) → length (flat xs) ≡ 2 * length xs
 unfolding flat
 flat-length [] = refl
 flat-length (x ∷ xs) = let h = flat-length xs in omega arith
@@ -289,7 +289,7 @@ flat-length (x ∷ xs) = let h = flat-length xs in omega arith
 pub index-length : (rows : List Row) → length (flat (ordered rows)) ≡ 2 * length rows
 index-length rows = flat-length (ordered rows) ∙ ap (λ (n : ℕ). 2 * n) (ordered-length rows)
 
-rows-flat : (xs : List Row) → rowsOf (length xs) (flat xs) ≡ xs
+pub rows-flat : (xs : List Row) → rowsOf (length xs) (flat xs) ≡ xs
 unfolding rowsOf flat
 rows-flat [] = refl
 rows-flat (x ∷ xs) = rw (rows-flat xs)

@@ -2,3 +2,4 @@ pub mod Numbers
 pub mod Index
 pub mod Lookup
 pub mod Same
+pub mod Ordered

@@ -1,6 +1,8 @@
 -- All promises hold.
 use Rattle.stackmap.proofs.WellFormed
 use Rattle.stackmap.proofs.Numbers
+use Rattle.index.proofs.Ordered
+use Rattle.index.proofs.Same
 use Rattle.listing.proofs.Bound
 use Rattle.listing.proofs.RoundTrip
 use Rattle.relocate.proofs.Demand
@@ -27,6 +29,8 @@ promises =
       order-free = Demand.order-free;
       pair-order = Reorder.pair-order;
       one-instant = OneInstant.one-instant;
+      index-ordered = Ordered.index-ordered;
+      index-answers = Same.index-answers;
       keeps-distance = Consequences.keeps-distance;
       only-slots-count = Consequences.only-slots-count;
       worked = Worked.worked;

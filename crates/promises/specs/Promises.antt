@@ -1,5 +1,6 @@
 -- All that is shown of the definitions, in the order of the demands.
 use Rattle.stackmap.specs.Laws.{OneToOne, BuiltRefusal, AcceptedIsZero, SignedOffsets}
+use Rattle.index.specs.Laws.{IndexOrdered, IndexAnswers}
 use Rattle.listing.specs.Bound.{BoundSuffices}
 use Rattle.listing.specs.RoundTrip.{ListingOneToOne, RoundTrips, OutputKept}
 use Rattle.relocate.specs.Lists.{Demand3, OrderFree}
@@ -27,6 +28,9 @@ pub record Promises : Type 0 where
   pub pair-order : PairOrder
   -- a whole thread in one call: all frames move, or none does
   pub one-instant : OneInstant
+  -- an address index is the one order of a section's rows, and with it a lookup gives what the plain walk gives
+  pub index-ordered : IndexOrdered
+  pub index-answers : IndexAnswers
   -- the two consequences that are wanted, and the worked table
   pub keeps-distance : KeepsDistance
   pub only-slots-count : OnlySlotsCount

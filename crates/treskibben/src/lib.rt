@@ -9,6 +9,7 @@ ghost use Rattle.treskibben.specs.Answer.{answer, converted, moveAnswer,
 ghost use Rattle.treskibben.specs.Version.{version};
 use stackmap::Verdict;
 
+pub mod address_index;
 pub mod flat_sections;
 
 const VERSION: u32 = 1;

@@ -2,42 +2,31 @@ use borrow.Author.Tests.{eq-eqb, ne-eqb}
 use borrow.Author.Needs.{needs}
 use Rattle.sorted_pairs.proofs.is_at.Statement.{statement}
 use Rattle.sorted_pairs.proofs.is_at.Tie as tie
-use Rattle.sorted_pairs.proofs.is_at.Reads as reads
-use Rattle.sorted_pairs.proofs.is_at.Lts as lts
 
--- src/lib.rt:137:13
 mul-if1 : tie.Need-mul-if1
 mul-if1 c = search needs
 
--- src/lib.rt:137:8
 mul-if1-2 : tie.Need-mul-if1-2
 mul-if1-2 c = search needs
 
--- src/lib.rt:137:8
 shared-slice-read-if1 : tie.Need-shared-slice-read-if1
 shared-slice-read-if1 c = search needs
 
--- src/lib.rt:138:9
 returns : tie.Need-returns
 returns c = rw (ne-eqb _ _ (c .if1 .taken))
 
--- src/lib.rt:140:10
 mul-result : tie.Need-mul-result
 mul-result c = search needs
 
--- src/lib.rt:140:10
 add-result : tie.Need-add-result
 add-result c = search needs
 
--- src/lib.rt:140:5
 mul-result-2 : tie.Need-mul-result-2
 mul-result-2 c = search needs
 
--- src/lib.rt:140:5
 shared-slice-read-result : tie.Need-shared-slice-read-result
 shared-slice-read-result c = search needs
 
--- src/lib.rt:133:1
 returns-2 : tie.Need-returns-2
 returns-2 c = rw (eq-eqb _ _ (c .before .if1 .left))
 

@@ -7,9 +7,6 @@ use Rattle.sorted_pairs.specs.Pairs.{rankAt}
 use Rattle.sorted_pairs.proofs.Halving.{Halved, rising-climb, halved-start, halved-up, halved-down, halved-end}
 use Rattle.sorted_pairs.proofs.lower.Statement.{statement}
 use Rattle.sorted_pairs.proofs.lower.Tie as tie
-use Rattle.sorted_pairs.proofs.lower.Reads as reads
-use Rattle.sorted_pairs.proofs.lower.Lts as lts
-use Rattle.sorted_pairs.proofs.is_below.Reads as is-below-reads
 
 abbrev Inv-loop : tie.InvT-loop
 Inv-loop list n a b low₀ high₀ low high = Halved (rankAt list) n (a * 18446744073709551616 + b) low high
@@ -17,43 +14,39 @@ Inv-loop list n a b low₀ high₀ low high = Halved (rankAt list) n (a * 184467
 abbrev μ-loop : tie.MeasureT-loop
 μ-loop list n a b low₀ high₀ low high = high - low
 
--- src/lib.rt:121:5
 loop-holds : tie.Need-loop-holds Inv-loop μ-loop
 loop-holds c = halved-start (rankAt (c .before .args .list .now)) _ _ (rising-climb _ _ (c .before .pre .1)) (c .before .args .n) (omega arith)
 
--- src/lib.rt:122:29
 sub-middle : tie.Need-sub-middle Inv-loop μ-loop
 sub-middle c = search needs
 
--- src/lib.rt:122:22
 add-middle : tie.Need-add-middle Inv-loop μ-loop
 add-middle c = search needs
 
--- src/lib.rt:123:12
 is-below-requires : tie.Need-is-below-requires Inv-loop μ-loop
 is-below-requires c κs = search needs
 
--- src/lib.rt:124:19
 add-low : tie.Need-add-low Inv-loop μ-loop
 add-low c = search needs
 
--- src/lib.rt:121:5
 loop-less : tie.Need-loop-less Inv-loop μ-loop
 loop-less c = search needs
 
--- src/lib.rt:121:5
 loop-again : tie.Need-loop-again Inv-loop μ-loop
-loop-again c = halved-up (rankAt (c .before .before .before .before .before .args .list .now)) _ _ (rising-climb _ _ (c .before .before .before .before .before .pre .1)) _ _ _ (c .before .before .before .loop .inv) (omega arith) (ltb-true _ _ (sym (c .before .is-below .ensures) ∙ c .if1 .taken))
+loop-again c =
+    let q = c .before .before .before .before .before in
+    let p = c .before .before .before in
+    halved-up (rankAt (q .args .list .now)) _ _ (rising-climb _ _ (q .pre .1)) _ _ _ (p .loop .inv) (omega arith) (ltb-true _ _ (sym (c .before .is-below .ensures) ∙ c .if1 .taken))
 
--- src/lib.rt:121:5
 loop-less-2 : tie.Need-loop-less-2 Inv-loop μ-loop
 loop-less-2 c = search needs
 
--- src/lib.rt:121:5
 loop-again-2 : tie.Need-loop-again-2 Inv-loop μ-loop
-loop-again-2 c = halved-down (rankAt (c .before .before .before .before .before .args .list .now)) _ _ (rising-climb _ _ (c .before .before .before .before .before .pre .1)) _ _ _ (c .before .before .before .loop .inv) (omega arith) (omega arith) (ltb-false _ _ (sym (c .before .is-below .ensures) ∙ c .if1 .left))
+loop-again-2 c =
+    let q = c .before .before .before .before .before in
+    let p = c .before .before .before in
+    halved-down (rankAt (q .args .list .now)) _ _ (rising-climb _ _ (q .pre .1)) _ _ _ (p .loop .inv) (omega arith) (omega arith) (ltb-false _ _ (sym (c .before .is-below .ensures) ∙ c .if1 .left))
 
--- src/lib.rt:115:1
 returns : tie.Need-returns Inv-loop μ-loop
 returns c = halved-end (rankAt (c .before .before .before .args .list .now)) _ _ (rising-climb _ _ (c .before .before .before .pre .1)) _ _ (c .before .loop .inv) (omega arith)
 

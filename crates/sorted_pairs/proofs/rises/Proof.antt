@@ -1,16 +1,13 @@
 use Rattle.sorted_pairs.proofs.Halving.{rising-not, yes-then, no-then}
-use Prim.Native.Nat.{ℕ, _+_, _-_, _≤_}
+use Prim.Native.Nat.{_-_, _≤_}
 use native.Mathlib.Omega.{arith}
-use mathlib.Core.Path.{_≡_, refl, sym, _∙_}
+use mathlib.Core.Path.{refl, sym, _∙_}
 use borrow.Author.Needs.{needs}
 use borrow.Author.Tests.{ltb-true, ltb-false}
-use Rattle.sorted_pairs.specs.Pairs.{rankAt, Rising}
+use Rattle.sorted_pairs.specs.Pairs.{Rising}
 use Rattle.sorted_pairs.proofs.Halving.{rising-start, rising-on, rising-fewer}
 use Rattle.sorted_pairs.proofs.rises.Statement.{statement}
 use Rattle.sorted_pairs.proofs.rises.Tie as tie
-use Rattle.sorted_pairs.proofs.rises.Reads as reads
-use Rattle.sorted_pairs.proofs.rises.Lts as lts
-use Rattle.sorted_pairs.proofs.precedes.Reads as precedes-reads
 
 abbrev Inv-loop : tie.InvT-loop
 Inv-loop list n i₀ i = (1 ≤ i) × Rising list i
@@ -18,35 +15,27 @@ Inv-loop list n i₀ i = (1 ≤ i) × Rising list i
 abbrev μ-loop : tie.MeasureT-loop
 μ-loop list n i₀ i = n - i
 
--- src/lib.rt:89:5
 loop-holds : tie.Need-loop-holds Inv-loop μ-loop
 loop-holds c = (omega arith, rising-start _ _ refl)
 
--- src/lib.rt:90:27
 sub-precedes : tie.Need-sub-precedes Inv-loop μ-loop
 sub-precedes c = search needs
 
--- src/lib.rt:90:12
 precedes-requires : tie.Need-precedes-requires Inv-loop μ-loop
 precedes-requires c κs = (omega arith, omega arith)
 
--- src/lib.rt:91:13
 add-i : tie.Need-add-i Inv-loop μ-loop
 add-i c = search needs
 
--- src/lib.rt:89:5
 loop-less : tie.Need-loop-less Inv-loop μ-loop
 loop-less c = search needs
 
--- src/lib.rt:89:5
 loop-again : tie.Need-loop-again Inv-loop μ-loop
 loop-again c = (omega arith, rising-on _ _ (omega arith) (c .before .before .before .loop .inv .1) (ltb-true _ _ (sym (c .before .precedes .ensures) ∙ c .if1 .taken)))
 
--- src/lib.rt:93:13
 returns : tie.Need-returns Inv-loop μ-loop
 returns c = no-then _ (rising-not _ _ _ (omega arith) (omega arith) (ltb-false _ _ (sym (c .before .precedes .ensures) ∙ c .if1 .left)))
 
--- src/lib.rt:84:1
 returns-2 : tie.Need-returns-2 Inv-loop μ-loop
 returns-2 c = yes-then _ (rising-fewer _ _ _ (omega arith) (c .before .loop .inv .1))
 
