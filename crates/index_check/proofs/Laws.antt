@@ -1,0 +1,193 @@
+-- What the walk tells of a list is whether it is the section's index.
+use Prim.Native.Nat.{ℕ, zero, suc, _+_, _*_, _-_, _^_, _≤_, _<_}
+use mathlib.Core.Path.{_≡_, refl, sym, ap, _∙_}
+use mathlib.Core.Bool.{Bool, true, false, _&&_, _||_, true≢false}
+use mathlib.Core.Logic.{⊎-elim}
+use mathlib.Core.List.{List, [], _∷_, map, List·Memᴰ, List·Memᴰ·head, List·Memᴰ·tail, List·Memᴰ·not-nil, List·Memᴰ·cases-cons}
+use native.Mathlib.Omega.{arith}
+use native.Mathlib.Decide.{decLt}
+use borrow.Author.Tests.{eq-eqb, eqb-true, le-leb, lt-leb, leb-true}
+use lib.Dec.{eqb, leb}
+use lib.ListN.{length, drop, length-map}
+use Rattle.wire.specs.Word.{word}
+use Rattle.sorted_pairs.specs.Pairs.{firstAt, secondAt, rankAt, Rising, Stepped, Placed}
+use Rattle.stackmap.specs.declared.Verdict.{Verdict}
+use Rattle.stackmap.specs.declared.Verdict.the-variants.{Valid}
+use Rattle.stackmap.specs.Verdict.{shift}
+use Rattle.stackmap.specs.Section.{Record, Owner, Entry, address, numRecords, isOld, recordsAt, readFunctions, readRecord, readRecords, recordOwners, entriesFrom, entries}
+use Rattle.stackmap.specs.Record.{recordCheck}
+use Rattle.stackmap.specs.Walk.{ownerAt, entryAt, Walkable}
+use Rattle.stackmap.proofs.Verdicts.{must-held, chain-rest, shift-valid}
+use Rattle.stackmap.proofs.Entries.{entries-are}
+use Rattle.stackmap.proofs.Turns.{start-length}
+use Rattle.stackmap.proofs.Forth.{length-records}
+use Rattle.stackmap.proofs.OneWalk.{fold}
+use Rattle.questions.specs.Questions.{ask}
+use Rattle.index.specs.Rows.{Row}
+use Rattle.index.specs.Numbered.{rowsOf}
+use Rattle.index.specs.Index.{rowOf, indexOf, same}
+use Rattle.index.proofs.Index.{rowAt, rows-has, rows-place, exactly, index-length, index-has, index-rises}
+use Rattle.index.proofs.Numbers.{section-numbered}
+use Rattle.index.proofs.Same.{same-self}
+use Rattle.index_check.specs.Seen.{isIn, seen, allSeen, Usable, Following, Began}
+
+-- A row in a list of rows.
+
+and-first : (a b : Bool) → (a && b) ≡ true → a ≡ true
+and-first true b h = refl
+and-first false b h = h
+
+and-rest : (a b : Bool) → (a && b) ≡ true → b ≡ true
+and-rest true b h = h
+and-rest false b h = absurd (true≢false (sym h))
+
+one-row : (x y : Row) → (eqb (y .address) (x .address) && eqb (y .number) (x .number)) ≡ true → x ≡ y
+one-row x y h =
+    let a = eqb-true (y .address) (x .address) (and-first (eqb (y .address) (x .address)) (eqb (y .number) (x .number)) h) in
+    let n = eqb-true (y .number) (x .number) (and-rest (eqb (y .address) (x .address)) (eqb (y .number) (x .number)) h) in
+    λ i. record { address = sym a i; number = sym n i }
+
+in-mem : (x : Row) (ys : List Row) → isIn x ys ≡ true → List·Memᴰ x ys
+unfolding isIn
+in-mem x [] h = absurd (true≢false (sym h))
+in-mem x (y ∷ ys) h = go (in-mem x ys) (eqb (y .address) (x .address) && eqb (y .number) (x .number)) refl
+  where
+    go : (isIn x ys ≡ true → List·Memᴰ x ys) → (b : Bool) → (eqb (y .address) (x .address) && eqb (y .number) (x .number)) ≡ b → List·Memᴰ x (y ∷ ys)
+    go rest true e = List·Memᴰ·head (one-row x y e)
+    go rest false e = List·Memᴰ·tail (rest (rw e at h))
+
+or-true : (b : Bool) → (b || true) ≡ true
+or-true true = refl
+or-true false = refl
+
+mem-in : (x : Row) (ys : List Row) → List·Memᴰ x ys → isIn x ys ≡ true
+unfolding isIn
+mem-in x [] m = absurd (List·Memᴰ·not-nil m)
+mem-in x (y ∷ ys) m =
+    ⊎-elim
+    (λ e. let a : y .address ≡ x .address = ap (λ (r : Row). r .address) (sym e) in let n : y .number ≡ x .number = ap (λ (r : Row). r .number) (sym e) in rw (eq-eqb _ _ a, eq-eqb _ _ n))
+    (λ k. rw (mem-in x ys k) (or-true (eqb (y .address) (x .address) && eqb (y .number) (x .number))))
+    (List·Memᴰ·cases-cons m)
+
+not-in : (x : Row) (ys : List Row) → (List·Memᴰ x ys → ⊥) → isIn x ys ≡ false
+not-in x ys h = go (isIn x ys) refl
+  where
+    go : (b : Bool) → isIn x ys ≡ b → isIn x ys ≡ false
+    go true e = absurd (h (in-mem x ys e))
+    go false e = e
+
+-- a row is in the list exactly if its place is below n
+pub placed-in : (xs : List ℕ) (n r : ℕ) (x : Row) → Placed xs n (x .address) (x .number) r → leb (r + 1) n ≡ isIn x (rowsOf n xs)
+unfolding rowAt
+placed-in xs n r x p = go (decLt r n)
+  where
+    go : Dec (r < n) → leb (r + 1) n ≡ isIn x (rowsOf n xs)
+    go (yes l) =
+        let h = p .here l in
+        let e : rowAt xs r ≡ x = λ i. record { address = h .0 i; number = h .1 i } in
+        le-leb (r + 1) n (omega arith) ∙ sym (mem-in x (rowsOf n xs) (rw e at (rows-has n xs r l)))
+    go (no l) =
+        let z : r ≡ n = omega (arith, p .most) in
+        lt-leb (r + 1) n (omega arith)
+        ∙ sym (not-in x (rowsOf n xs) (λ m. let q = rows-place n xs x m in p .none z (q .0) (q .1) (sym (ap (λ (w : Row). w .address) (q .2))) (sym (ap (λ (w : Row). w .number) (q .2)))))
+
+-- All rows.
+
+seen-first : (rows : List Row) (es : List Entry) (b : Bool) → fold (seen rows) es b ≡ true → b ≡ true
+unfolding seen
+seen-first rows [] b h = h
+seen-first rows (e ∷ es) b h = and-first b _ (seen-first rows es (b && isIn (rowOf e) rows) h)
+
+seen-each : (rows : List Row) (es : List Entry) (b : Bool) → fold (seen rows) es b ≡ true → (x : Row) → List·Memᴰ x (map rowOf es) → List·Memᴰ x rows
+unfolding seen
+seen-each rows [] b h x m = absurd (List·Memᴰ·not-nil m)
+seen-each rows (e ∷ es) b h x m =
+    ⊎-elim (λ q. rw q (in-mem (rowOf e) rows (and-rest b _ (seen-first rows es (b && isIn (rowOf e) rows) h))))
+    (λ k. seen-each rows es (b && isIn (rowOf e) rows) h x k)
+    (List·Memᴰ·cases-cons m)
+
+seen-all : (rows : List Row) (es : List Entry) → ((x : Row) → List·Memᴰ x (map rowOf es) → List·Memᴰ x rows) → fold (seen rows) es true ≡ true
+unfolding seen
+seen-all rows [] h = refl
+seen-all rows (e ∷ es) h = rw (mem-in (rowOf e) rows (h (rowOf e) (List·Memᴰ·head refl))) (seen-all rows es (λ x m. h x (List·Memᴰ·tail m)))
+
+-- The rows of a section.
+
+from-length : (old : Bool) (k at : ℕ) (os : List Owner) (rs : List Record) → length os ≡ length rs → length (entriesFrom old k at os rs) ≡ length rs
+unfolding entriesFrom
+from-length old k at [] [] h = refl
+from-length old k at [] (r ∷ rs) h = absurd (omega arith)
+from-length old k at (o ∷ os) [] h = refl
+from-length old k at (o ∷ os) (r ∷ rs) h = ap suc (from-length old (suc k) _ os rs (omega arith))
+
+pub rows-many : (s : List ℕ) → Walkable s → length (map rowOf (entries s)) ≡ numRecords s
+rows-many s w =
+    let m = length-records (isOld s) s (numRecords s) (recordsAt s) in
+    length-map (entries s) rowOf ∙ ap length (entries-are s) ∙ from-length (isOld s) 0 (recordsAt s) _ _ (start-length s w ∙ sym m) ∙ m
+
+pub same-one : (xs ys : List ℕ) → same xs ys ≡ true → xs ≡ ys
+unfolding same
+same-one [] [] h = refl
+same-one [] (y ∷ ys) h = absurd (true≢false (sym h))
+same-one (x ∷ xs) [] h = absurd (true≢false (sym h))
+same-one (x ∷ xs) (y ∷ ys) h =
+    let a = eqb-true x y (and-first (eqb x y) (same xs ys) h) in
+    let b = same-one xs ys (and-rest (eqb x y) (same xs ys) h) in
+    λ i. a i ∷ b i
+
+-- The law: the list is the index exactly if the walk has seen every record's row in it.
+module _ (s xs : List ℕ) (place : ℕ) (w : Walkable s) (small : numRecords s < 2 ^ 32) (f : Following xs (numRecords s) place) (b : Began xs (numRecords s) place) where
+  is-index : allSeen s xs (leb place (numRecords s)) ≡ true → xs ≡ indexOf s
+  unfolding indexOf
+  is-index h =
+      let u = f .usable (leb-true place (numRecords s) (seen-first (rowsOf (numRecords s) xs) (entries s) _ h)) in
+      let m = rows-many s w in
+      exactly (map rowOf (entries s)) xs (section-numbered s small) (u .long ∙ ap (λ (n : ℕ). 2 * n) (sym m))
+      (record { order = λ i l. let r = u .rising .order i (omega arith) in omega arith })
+      (λ x k. rw m (seen-each (rowsOf (numRecords s) xs) (entries s) _ h x k))
+
+  usable : xs ≡ indexOf s → Usable xs (numRecords s)
+  unfolding indexOf
+  usable e =
+      let m = rows-many s w in
+      rw e
+      (record {
+        long = index-length (map rowOf (entries s)) ∙ ap (λ (n : ℕ). 2 * n) m;
+        rising = record { order = λ i l. index-rises (map rowOf (entries s)) (section-numbered s small) i (omega arith) };
+      })
+
+  index-is : xs ≡ indexOf s → allSeen s xs (leb place (numRecords s)) ≡ true
+  unfolding indexOf
+  index-is e =
+      let m = rows-many s w in
+      let l : place ≤ numRecords s = go (decLt (numRecords s) place) in
+      rw (le-leb place (numRecords s) l)
+      (seen-all (rowsOf (numRecords s) xs) (entries s) (λ x k. rw (e, ← m) (index-has (map rowOf (entries s)) x k)))
+    where
+      go : Dec (numRecords s < place) → place ≤ numRecords s
+      go (yes l) = absurd (b .unusable l (usable e))
+      go (no l) = omega arith
+
+  pub told : allSeen s xs (leb place (numRecords s)) ≡ same xs (indexOf s)
+  told = go (allSeen s xs (leb place (numRecords s))) refl (same xs (indexOf s)) refl
+    where
+      go : (a : Bool) → allSeen s xs (leb place (numRecords s)) ≡ a → (c : Bool) → same xs (indexOf s) ≡ c → allSeen s xs (leb place (numRecords s)) ≡ same xs (indexOf s)
+      go true e c q = e ∙ sym (ap (λ (ys : List ℕ). same xs ys) (sym (is-index e)) ∙ same-self xs)
+      go false e true q = absurd (true≢false (sym (index-is (same-one xs (indexOf s) q)) ∙ e))
+      go false e false q = e ∙ sym q
+
+-- For the walk.
+
+-- a valid record's address fits: refusal 8
+pub address-fits : (s : List ℕ) (c number function p q : ℕ) → shift p (recordCheck (isOld s) (drop p s) c (ownerAt s function .function .address)) ≡ Valid q
+    → address (entryAt s number function p) < 2 ^ 64
+unfolding recordCheck address readRecord
+address-fits s c number function p q v =
+    let x = shift-valid _ _ _ v in
+    let m : ownerAt s function .function .address + word 4 (drop p s) 8 ≤ 2 ^ 64 - 1 = leb-true _ _ (must-held _ _ _ _ _ (chain-rest _ _ _ (x .1))) in
+    omega arith
+
+-- what was refused is not valid
+pub refused-invalid : (v : Verdict) (e : ℕ) → _≡_ {A = ℕ} 1 (ask (λ n p. 1) 0 v) → v ≡ Valid e → ⊥
+unfolding ask
+refused-invalid v e h q = let z : _≡_ {A = ℕ} 1 0 = rw q at h in omega arith

@@ -1,0 +1,2 @@
+pub mod ByIndex
+pub mod Laws
