@@ -26,6 +26,14 @@ pub least : (old : Bool) → 8 ≤ size old
 least true = omega arith
 least false = omega arith
 
+pub most : (old : Bool) → size old ≤ 12
+most true = omega arith
+most false = omega arith
+
+pub under : (old : Bool) (n : ℕ) → 4 ≤ n → (size old * 8 - size old * n ≤ size old * 4) × (size old * 4 ≤ size old * n)
+under true n h = (omega arith, omega arith)
+under false n h = (omega arith, omega arith)
+
 -- Bits: where numbers together are low, each of them is.
 
 or-left : (x y : ℕ) → x ≤ bitOr x y
@@ -178,3 +186,59 @@ outs-more s at n x z = record { each = λ i h. go i h (decLt i n) }
     go : (i : ℕ) → i < n + 1 → Dec (i < n) → getD s (at + 4 * i + 2) 0 ≡ 0
     go i h (yes l) = x .each i l
     go i h (no l) = let e : i ≡ n = omega arith in rw e z
+
+-- The places of four looks, worked out in bytes, and what they tell together.
+
+pub second-at : (old : Bool) (at n : ℕ) → 4 ≤ n → at + size old * 4 - (size old * 8 - size old * n) ≡ at + size old * (4 - (8 - n))
+second-at true at n h = omega arith
+second-at false at n h = omega arith
+
+pub third-at : (old : Bool) (at n : ℕ) → at + (size old * n - size old * 8) ≡ at + size old * (n - 8)
+third-at true at n = omega arith
+third-at false at n = omega arith
+
+pub last-at : (old : Bool) (at n : ℕ) → 4 ≤ n → at + size old * n - size old * 4 ≡ at + size old * (n - 4)
+last-at true at n h = omega arith
+last-at false at n h = omega arith
+
+pub covered : (old : Bool) (s : List ℕ) (limit at n a b c d p q r : ℕ) → 4 ≤ n → n ≤ 16
+    → (p ≡ at + size old * (4 - (8 - n))) × (q ≡ at + size old * (n - 8)) × (r ≡ at + size old * (n - 4)) → Low old (together a b c d)
+    → (Low old a → Rights old s limit at 4) → (Low old b → Rights old s limit p 4) → (Low old c → Rights old s limit q 4)
+    → (Low old d → Rights old s limit r 4) → Rights old s limit at n
+covered old s limit at n a b c d p q r h k e l x y z w =
+    let each = low-each old a b c d l in
+    cover old s limit at n h k (x (each .0)) (rw (e .0) at (y (each .1))) (rw (e .1) at (z (each .2))) (rw (e .2) at (w (each .3)))
+
+-- Up to eight zero bytes together.
+
+pub or-none : (x y : ℕ) → bitOr x y ≡ 0 → (x ≡ 0) × (y ≡ 0)
+or-none x y h = let a = or-left x y in let b = or-right x y in (omega arith, omega arith)
+
+pub eight-none : (a b c d e f g h : ℕ) → bitOr (bitOr (bitOr a b) (bitOr c d)) (bitOr (bitOr e f) (bitOr g h)) ≡ 0
+    → (a ≡ 0) × (b ≡ 0) × (c ≡ 0) × (d ≡ 0) × (e ≡ 0) × (f ≡ 0) × (g ≡ 0) × (h ≡ 0)
+eight-none a b c d e f g h k =
+    let x = or-none _ _ k in
+    let y = or-none _ _ (x .0) in
+    let z = or-none _ _ (x .1) in
+    let ab = or-none a b (y .0) in
+    let cd = or-none c d (y .1) in
+    let ef = or-none e f (z .0) in
+    let gh = or-none g h (z .1) in
+    (ab .0, ab .1, cd .0, cd .1, ef .0, ef .1, gh .0, gh .1)
+
+pub eight-each : (s : List ℕ) (at last : ℕ) → last < 8 → (0 ≤ last → getD s (at + 4 * 0 + 2) 0 ≡ 0) → (1 ≤ last → getD s (at + 4 * 1 + 2) 0 ≡ 0)
+    → (2 ≤ last → getD s (at + 4 * 2 + 2) 0 ≡ 0) → (3 ≤ last → getD s (at + 4 * 3 + 2) 0 ≡ 0) → (4 ≤ last → getD s (at + 4 * 4 + 2) 0 ≡ 0)
+    → (5 ≤ last → getD s (at + 4 * 5 + 2) 0 ≡ 0) → (6 ≤ last → getD s (at + 4 * 6 + 2) 0 ≡ 0) → (7 ≤ last → getD s (at + 4 * 7 + 2) 0 ≡ 0)
+    → Outs s at (last + 1)
+eight-each s at last m x₀ x₁ x₂ x₃ x₄ x₅ x₆ x₇ = record { each = go }
+  where
+    go : (i : ℕ) → i < last + 1 → getD s (at + 4 * i + 2) 0 ≡ 0
+    go zero h = x₀ (omega arith)
+    go (suc zero) h = x₁ (omega arith)
+    go (suc (suc zero)) h = x₂ (omega arith)
+    go (suc (suc (suc zero))) h = x₃ (omega arith)
+    go (suc (suc (suc (suc zero)))) h = x₄ (omega arith)
+    go (suc (suc (suc (suc (suc zero))))) h = x₅ (omega arith)
+    go (suc (suc (suc (suc (suc (suc zero)))))) h = x₆ (omega arith)
+    go (suc (suc (suc (suc (suc (suc (suc zero))))))) h = x₇ (omega arith)
+    go (suc (suc (suc (suc (suc (suc (suc (suc i)))))))) h = absurd (omega arith)

@@ -8,7 +8,7 @@
 ghost use mathlib.Core.Path.{_≡_};
 ghost use mathlib.Core.Bool.{true, false};
 ghost use Prim.Native.Nat.{ℕ, _+_, _*_, _-_, _^_, _≤_, _<_};
-ghost use lib.ListN.{length};
+ghost use lib.ListN.{length, getD};
 ghost use Rattle.wire.specs.Word.{word};
 ghost use Rattle.glance.specs.Look.{Right, Rights, Outs, Low};
 ghost use Rattle.glance.specs.Look as look;
@@ -45,21 +45,21 @@ fn low(old: bool, v: u64) -> bool
     false
 }
 
-// One to three locations of version 3: the first, the middle and the last, which may be the same.
-fn few(s: &[u8], at: usize, count: usize) -> bool
-    requires { ⌜ (at + look.size false * count ≤ length (now s)) × (0 < count) × (count < 4) ⌝ }
-    ensures { λ r. ⌜ (r ≡ true → (limit : ℕ) → Rights false (now (s .entry)) limit at count) ⌝ }
+// One to three locations: the first, the middle and the last, which may be the same.
+fn few(s: &[u8], old: bool, at: usize, count: usize) -> bool
+    requires { ⌜ (at + look.size old * count ≤ length (now s)) × (0 < count) × (count < 4) ⌝ }
+    ensures { λ r. ⌜ (r ≡ true → (limit : ℕ) → Rights old (now (s .entry)) limit at count) ⌝ }
 {
     let a = word_less(s, at);
-    let b = word_less(s, place(false, at, count / 2));
-    let c = word_less(s, place(false, at, count - 1));
-    low(false, a | b | c)
+    let b = word_less(s, place(old, at, count / 2));
+    let c = word_less(s, place(old, at, count - 1));
+    low(old, a | b | c)
 }
 
 // The words of the four locations from `at`, each less one, together.
 fn four(s: &[u8], old: bool, at: usize) -> u64
     requires { ⌜ at + look.size old * 4 ≤ length (now s) ⌝ }
-    ensures { λ r. ⌜ r ≡ look.lessFour old (now (s .entry)) at ⌝ }
+    ensures { λ r. ⌜ (Low old r → (limit : ℕ) → Rights old (now (s .entry)) limit at 4) ⌝ }
 {
     let a = word_less(s, at);
     let b = word_less(s, place(old, at, 1));
@@ -78,19 +78,80 @@ fn minus(a: usize, b: usize) -> usize
     a - b
 }
 
-// Four to sixteen locations of version 3: the first four, four after these, four before the last four, and the last four, which may
-// overlap.
+// Where three of four looks at four to sixteen locations begin. The first begins with the first location; they may overlap.
+pub struct Starts {
+    pub second: usize,
+    pub third: usize,
+    pub last: usize,
+}
+
+// After the first four, before the last four, and the last four: worked out in bytes.
+fn spread(old: bool, at: usize, count: usize) -> Starts
+    requires { ⌜ (at + look.size old * count < 2 ^ 64) × (4 ≤ count) × (count ≤ 16) ⌝ }
+    ensures { λ r. ⌜ (r .second ≡ at + look.size old * (4 - (8 - count))) × (r .third ≡ at + look.size old * (count - 8)) × (r .last ≡ at + look.size old * (count - 4)) ⌝ }
+{
+    let four = place(old, 0, 4);
+    let eight = place(old, 0, 8);
+    let all = place(old, 0, count);
+    Starts {
+        second: at + four - minus(eight, all),
+        third: at + minus(all, eight),
+        last: at + all - four,
+    }
+}
+
+// Four to sixteen locations of version 3, by four looks and one test.
 fn sixteen(s: &[u8], at: usize, count: usize) -> bool
     requires { ⌜ (at + look.size false * count ≤ length (now s)) × (4 ≤ count) × (count ≤ 16) ⌝ }
     ensures { λ r. ⌜ (r ≡ true → (limit : ℕ) → Rights false (now (s .entry)) limit at count) ⌝ }
 {
-    let second = 4 - minus(8, count);
-    let third = minus(count, 8);
+    let p = spread(false, at, count);
     let w = four(s, false, at);
-    let x = four(s, false, place(false, at, second));
-    let y = four(s, false, place(false, at, third));
-    let z = four(s, false, place(false, at, count - 4));
+    let x = four(s, false, p.second);
+    let y = four(s, false, p.third);
+    let z = four(s, false, p.last);
     low(false, w | x | (y | z))
+}
+
+// The same of version 1. (A function of its own, so that each is compiled into its one caller, with the size of its locations.)
+fn old_sixteen(s: &[u8], at: usize, count: usize) -> bool
+    requires { ⌜ (at + look.size true * count ≤ length (now s)) × (4 ≤ count) × (count ≤ 16) ⌝ }
+    ensures { λ r. ⌜ (r ≡ true → (limit : ℕ) → Rights true (now (s .entry)) limit at count) ⌝ }
+{
+    let p = spread(true, at, count);
+    let w = four(s, true, at);
+    let x = four(s, true, p.second);
+    let y = four(s, true, p.third);
+    let z = four(s, true, p.last);
+    low(true, w | x | (y | z))
+}
+
+// Whether up to sixteen locations of version 3 from `at` are right and none is a ConstIndex.
+pub fn plain(s: &[u8], at: usize, count: usize) -> bool
+    requires { ⌜ (at + look.size false * count ≤ length (now s)) × (0 < count) ⌝ }
+    ensures { λ r. ⌜ (r ≡ true → (limit : ℕ) → Rights false (now (s .entry)) limit at count) ⌝ }
+{
+    if count < 4 {
+        return few(s, false, at, count);
+    }
+    if count <= 16 {
+        return sixteen(s, at, count);
+    }
+    false
+}
+
+// The same of version 1.
+pub fn old_plain(s: &[u8], at: usize, count: usize) -> bool
+    requires { ⌜ (at + look.size true * count ≤ length (now s)) × (0 < count) ⌝ }
+    ensures { λ r. ⌜ (r ≡ true → (limit : ℕ) → Rights true (now (s .entry)) limit at count) ⌝ }
+{
+    if count < 4 {
+        return few(s, true, at, count);
+    }
+    if count <= 16 {
+        return old_sixteen(s, at, count);
+    }
+    false
 }
 
 // The eight bytes of a location, less one, and less one more if it is a ConstIndex whose index is below `limit`.
@@ -136,13 +197,25 @@ fn any_sixteen(s: &[u8], at: usize, count: usize, limit: u32) -> bool
     requires { ⌜ (at + look.size false * count ≤ length (now s)) × (4 ≤ count) × (count ≤ 16) ⌝ }
     ensures { λ r. ⌜ (r ≡ true → Rights false (now (s .entry)) limit at count) ⌝ }
 {
-    let next = 4 - minus(8, count);
-    let back = minus(count, 8);
-    let p = four_of_any(s, false, at, limit);
-    let q = four_of_any(s, false, place(false, at, next), limit);
-    let r = four_of_any(s, false, place(false, at, back), limit);
-    let t = four_of_any(s, false, place(false, at, count - 4), limit);
-    low(false, p | q | (r | t))
+    let p = spread(false, at, count);
+    let w = four_of_any(s, false, at, limit);
+    let x = four_of_any(s, false, p.second, limit);
+    let y = four_of_any(s, false, p.third, limit);
+    let z = four_of_any(s, false, p.last, limit);
+    low(false, w | x | (y | z))
+}
+
+// The same of version 1.
+fn old_any_sixteen(s: &[u8], at: usize, count: usize, limit: u32) -> bool
+    requires { ⌜ (at + look.size true * count ≤ length (now s)) × (4 ≤ count) × (count ≤ 16) ⌝ }
+    ensures { λ r. ⌜ (r ≡ true → Rights true (now (s .entry)) limit at count) ⌝ }
+{
+    let p = spread(true, at, count);
+    let w = four_of_any(s, true, at, limit);
+    let x = four_of_any(s, true, p.second, limit);
+    let y = four_of_any(s, true, p.third, limit);
+    let z = four_of_any(s, true, p.last, limit);
+    low(true, w | x | (y | z))
 }
 
 // Locations of any kind from number `begun` on, one by one.
@@ -177,78 +250,54 @@ fn by_fours(s: &[u8], old: bool, at: usize, count: usize, limit: u32) -> bool
     rest(s, old, at, count, limit, done)
 }
 
-// Whether the `count` locations of version 3 from `at` are right: up to sixteen by one test, or two where one is a ConstIndex.
-pub fn locations(s: &[u8], at: usize, count: usize, limit: u32) -> bool
-    requires { ⌜ at + look.size false * count ≤ length (now s) ⌝ }
-    ensures { λ r. ⌜ (r ≡ true → Rights false (now (s .entry)) limit at count) ⌝ }
+// Whether the locations from `at`, of any kind, are right: four to sixteen by one test.
+pub fn any(s: &[u8], old: bool, at: usize, count: usize, limit: u32) -> bool
+    requires { ⌜ at + look.size old * count ≤ length (now s) ⌝ }
+    ensures { λ r. ⌜ (r ≡ true → Rights old (now (s .entry)) limit at count) ⌝ }
 {
-    if count == 0 {
-        return true;
-    }
-    if count < 4 {
-        if few(s, at, count) {
-            return true;
-        }
-        return by_fours(s, false, at, count, limit);
-    }
-    if count <= 16 {
-        if sixteen(s, at, count) {
-            return true;
-        }
-        return any_sixteen(s, at, count, limit);
-    }
-    by_fours(s, false, at, count, limit)
-}
-
-// One to three locations of version 1, as `few`.
-fn old_few(s: &[u8], at: usize, count: usize) -> bool
-    requires { ⌜ (at + look.size true * count ≤ length (now s)) × (0 < count) × (count < 4) ⌝ }
-    ensures { λ r. ⌜ (r ≡ true → (limit : ℕ) → Rights true (now (s .entry)) limit at count) ⌝ }
-{
-    let a = word_less(s, at);
-    let b = word_less(s, place(true, at, count / 2));
-    let c = word_less(s, place(true, at, count - 1));
-    low(true, a | b | c)
-}
-
-// Four to sixteen locations of version 1, as `sixteen`.
-fn old_sixteen(s: &[u8], at: usize, count: usize) -> bool
-    requires { ⌜ (at + look.size true * count ≤ length (now s)) × (4 ≤ count) × (count ≤ 16) ⌝ }
-    ensures { λ r. ⌜ (r ≡ true → (limit : ℕ) → Rights true (now (s .entry)) limit at count) ⌝ }
-{
-    let next = 4 - minus(8, count);
-    let back = minus(count, 8);
-    let w = four(s, true, at);
-    let x = four(s, true, place(true, at, next));
-    let y = four(s, true, place(true, at, back));
-    let z = four(s, true, place(true, at, count - 4));
-    low(true, w | x | (y | z))
-}
-
-// Whether the `count` locations of version 1 from `at` are right: up to sixteen by one test, and else four at a time.
-pub fn old_locations(s: &[u8], at: usize, count: usize, limit: u32) -> bool
-    requires { ⌜ at + look.size true * count ≤ length (now s) ⌝ }
-    ensures { λ r. ⌜ (r ≡ true → Rights true (now (s .entry)) limit at count) ⌝ }
-{
-    if count == 0 {
-        return true;
-    }
-    if count < 4 {
-        if old_few(s, at, count) {
-            return true;
-        }
-        return by_fours(s, true, at, count, limit);
-    }
-    if count <= 16 {
-        if old_sixteen(s, at, count) {
-            return true;
+    if count >= 4 {
+        if count <= 16 {
+            if old {
+                return old_any_sixteen(s, at, count, limit);
+            }
+            return any_sixteen(s, at, count, limit);
         }
     }
-    by_fours(s, true, at, count, limit)
+    by_fours(s, old, at, count, limit)
 }
 
-// Whether the `count` live-outs from `at` have their zero byte.
-pub fn live_outs(s: &[u8], at: usize, count: usize) -> bool
+// The smaller of two.
+fn least(i: usize, last: usize) -> usize
+    ensures { λ r. ⌜ (r ≤ last) × (i ≤ last → r ≡ i) ⌝ }
+{
+    if i < last {
+        return i;
+    }
+    last
+}
+
+// The byte of live-out number i, or of number `last` where that is less, that has to be zero.
+fn zero_byte(s: &[u8], at: usize, i: usize, last: usize) -> u8
+    requires { ⌜ at + 4 * last + 4 ≤ length (now s) ⌝ }
+    ensures { λ r. ⌜ (i ≤ last → r ≡ getD (now (s .entry)) (at + 4 * i + 2) 0) ⌝ }
+{
+    s[at + 4 * least(i, last) + 2]
+}
+
+// Up to eight live-outs, the last of them number `last`: so that their number costs no branch.
+fn eight_outs(s: &[u8], at: usize, last: usize) -> bool
+    requires { ⌜ (at + 4 * last + 4 ≤ length (now s)) × (last < 8) ⌝ }
+    ensures { λ r. ⌜ (r ≡ true → Outs (now (s .entry)) at (last + 1)) ⌝ }
+{
+    let a = zero_byte(s, at, 0, last) | zero_byte(s, at, 1, last);
+    let b = zero_byte(s, at, 2, last) | zero_byte(s, at, 3, last);
+    let c = zero_byte(s, at, 4, last) | zero_byte(s, at, 5, last);
+    let d = zero_byte(s, at, 6, last) | zero_byte(s, at, 7, last);
+    (a | b | (c | d)) == 0
+}
+
+// Live-outs one by one.
+fn each_out(s: &[u8], at: usize, count: usize) -> bool
     requires { ⌜ at + 4 * count ≤ length (now s) ⌝ }
     ensures { λ r. ⌜ (r ≡ true → Outs (now (s .entry)) at count) ⌝ }
 {
@@ -260,4 +309,17 @@ pub fn live_outs(s: &[u8], at: usize, count: usize) -> bool
         done += 1;
     }
     true
+}
+
+// Whether the `count` live-outs from `at` have their zero byte.
+pub fn live_outs(s: &[u8], at: usize, count: usize) -> bool
+    requires { ⌜ at + 4 * count ≤ length (now s) ⌝ }
+    ensures { λ r. ⌜ (r ≡ true → Outs (now (s .entry)) at count) ⌝ }
+{
+    if count > 0 {
+        if count <= 8 {
+            return eight_outs(s, at, count - 1);
+        }
+    }
+    each_out(s, at, count)
 }

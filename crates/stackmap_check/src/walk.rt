@@ -55,29 +55,37 @@ fn exact_at(s: &[u8], old: bool, constants: u32, address: u64, at: usize) -> Ver
     }
 }
 
-// The record at `at`, of function number `function`, or of nobody: by a quick look, and where that says nothing exactly.
+// The record at `at`, of function number `function`, or of nobody: by quick looks, and where they say nothing exactly.
 pub fn record_at(s: &[u8], old: bool, constants: u32, function: usize, at: usize) -> Verdict
     requires { ⌜ (old ≡ isOld (now s)) × (constantsAt (now s) ≤ length (now s)) × (isOld (now s) ≡ false → function < numFunctions (now s)) × (at ≤ length (now s)) ⌝ }
     ensures { λ r. ⌜ r ≡ shift at (recordCheck (isOld (now (s .entry))) (drop at (now (s .entry))) constants (ownerAt (now (s .entry)) function .function .address)) ⌝ }
 {
     let address = owner_address(s, old, function);
-    let size = quick::record(&s[at..], old, constants, address);
-    if size > 0 {
-        return Verdict::Valid(at + size);
+    let end = quick::plain(s, old, address, at);
+    if end > 1 {
+        return Verdict::Valid(end);
+    }
+    let next = quick::other(s, old, constants, address, at, end == 1);
+    if next > 0 {
+        return Verdict::Valid(next);
     }
     exact_at(s, old, constants, address, at)
 }
 
-// The same for `all_records` alone: with two callers `quick::record` stays a function of its own, and what is around it is compiled into
-// each walk.
+// The same for `all_records` alone: with two callers `plain`, `other` and `exact_at` stay functions of their own, and what is around them is
+// compiled into each walk. Compiled into one function they would share its registers.
 fn next_record(s: &[u8], old: bool, constants: u32, function: usize, at: usize) -> Verdict
     requires { ⌜ (old ≡ isOld (now s)) × (constantsAt (now s) ≤ length (now s)) × (isOld (now s) ≡ false → function < numFunctions (now s)) × (at ≤ length (now s)) ⌝ }
     ensures { λ r. ⌜ r ≡ shift at (recordCheck (isOld (now (s .entry))) (drop at (now (s .entry))) constants (ownerAt (now (s .entry)) function .function .address)) ⌝ }
 {
     let address = owner_address(s, old, function);
-    let size = quick::record(&s[at..], old, constants, address);
-    if size > 0 {
-        return Verdict::Valid(at + size);
+    let end = quick::plain(s, old, address, at);
+    if end > 1 {
+        return Verdict::Valid(end);
+    }
+    let next = quick::other(s, old, constants, address, at, end == 1);
+    if next > 0 {
+        return Verdict::Valid(next);
     }
     exact_at(s, old, constants, address, at)
 }

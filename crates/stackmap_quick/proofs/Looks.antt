@@ -5,18 +5,21 @@ use mathlib.Core.Bool.{Bool, true, false}
 use mathlib.Core.List.{List}
 use native.Mathlib.Omega.{arith}
 use borrow.Author.Tests.{lt-ltb, le-leb, eq-eqb, eqb-true}
-use lib.ListN.{length, getD}
+use lib.ListN.{length, getD, drop, length-drop}
+use lib.Seq.{getD-drop}
+use lib.Bits.{bitOr}
 use lib.Dec.{eqb}
 use Rattle.wire.specs.Word.{word}
-use Rattle.wire.proofs.Laws.{word-add}
-use Rattle.glance.specs.Look.{size, Right, Rights, Outs}
+use Rattle.wire.proofs.Laws.{word-add, word-drop}
+use Rattle.glance.proofs.Laws.{or-none, none}
+use Rattle.glance.specs.Look.{size, kind, Right, Rights, Outs}
 use Rattle.stackmap.specs.declared.Verdict.the-variants.{Valid}
-use Rattle.stackmap.specs.Layout.{locationSize, locationsPadding}
+use Rattle.stackmap.specs.Layout.{locationSize, locationsPadding, liveOutsPadding}
 use Rattle.stackmap.specs.Verdict.{must, chain, pick}
 use Rattle.stackmap.specs.Section.{numLocations, locationsEnd, recordLength}
 use Rattle.stackmap.proofs.Addresses.{address-fits}
 use Rattle.stackmap.specs.Record.{zeros, locationZeros, poolCheck, locationCheck, locations, liveOuts, recordInside, recordBytes, recordCheck}
-use Rattle.stackmap_quick.specs.Quick.{Ending}
+use Rattle.stackmap_quick.specs.Quick.{Ending, Begun, Closed}
 use Rattle.stackmap.proofs.Items.{zeros-back}
 
 -- the size of a location, as the quick look names it
@@ -125,15 +128,6 @@ no-outs s end h z =
       inside = h;
     }
 
--- Version 1 has no padding after its locations.
-
-pub no-padding : (s : List ℕ) (at : ℕ) → word 0 s at ≡ 0
-unfolding word
-no-padding s at = refl
-
-pub bare : (s : List ℕ) (next : ℕ) → Ending s (16 + 8 * numLocations s) next → Ending s (locationsEnd true s) next
-bare s next r = let e : 16 + 8 * numLocations s ≡ 16 + 8 * numLocations s + 0 = omega arith in subst (λ (x : ℕ). Ending s x next) e r
-
 -- A whole record.
 
 padded : (p : ℕ) (s : List ℕ) (at : ℕ) → word p s at ≡ 0 → word 2 s (at + p) ≡ 0 → word (p + 2) s at ≡ 0
@@ -158,3 +152,89 @@ module _ (old : Bool) (s : List ℕ) (c a next : ℕ) (ending : Ending s (locati
         outs-right _ s _ (ending .outs),
         zeros-back _ s _ (ending .padding),
       )
+
+-- What is found at `at` is found at the start of what stands there.
+
+module _ (old : Bool) (s : List ℕ) (limit at : ℕ) where
+  kind-drop : (b : Bool) (p : ℕ) → kind b (drop at s) p ≡ kind b s (at + p)
+  kind-drop true p = word-drop 1 at s p
+  kind-drop false p = word-drop 2 at s p
+
+  right-drop : (p : ℕ) → 4 ≤ p + size old → Right old s limit (at + p) → Right old (drop at s) limit p
+  right-drop p h r =
+      let z : at + (p + 6) ≡ at + p + 6 = omega arith in
+      let e : at + (p + size old - 4) ≡ at + p + size old - 4 = omega arith in
+      record {
+        least = rw (kind-drop old p) (r .least);
+        most = rw (kind-drop old p) (r .most);
+        zeros = λ q. rw (word-drop 2 at s (p + 6), z) (r .zeros q);
+        pool = λ q. rw (word-drop 4 at s (p + size old - 4), e) (r .pool (rw (kind-drop old p) at q));
+      }
+
+rights-drop : (old : Bool) (s : List ℕ) (limit at n : ℕ) → Rights old s limit (at + 16) n → Rights old (drop at s) limit 16 n
+rights-drop old s limit at n r =
+    record {
+      each = λ i h.
+          let e : at + 16 + size old * i ≡ at + (16 + size old * i) = omega arith in
+          right-drop old s limit at (16 + size old * i) (omega arith) (rw e at (r .each i h));
+    }
+
+module _ (s : List ℕ) (at e next : ℕ) (i : at ≤ next) (r : Ending s (at + e) next) where
+  outs-count : word 2 (drop at s) (e + 2) ≡ word 2 s (at + e + 2)
+  outs-count = let z : at + (e + 2) ≡ at + e + 2 = omega arith in rw (word-drop 2 at s (e + 2), z)
+
+  ending-drop : Ending (drop at s) e (next - at)
+  ending-drop =
+      let n = word 2 s (at + e + 2) in
+      let z : at + (e + 4 + 4 * n) ≡ at + e + 4 + 4 * n = omega arith in
+      let k = r .ends in
+      let l = r .inside in
+      record {
+        zeros = rw (word-drop 2 at s e) (r .zeros);
+        outs = rw outs-count (record { each = λ j h. let p : at + (e + 4 + 4 * j + 2) ≡ at + e + 4 + 4 * j + 2 = omega arith in rw (getD-drop at s (e + 4 + 4 * j + 2) 0, p) (r .outs .each j h) });
+        padding = rw (outs-count, word-drop (liveOutsPadding n) at s (e + 4 + 4 * n), z) (r .padding);
+        ends = rw outs-count (omega arith);
+        inside = rw length-drop (omega arith);
+      }
+
+-- The two looks.
+
+part-zero : (s : List ℕ) (at k : ℕ) → k ≤ 8 → word 8 s at ≡ 0 → word k s at ≡ 0
+part-zero s at k h z =
+    let e : k + (8 - k) ≡ 8 = omega arith in
+    let w = rw e at (word-add k (8 - k) s at) in
+    omega arith
+
+pub closed : (s : List ℕ) (pad padding : ℕ) → padding ≤ 4 → pad + padding + 8 ≤ length s → bitOr (word 8 s pad) (word 8 s (pad + padding)) ≡ 0
+    → Closed s pad padding (pad + padding + 8)
+closed s pad padding h i z =
+    let b = or-none _ _ z in
+    record { zeros = part-zero s pad padding (omega arith) (b .0); ending = no-outs s (pad + padding) i (b .1) }
+
+-- no padding, after no locations
+pub closed-none : (old : Bool) (s : List ℕ) (at next : ℕ) → Closed s (at + 16) 0 next → Closed s (at + 16 + locationSize old * 0) (locationsPadding old 0) next
+closed-none true s at next r = let e : at + 16 ≡ at + 16 + 8 * 0 = omega arith in subst (λ (x : ℕ). Closed s x 0 next) e r
+closed-none false s at next r = let e : at + 16 ≡ at + 16 + 12 * 0 = omega arith in subst (λ (x : ℕ). Closed s x 0 next) e r
+
+pub rights-none : (old : Bool) (s : List ℕ) (limit at : ℕ) → Rights old s limit at 0
+rights-none old s limit at = none old s limit at
+
+pub begin : (old : Bool) (s : List ℕ) (c limit a at n : ℕ) → limit ≤ c → limit ≤ 2 ^ 31 → n ≡ word 2 s (at + 14) → word 2 s (at + 12) ≡ 0 → a + word 4 s (at + 8) ≤ 2 ^ 64 - 1
+    → Rights old s limit (at + 16) n → Begun old (drop at s) c a
+begin old s c limit a at n few small e flags reach r =
+    record {
+      flags = rw (word-drop 2 at s 12) flags;
+      reach = rw (word-drop 4 at s 8) reach;
+      located = rw (word-drop 2 at s 14, ← e) (all-right c limit few small old n (drop at s) 16 (rights-drop old s limit at n r));
+    }
+
+pub finish : (old : Bool) (s : List ℕ) (c a at n next : ℕ) → n ≡ word 2 s (at + 14) → Begun old (drop at s) c a
+    → Closed s (at + 16 + locationSize old * n) (locationsPadding old n) next → (at ≤ next) × (recordCheck old (drop at s) c a ≡ Valid (next - at))
+finish old s c a at n next e b r =
+    let k = r .ending .ends in
+    let i : at ≤ next = omega arith in
+    let m : numLocations (drop at s) ≡ n = word-drop 2 at s 14 ∙ sym e in
+    let g : at + 16 + locationSize old * n + locationsPadding old n ≡ at + (16 + locationSize old * n + locationsPadding old n) = omega arith in
+    let f : at + (16 + locationSize old * n) ≡ at + 16 + locationSize old * n = omega arith in
+    let d : Ending (drop at s) (locationsEnd old (drop at s)) (next - at) = rw m (ending-drop s at (16 + locationSize old * n + locationsPadding old n) next i (rw g at (r .ending))) in
+    (i, whole old (drop at s) c a (next - at) d (b .flags) (b .reach) (b .located) (rw (m, word-drop (locationsPadding old n) at s (16 + locationSize old * n), f) (r .zeros)))

@@ -1,5 +1,3 @@
-use Rattle.wire.specs.Word.{Bytes}
-use Rattle.glance.proofs.Laws.{low-four}
 use borrow.Author.Needs.{needs}
 use Rattle.glance.proofs.any_four.Statement.{statement}
 use Rattle.glance.proofs.any_four.Tie as tie
@@ -11,11 +9,7 @@ low-requires : tie.Need-low-requires
 low-requires c κs = search needs
 
 returns : tie.Need-returns
-returns c =
-    λ h.
-    let a = c .before .before .before .before .args in
-    let b : Bytes (a .s .now) = record { below = λ i. c .before .before .before .shared-slice-known .given i .fits } in
-    low-four (a .old) (a .s .now) (a .at) b (rw (c .before .before .four .ensures) at (c .before .low .ensures (c .if1 .taken))) (a .limit)
+returns c = λ h. c .before .before .four .ensures (c .before .low .ensures (c .if1 .taken)) (c .before .before .before .before .args .limit)
 
 four-of-any-requires : tie.Need-four-of-any-requires
 four-of-any-requires c κs = search needs

@@ -1,5 +1,6 @@
 use native.Mathlib.Omega.{arith}
-use Rattle.glance.proofs.Laws.{eight}
+use Rattle.wire.specs.Word.{Bytes}
+use Rattle.glance.proofs.Laws.{eight, low-four}
 use borrow.Author.Needs.{needs}
 use Rattle.glance.proofs.four.Statement.{statement}
 use Rattle.glance.proofs.four.Tie as tie
@@ -36,6 +37,10 @@ word-less-requires-4 c κs =
 
 returns : tie.Need-returns
 returns c =
+    λ h limit.
+    let a = c .before .before .before .before .before .before .before .before .args in
+    let b : Bytes (a .s .now) = record { below = λ i. c .before .before .before .before .before .before .before .shared-slice-known .given i .fits } in
+    let e =
     rw (
       c .before .before .before .before .before .before .word-less .ensures,
       c .before .before .before .before .word-less2 .ensures,
@@ -44,7 +49,8 @@ returns c =
       c .before .before .before .before .before .place .ensures,
       c .before .before .before .place2 .ensures,
       c .before .place3 .ensures,
-    )
+    ) at h in
+    low-four (a .old) (a .s .now) (a .at) b e limit
 
 pub four-spec : {M : Type 1} → statement M
 four-spec =

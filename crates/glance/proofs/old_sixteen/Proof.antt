@@ -1,76 +1,41 @@
-use mathlib.Core.Bool.{true}
 use Prim.Native.Nat.{_+_, _*_, _-_}
+use mathlib.Core.Bool.{true}
 use native.Mathlib.Omega.{arith}
-use Rattle.wire.specs.Word.{Bytes}
-use Rattle.glance.specs.Look.{size}
-use Rattle.glance.proofs.Laws.{inside, eight, low-each, cover, low-four}
+use Rattle.glance.proofs.Laws.{inside, covered}
 use borrow.Author.Needs.{needs}
 use Rattle.glance.proofs.old_sixteen.Statement.{statement}
 use Rattle.glance.proofs.old_sixteen.Tie as tie
 
-minus-requires : tie.Need-minus-requires
-minus-requires c κs = search needs
-
-sub-next : tie.Need-sub-next
-sub-next c = search needs
-
-minus-requires-2 : tie.Need-minus-requires-2
-minus-requires-2 c κs = search needs
+spread-requires : tie.Need-spread-requires
+spread-requires c κs = search needs
 
 four-requires : tie.Need-four-requires
 four-requires c κs =
-    let a = c .before .before .before .args in
-    let p = c .before .before .before .pre in
+    let a = c .before .before .args in
+    let p = c .before .before .pre in
     let h = inside true (a .at) 0 4 (a .count) _ (omega arith) (p .0) in
     omega arith
 
-place-requires : tie.Need-place-requires
-place-requires c κs =
-    let a = c .before .before .before .before .args in
-    let p = c .before .before .before .before .pre in
-    let h = eight true (a .at) (4 - c .before .before .minus .result) (a .count) _ (omega arith) (p .0) in
-    search needs
-
 four-requires-2 : tie.Need-four-requires-2
 four-requires-2 c κs =
-    let a = c .before .before .before .before .before .args in
-    let p = c .before .before .before .before .before .pre in
-    let e = c .before .before .before .minus .ensures in
-    let h = inside true (a .at) (4 - c .before .before .before .minus .result) 4 (a .count) _ (omega arith) (p .0) in
-    omega (arith, c .place .ensures)
-
-place-requires-2 : tie.Need-place-requires-2
-place-requires-2 c κs =
-    let a = c .before .before .before .before .before .before .args in
-    let p = c .before .before .before .before .before .before .pre in
-    let e = c .before .before .before .minus2 .ensures in
-    let h = eight true (a .at) (c .before .before .before .minus2 .result) (a .count) _ (omega arith) (p .0) in
-    search needs
+    let a = c .before .before .before .args in
+    let p = c .before .before .before .pre in
+    let h = inside true (a .at) (4 - (8 - a .count)) 4 (a .count) _ (omega arith) (p .0) in
+    omega (arith, c .before .spread .ensures .0)
 
 four-requires-3 : tie.Need-four-requires-3
 four-requires-3 c κs =
-    let a = c .before .before .before .before .before .before .before .args in
-    let p = c .before .before .before .before .before .before .before .pre in
-    let e = c .before .before .before .before .minus2 .ensures in
-    let h = inside true (a .at) (c .before .before .before .before .minus2 .result) 4 (a .count) _ (omega arith) (p .0) in
-    omega (arith, c .place2 .ensures)
-
-sub-place : tie.Need-sub-place
-sub-place c = search needs
-
-place-requires-3 : tie.Need-place-requires-3
-place-requires-3 c κs =
-    let a = c .before .before .before .before .before .before .before .before .args in
-    let p = c .before .before .before .before .before .before .before .before .pre in
-    let h = eight true (a .at) (a .count - 4) (a .count) _ (omega arith) (p .0) in
-    search needs
+    let a = c .before .before .before .before .args in
+    let p = c .before .before .before .before .pre in
+    let h = inside true (a .at) (a .count - 8) 4 (a .count) _ (omega arith) (p .0) in
+    omega (arith, c .before .before .spread .ensures .1)
 
 four-requires-4 : tie.Need-four-requires-4
 four-requires-4 c κs =
-    let a = c .before .before .before .before .before .before .before .before .before .args in
-    let p = c .before .before .before .before .before .before .before .before .before .pre in
+    let a = c .before .before .before .before .before .args in
+    let p = c .before .before .before .before .before .pre in
     let h = inside true (a .at) (a .count - 4) 4 (a .count) _ (omega arith) (p .0) in
-    omega (arith, c .place3 .ensures)
+    omega (arith, c .before .before .before .spread .ensures .2)
 
 low-requires : tie.Need-low-requires
 low-requires c κs = search needs
@@ -78,36 +43,11 @@ low-requires c κs = search needs
 returns : tie.Need-returns
 returns c =
     λ h limit.
-    let a = c .before .before .before .before .before .before .before .before .before .before .before .args in
-    let b : Bytes (a .s .now) = record { below = λ i. c .before .before .before .before .before .before .before .before .before .before .shared-slice-known .given i .fits } in
-    let l =
-    low-each true (c .before .before .before .before .before .before .before .four .result) (c .before .before .before .before .before .four2 .result)
-    (c .before .before .before .four3 .result) (c .before .four4 .result) (c .low .ensures h) in
-    let w = low-four true (a .s .now) (a .at) b (rw (c .before .before .before .before .before .before .before .four .ensures) at (l .0)) limit in
-    let x =
-    low-four true (a .s .now) (a .at + size true * (4 - (8 - a .count))) b
-    (rw (c .before .before .before .before .before .four2 .ensures, c .before .before .before .before .before .before .place .ensures, c .before .before .before .before .before .before .before .before .before .minus .ensures) at (l .1)) limit in
-    let y =
-    low-four true (a .s .now) (a .at + size true * (a .count - 8)) b
-    (rw (c .before .before .before .four3 .ensures, c .before .before .before .before .place2 .ensures, c .before .before .before .before .before .before .before .before .minus2 .ensures) at (l .2)) limit in
-    let z = low-four true (a .s .now) (a .at + size true * (a .count - 4)) b (rw (c .before .four4 .ensures, c .before .before .place3 .ensures) at (l .3)) limit in
-    cover true (a .s .now) limit (a .at) (a .count)
-    (c .before .before .before .before .before .before .before .before .before .before .before .pre .1) (c .before .before .before .before .before .before .before .before .before .before .before .pre .2) w x y z
+    let a = c .before .before .before .before .before .before .before .args in
+    let p = c .before .before .before .before .before .before .before .pre in
+    covered true (a .s .now) limit (a .at) (a .count) _ _ _ _ _ _ _ (p .1) (p .2) (c .before .before .before .before .before .spread .ensures)
+    (c .low .ensures h) (λ l. c .before .before .before .before .four .ensures l limit) (λ l. c .before .before .before .four2 .ensures l limit)
+    (λ l. c .before .before .four3 .ensures l limit) (λ l. c .before .four4 .ensures l limit)
 
 pub old-sixteen-spec : {M : Type 1} → statement M
-old-sixteen-spec =
-    tie.close
-    (tie.spec
-    minus-requires
-    sub-next
-    minus-requires-2
-    four-requires
-    place-requires
-    four-requires-2
-    place-requires-2
-    four-requires-3
-    sub-place
-    place-requires-3
-    four-requires-4
-    low-requires
-    returns)
+old-sixteen-spec = tie.close (tie.spec spread-requires four-requires four-requires-2 four-requires-3 four-requires-4 low-requires returns)

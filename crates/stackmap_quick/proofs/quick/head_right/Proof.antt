@@ -7,11 +7,17 @@ use borrow.Author.Needs.{needs}
 use Rattle.stackmap_quick.proofs.quick.head_right.Statement.{statement}
 use Rattle.stackmap_quick.proofs.quick.head_right.Tie as tie
 
+add-u16-at : tie.Need-add-u16-at
+add-u16-at c = search needs
+
 u16-at-requires : tie.Need-u16-at-requires
 u16-at-requires c κs = search needs
 
 returns : tie.Need-returns
 returns c = λ h. absurd (true≢false (sym h))
+
+add-u32-at : tie.Need-add-u32-at
+add-u32-at c = search needs
 
 u32-at-requires : tie.Need-u32-at-requires
 u32-at-requires c κs = search needs
@@ -32,4 +38,4 @@ returns-2 c =
 
 pub head-right-spec : {M : Type 1} → statement M
 head-right-spec =
-    tie.close (tie.spec u16-at-requires returns u32-at-requires cast-offset sub-result returns-2)
+    tie.close (tie.spec add-u16-at u16-at-requires returns add-u32-at u32-at-requires cast-offset sub-result returns-2)
