@@ -4,7 +4,7 @@ use mathlib.Core.Path.{_≡_, refl, sym}
 use mathlib.Core.Bool.{Bool, true, false, true≢false}
 use mathlib.Core.List.{List}
 use lib.Dec.{leb}
-use borrow.Author.Tests.{le-leb}
+use borrow.Author.Tests.{le-leb, leb-true}
 use native.Mathlib.Omega.{arith}
 use Rattle.stackmap.specs.Record.{addressRight}
 use Rattle.stackmap.specs.Walk.{ownerBy}
@@ -13,6 +13,12 @@ pub address-fits : (old : Bool) (a : ℕ) → a ≤ 2 ^ 64 - 1 → addressRight 
 unfolding addressRight
 address-fits true a h = refl
 address-fits false a h = le-leb _ _ h
+
+-- in version 3 what passes fits
+pub right-fits : (old : Bool) (a : ℕ) → old ≡ false → addressRight old a ≡ true → a ≤ 2 ^ 64 - 1
+unfolding addressRight
+right-fits true a e h = absurd (true≢false e)
+right-fits false a e h = leb-true _ _ h
 
 -- where the owner's address is 0 in version 1, its records would pass the test too
 pub same-test : (old : Bool) (a offset : ℕ) → (old ≡ true → a ≡ 0) → offset < 2 ^ 32 → addressRight old (a + offset) ≡ leb (a + offset) (2 ^ 64 - 1)
