@@ -17,7 +17,8 @@ pub struct Gap {
 
 // How many of the entries lie below x: where x lies in the gap or at its upper end, without a search.
 pub fn place(list: &[u64], count: usize, gap: Gap, x: u64) -> usize
-    requires { ⌜ (count ≤ length (now list)) × Sorted (now list) count × Between (now list) count (gap .below) (gap .above) (gap .place) ⌝ }
+    requires { ⌜ (count ≤ length (now list)) × Sorted (now list) count
+        × Between (now list) count (gap .below) (gap .above) (gap .place) ⌝ }
     ensures { λ r. ⌜ LowerBound (now (list .entry)) count x r ⌝ }
 {
     if gap.below < x {

@@ -56,7 +56,8 @@ fn all_apart(
     hits: &[usize; HITS_LENGTH],
 ) -> bool
     requires { ⌜ Looked (now s) (now frames) count (now keys) (now hits) × EachSited (now s) (now frames) count ⌝ }
-    ensures { λ r. ⌜ (r ≡ true → AllApart (λ j. extentOf (now (s .entry)) (frameAt (now (frames .entry)) j) .start) (λ j. extentOf (now (s .entry)) (frameAt (now (frames .entry)) j) .end) count) ⌝ }
+    ensures { λ r. ⌜ (r ≡ true → AllApart (λ j. extentOf (now (s .entry)) (frameAt (now (frames .entry)) j) .start)
+        (λ j. extentOf (now (s .entry)) (frameAt (now (frames .entry)) j) .end) count) ⌝ }
 {
     let mut pairs = [0u64; PAIRS_LENGTH];
     let mut ends = [0u64; FRAMES_MOST];
@@ -110,7 +111,8 @@ pub fn first_shared(
     hits: &[usize; HITS_LENGTH],
 ) -> usize
     requires { ⌜ Looked (now s) (now frames) count (now keys) (now hits) × EachSited (now s) (now frames) count ⌝ }
-    ensures { λ r. ⌜ (r ≤ count) × ((m : moveType.Move) → apart 0 [] (map (extentOf (now (s .entry))) (framesFrom (now (frames .entry)) count 0)) m ≡ cond (ltb r count) (refusedMove 26 r) m) ⌝ }
+    ensures { λ r. ⌜ (r ≤ count) × ((m : moveType.Move) → apart 0 [] (map (extentOf (now (s .entry))) (framesFrom (now (frames .entry)) count 0)) m
+        ≡ cond (ltb r count) (refusedMove 26 r) m) ⌝ }
 {
     if all_apart(s, frames, count, keys, hits) {
         return count;

@@ -61,8 +61,8 @@ fn note_at(
     hits: &mut [usize; HITS_LENGTH],
     i: usize,
 )
-    requires { ⌜ (start ≡ ownerAt (now s) function .function .address) × (at + 16 ≤ length (now s)) × (index < 2 ^ 32) × (count ≤ framesMost)
-        × Counted (now hits) index × (address (entryAt (now s) index function at) ≡ key) × LowerBound (now keys) count key i ⌝ }
+    requires { ⌜ (start ≡ ownerAt (now s) function .function .address) × (at + 16 ≤ length (now s)) × (index < 2 ^ 32)
+        × (count ≤ framesMost) × Counted (now hits) index × (address (entryAt (now s) index function at) ≡ key) × LowerBound (now keys) count key i ⌝ }
     ensures { λ r. ⌜ ((h : ℕ → hitsType.Hits) → Holding (now (keys .entry)) count (now (hits .entry)) h
         → Holding (now (keys .entry)) count (now (hits .exit)) (notedAll (entryAt (now (s .entry)) index function at) h))
         × Counted (now (hits .exit)) (index + 1) ⌝ }

@@ -25,8 +25,8 @@ fn full(start: u64, end: u64) -> usize
 // Puts the stretch number k after `kept` others: a pair of its start and its number, unless it is empty, and its end.
 fn put_in(pairs: &mut [u64], ends: &mut [u64], kept: usize, k: usize, start: u64, end: u64) -> usize
     requires { ⌜ (kept ≤ k) × (2 * k + 1 < length (now pairs)) × (k < length (now ends)) ⌝ }
-    ensures { λ r. ⌜ (r ≤ k + 1) × ((from to : ℕ → ℕ) → Listed from to k kept (now (pairs .entry)) (now (ends .entry)) → start ≡ from k → end ≡ to k
-        → Listed from to (k + 1) r (now (pairs .exit)) (now (ends .exit))) ⌝ }
+    ensures { λ r. ⌜ (r ≤ k + 1) × ((from to : ℕ → ℕ) → Listed from to k kept (now (pairs .entry)) (now (ends .entry))
+        → start ≡ from k → end ≡ to k → Listed from to (k + 1) r (now (pairs .exit)) (now (ends .exit))) ⌝ }
 {
     ends[k] = end;
     pairs[2 * kept] = start;
@@ -44,8 +44,8 @@ pub fn put(
     end: u64,
 ) -> usize
     requires { ⌜ (kept ≤ k) × (k < framesMost) ⌝ }
-    ensures { λ r. ⌜ (r ≤ k + 1) × ((from to : ℕ → ℕ) → Listed from to k kept (now (pairs .entry)) (now (ends .entry)) → start ≡ from k → end ≡ to k
-        → Listed from to (k + 1) r (now (pairs .exit)) (now (ends .exit))) ⌝ }
+    ensures { λ r. ⌜ (r ≤ k + 1) × ((from to : ℕ → ℕ) → Listed from to k kept (now (pairs .entry)) (now (ends .entry))
+        → start ≡ from k → end ≡ to k → Listed from to (k + 1) r (now (pairs .exit)) (now (ends .exit))) ⌝ }
 {
     put_in(pairs, ends, kept, k, start, end)
 }
@@ -73,7 +73,8 @@ fn neighbours(pairs: &[u64], n: usize, ends: &[u64]) -> bool
 // Whether no two of the stretches share a byte. The pairs are put in order.
 fn apart_in(pairs: &mut [u64], n: usize, ends: &[u64]) -> bool
     requires { ⌜ 2 * n ≤ length (now pairs) ⌝ }
-    ensures { λ r. ⌜ (r ≡ true → (from to : ℕ → ℕ) (k : ℕ) → k < 2 ^ 64 → Listed from to k n (now (pairs .entry)) (now (ends .entry)) → AllApart from to k) ⌝ }
+    ensures { λ r. ⌜ (r ≡ true → (from to : ℕ → ℕ) (k : ℕ) → k < 2 ^ 64
+        → Listed from to k n (now (pairs .entry)) (now (ends .entry)) → AllApart from to k) ⌝ }
 {
     sorted_pairs::sort(pairs, n);
     neighbours(pairs, n, ends)
@@ -82,7 +83,8 @@ fn apart_in(pairs: &mut [u64], n: usize, ends: &[u64]) -> bool
 // The same of arrays that have room for each frame's.
 pub fn all_apart(pairs: &mut [u64; PAIRS_LENGTH], n: usize, ends: &[u64; FRAMES_MOST]) -> bool
     requires { ⌜ n ≤ framesMost ⌝ }
-    ensures { λ r. ⌜ (r ≡ true → (from to : ℕ → ℕ) (k : ℕ) → k < 2 ^ 64 → Listed from to k n (now (pairs .entry)) (now (ends .entry)) → AllApart from to k) ⌝ }
+    ensures { λ r. ⌜ (r ≡ true → (from to : ℕ → ℕ) (k : ℕ) → k < 2 ^ 64
+        → Listed from to k n (now (pairs .entry)) (now (ends .entry)) → AllApart from to k) ⌝ }
 {
     apart_in(pairs, n, ends)
 }

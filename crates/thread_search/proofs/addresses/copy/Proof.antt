@@ -38,7 +38,10 @@ loop-less : tie.Need-loop-less Inv-loop μ-loop
 loop-less c = search needs
 
 loop-again : tie.Need-loop-again Inv-loop μ-loop
-loop-again c = (copied-on _ (c .before .before .loop .inv .0) (omega (arith, c .before .before .loop .inv .2)) (first-number (c .before .before .before .args .frames .now) (c .before .before .loop .k)), omega arith, simp length-set (c .before .before .loop .inv .2))
+loop-again c =
+    let l = c .before .before .loop in
+    let a = c .before .before .before .args in
+    (copied-on _ (l .inv .0) (omega (arith, l .inv .2)) (first-number (a .frames .now) (l .k)), omega arith, simp length-set (l .inv .2))
 
 same-length : tie.Need-same-length Inv-loop μ-loop
 same-length c = c .before .loop .inv .2
