@@ -9,7 +9,8 @@ use native.Mathlib.Decide.{decLt}
 use borrow.Author.Tests.{eq-eqb, eqb-true, le-leb, lt-leb, leb-true}
 use lib.Dec.{eqb, leb}
 use lib.ListN.{length, drop, length-map}
-use Rattle.wire.specs.Word.{word}
+use Rattle.wire.specs.Word.{Bytes, word}
+use Rattle.wire.proofs.Laws.{word-bound, word-drop}
 use Rattle.sorted_pairs.specs.Pairs.{firstAt, secondAt, rankAt, Rising, Stepped, Placed}
 use Rattle.stackmap.specs.declared.Verdict.{Verdict}
 use Rattle.stackmap.specs.declared.Verdict.the-variants.{Valid}
@@ -18,6 +19,7 @@ use Rattle.stackmap.specs.Section.{Record, Owner, Entry, address, numRecords, i
 use Rattle.stackmap.specs.Record.{recordCheck}
 use Rattle.stackmap.specs.Walk.{ownerAt, entryAt, Walkable}
 use Rattle.stackmap.proofs.Verdicts.{must-held, chain-rest, shift-valid}
+use Rattle.stackmap.proofs.Addresses.{same-test, owner-zero}
 use Rattle.stackmap.proofs.Entries.{entries-are}
 use Rattle.stackmap.proofs.Turns.{start-length}
 use Rattle.stackmap.proofs.Forth.{length-records}
@@ -178,13 +180,15 @@ module _ (s xs : List ℕ) (place : ℕ) (w : Walkable s) (small : numRecords s 
 
 -- For the walk.
 
--- a valid record's address fits: refusal 8
-pub address-fits : (s : List ℕ) (c number function p q : ℕ) → shift p (recordCheck (isOld s) (drop p s) c (ownerAt s function .function .address)) ≡ Valid q
+-- a valid record's address fits: refusal 8, and in version 1 it is an offset of 32 bits
+pub address-fits : (s : List ℕ) (c number function p q : ℕ) → Bytes s → shift p (recordCheck (isOld s) (drop p s) c (ownerAt s function .function .address)) ≡ Valid q
     → address (entryAt s number function p) < 2 ^ 64
 unfolding recordCheck address readRecord
-address-fits s c number function p q v =
+address-fits s c number function p q w v =
     let x = shift-valid _ _ _ v in
-    let m : ownerAt s function .function .address + word 4 (drop p s) 8 ≤ 2 ^ 64 - 1 = leb-true _ _ (must-held _ _ _ _ _ (chain-rest _ _ _ (x .1))) in
+    let k : word 4 (drop p s) 8 < 2 ^ 32 = rw word-drop (word-bound 4 s (p + 8) w) in
+    let e = same-test (isOld s) (ownerAt s function .function .address) (word 4 (drop p s) 8) (owner-zero (isOld s) s function) k in
+    let m : ownerAt s function .function .address + word 4 (drop p s) 8 ≤ 2 ^ 64 - 1 = leb-true _ _ (sym e ∙ must-held _ _ _ _ _ (chain-rest _ _ _ (x .1))) in
     omega arith
 
 -- what was refused is not valid

@@ -4,7 +4,6 @@ use mathlib.Core.Path.{_≡_, refl, sym, ap, _∙_}
 use mathlib.Core.Bool.{Bool, false, _&&_}
 use mathlib.Core.List.{List}
 use native.Mathlib.Omega.{arith}
-use borrow.Author.Tests.{leb-true}
 use lib.Dec.{leb}
 use lib.ListN.{length, set, take, drop}
 use Rattle.wire.specs.Word.{word}
@@ -14,6 +13,7 @@ use Rattle.stackmap.specs.Section.{numFunctions, numConstants, isOld, recordsAt
 use Rattle.stackmap.specs.Record.{recordBytes, recordCheck}
 use Rattle.stackmap.specs.Check.{recordsCheck, walkCheck, Accepted}
 use Rattle.stackmap.specs.Walk.{ownerAt, entryAt, ahead}
+use Rattle.stackmap.proofs.Addresses.{right-fits}
 use Rattle.stackmap.proofs.Verdicts.{must-held, chain-first, chain-rest, bind-first, shift-valid}
 use Rattle.stackmap.proofs.Within.{Tabled, begin-held, section-parts, is-inside, here-inside, part-from}
 use Rattle.stackmap.proofs.Turns.{allOwners, checkedAt, walk-here}
@@ -54,10 +54,10 @@ module _ (s : List ℕ) (k : Accepted s) where
     next-whole = is-inside (isOld s) (drop p s) _ (chain-first _ _ _ (checked .1) .1)
 
     -- its address is below 2^64
-    pub next-address : address (entryAt s 0 (next′ - 1) p) < 2 ^ 64
+    pub next-address : isOld s ≡ false → address (entryAt s 0 (next′ - 1) p) < 2 ^ 64
     unfolding recordCheck address readRecord
-    next-address =
-        let h = leb-true (ownerAt s (next′ - 1) .function .address + word 4 (drop p s) 8) (2 ^ 64 - 1)
+    next-address new =
+        let h = right-fits (isOld s) (ownerAt s (next′ - 1) .function .address + word 4 (drop p s) 8) new
         (must-held _ 8 0 (recordBytes (isOld s) (drop p s) (numConstants s)) _ (chain-rest _ _ _ (checked .1))) in
         omega arith
 

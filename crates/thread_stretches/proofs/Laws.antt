@@ -8,7 +8,7 @@ use native.Mathlib.Decide.{decLt, ℕ-discrete}
 use lib.ListN.{length, getD, set, length-set}
 use lib.Seq.{getD-set-same, getD-set-other}
 use Rattle.sorted_pairs.specs.Pairs.{firstAt, secondAt, rankAt, Reordered, Stepped}
-use Rattle.thread.specs.Stretches.{share}
+use Rattle.thread.specs.Thread.{share}
 use Rattle.thread.proofs.StretchesApart.{share-empty, share-empty-2, share-above, share-below}
 use Rattle.thread_stretches.specs.Listed.{PairOf, Listed, Clear, AllApart}
 

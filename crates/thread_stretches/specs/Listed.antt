@@ -6,7 +6,7 @@ use mathlib.Core.Bool.{false}
 use mathlib.Core.List.{List}
 use lib.ListN.{getD}
 use Rattle.sorted_pairs.specs.Pairs.{firstAt, secondAt}
-use Rattle.thread.specs.Stretches.{share}
+use Rattle.thread.specs.Thread.{share}
 
 -- the pair (a, b) is one of the first n, with its place
 pub record PairOf (pairs : List ℕ) (n a b : ℕ) : Type 0 where

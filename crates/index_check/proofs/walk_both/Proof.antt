@@ -11,6 +11,7 @@ use Rattle.questions.proofs.Kept.{hits-answer}
 use Rattle.questions.proofs.Asked.{ask-stop, ask-after, ask-whole}
 use Rattle.index.specs.Numbered.{rowsOf}
 use Rattle.index_check.specs.Seen.{seen, Following}
+use Rattle.wire.specs.Word.{Bytes}
 use Rattle.index_check.proofs.Laws.{address-fits, refused-invalid}
 use borrow.Author.Needs.{needs}
 use Rattle.index_check.proofs.walk_both.Statement.{statement}
@@ -99,7 +100,8 @@ next-place-requires : tie.Need-next-place-requires Inv-loop μ-loop
 next-place-requires c κs =
     let l = c .before .before .before .before .before .before .before .before .loop in
     let v = sym (c .before .before .before .before .before .record-at .ensures) ∙ c .before .before .before .end .given .1 in
-    (c .before .owner-address .ensures, here-inside _ _ _ _ _ _ (l .inv .0 .walking .inside) v, address-fits (c .before .before .before .before .before .before .before .before .before .before .before .before .before .before .before .before .args .s .now) (c .before .before .before .before .before .before .before .before .before .before .before .before .before .u32-at .result) (l .number) (c .before .before .before .before .before .before .owner .result .next - 1) (l .p) _ v, omega arith, l .inv .4)
+    let w : Bytes (c .before .before .before .before .before .before .before .before .before .before .before .before .before .before .before .before .args .s .now) = record { below = λ j. omega (arith, c .before .before .before .before .before .before .before .before .before .before .before .before .before .before .before .shared-slice-known .given j) } in
+    (c .before .owner-address .ensures, here-inside _ _ _ _ _ _ (l .inv .0 .walking .inside) v, address-fits (c .before .before .before .before .before .before .before .before .before .before .before .before .before .before .before .before .args .s .now) (c .before .before .before .before .before .before .before .before .before .before .before .before .before .u32-at .result) (l .number) (c .before .before .before .before .before .before .owner .result .next - 1) (l .p) _ w v, omega arith, l .inv .4)
 
 sub-t25 : tie.Need-sub-t25 Inv-loop μ-loop
 sub-t25 c = search needs

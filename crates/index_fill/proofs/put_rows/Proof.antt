@@ -53,7 +53,7 @@ address-at-requires c κs =
     let f = c .before .before .loop .inv .0 in
     let o = c .owner in
     let m = o .ensures .3 (q .pre .1) in
-    (q .pre .1, tabled _ (q .pre .0) .walkable .inside, omega (arith, o .ensures .2), next-head _ (q .pre .0) f _ _ (o .ensures .0) (o .ensures .1), next-address _ (q .pre .0) f _ _ (o .ensures .0) (o .ensures .1))
+    (q .pre .1, tabled _ (q .pre .0) .walkable .inside, omega (arith, o .ensures .2), next-head _ (q .pre .0) f _ _ (o .ensures .0) (o .ensures .1), next-address _ (q .pre .0) f _ _ (o .ensures .0) (o .ensures .1) (q .pre .1))
 
 put-row-requires : tie.Need-put-row-requires Inv-loop μ-loop
 put-row-requires c κs =
