@@ -11,6 +11,7 @@ use stackmap::Verdict;
 
 pub mod address_index;
 pub mod flat_sections;
+pub mod index_lookups;
 
 const VERSION: u32 = 1;
 
