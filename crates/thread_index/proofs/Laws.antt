@@ -20,9 +20,11 @@ use Rattle.index.proofs.Same.{same-self}
 use Rattle.moves.specs.declared.Move.{Move}
 use Rattle.moves.specs.Table.{tableRight}
 use Rattle.moves.specs.Settle.{refusedMove}
+use Rattle.relocate.specs.Restore.{Restore}
 use Rattle.relocate.specs.Plan.{imageRight}
 use Rattle.relocate.specs.Lists.{final}
-use Rattle.thread.specs.Thread.{framesOf, threadAnswer, threadImage, Threads}
+use Rattle.thread.specs.Thread.{framesOf, threadAnswer, threadImage}
+use Rattle.thread.specs.Code.{Threads}
 use Rattle.thread_index.specs.ByIndex.{threadByIndexAnswer, threadByIndexImage, ThreadsByIndex}
 use Rattle.thread_index.specs.Laws.{IndexMoves}
 
@@ -40,14 +42,14 @@ twice : (b : Bool) (x y : List ℕ) → cond b (cond b x y) y ≡ cond b x y
 twice true x y = refl
 twice false x y = refl
 
-module _ (s olds news : List ℕ) (first : ℕ) (im ns : List ℕ) where
-  with-index : isOld s ≡ false → threadByIndexAnswer s olds news first im (indexOf s) ns ≡ threadAnswer s olds news first im ns
+module _ (R : Restore) (im ns : List ℕ) where
+  with-index : isOld (R .section) ≡ false → threadByIndexAnswer R im (indexOf (R .section)) ns ≡ threadAnswer R im ns
   unfolding threadByIndexAnswer threadAnswer
-  with-index new = rw (new, same-self (indexOf s)) (once (sectionCheck s) (imageRight first (length im)) (tableRight olds news) refusedMove _ 13 14)
+  with-index new = rw (new, same-self (indexOf (R .section))) (once (sectionCheck (R .section)) (imageRight (R .first) (length im)) (tableRight (R .olds) (R .news)) refusedMove _ 13 14)
 
-  left-so : isOld s ≡ false → threadByIndexImage s olds news first im (indexOf s) ns ≡ threadImage s olds news first im ns
+  left-so : isOld (R .section) ≡ false → threadByIndexImage R im (indexOf (R .section)) ns ≡ threadImage R im ns
   unfolding threadByIndexImage threadImage
-  left-so new = rw (with-index new) (twice (eqb (threadAnswer s olds news first im ns .number) 0) (final s olds news first (framesOf ns) im) im)
+  left-so new = rw (with-index new) (twice (eqb (threadAnswer R im ns .number) 0) (final R (framesOf ns) im) im)
 
 -- What the code's tests tell.
 
@@ -56,42 +58,42 @@ pub own-number : (r : Found) → ofSection r ≡ true → r .number ≡ 0 → �
 unfolding ofSection
 own-number r h z = true≢false (sym (rw z at h))
 
-module _ (s olds news : List ℕ) (first : ℕ) (im index ns : List ℕ) where
+module _ (R : Restore) (im index ns : List ℕ) where
   -- a refusal leaves the image as lent
-  pub refused-so : {r : Move} (n p : ℕ) → (n ≡ 0 → ⊥) → r ≡ refusedMove n p → threadByIndexAnswer s olds news first im index ns ≡ refusedMove n p
-      → ThreadsByIndex s olds news first im index ns r im
+  pub refused-so : {r : Move} (n p : ℕ) → (n ≡ 0 → ⊥) → r ≡ refusedMove n p → threadByIndexAnswer R im index ns ≡ refusedMove n p
+      → ThreadsByIndex R im index ns r im
   unfolding threadByIndexImage
   refused-so n p d q e = record { answer-is = q ∙ sym e; image-is = rw (e, ne-eqb n 0 d) }
 
   -- the call without an index is made
-  pub moved-so : {r : Move} {after : List ℕ} → threadByIndexAnswer s olds news first im index ns ≡ threadAnswer s olds news first im ns
-      → Threads s olds news first im ns r after → ThreadsByIndex s olds news first im index ns r after
+  pub moved-so : {r : Move} {after : List ℕ} → threadByIndexAnswer R im index ns ≡ threadAnswer R im ns
+      → Threads R im ns r after → ThreadsByIndex R im index ns r after
   unfolding threadByIndexImage threadImage
   moved-so e t =
-      record { answer-is = t .answer-is ∙ sym e; image-is = t .image-is ∙ rw e (sym (twice (eqb (threadAnswer s olds news first im ns .number) 0) (final s olds news first (framesOf ns) im) im)) }
+      record { answer-is = t .answer-is ∙ sym e; image-is = t .image-is ∙ rw e (sym (twice (eqb (threadAnswer R im ns .number) 0) (final R (framesOf ns) im) im)) }
 
-  module _ (h : Accepted s) where
-    pub by-13 : imageRight first (length im) ≡ false → threadByIndexAnswer s olds news first im index ns ≡ refusedMove 13 0
+  module _ (h : Accepted (R .section)) where
+    pub by-13 : imageRight (R .first) (length im) ≡ false → threadByIndexAnswer R im index ns ≡ refusedMove 13 0
     unfolding threadByIndexAnswer
-    by-13 a = asked refusedMove _ s h ∙ rw a
+    by-13 a = asked refusedMove _ (R .section) h ∙ rw a
 
-    pub by-14 : imageRight first (length im) ≡ true → tableRight olds news ≡ false → threadByIndexAnswer s olds news first im index ns ≡ refusedMove 14 0
+    pub by-14 : imageRight (R .first) (length im) ≡ true → tableRight (R .olds) (R .news) ≡ false → threadByIndexAnswer R im index ns ≡ refusedMove 14 0
     unfolding threadByIndexAnswer
-    by-14 a b = asked refusedMove _ s h ∙ rw (a, b)
+    by-14 a b = asked refusedMove _ (R .section) h ∙ rw (a, b)
 
-    pub by-27 : imageRight first (length im) ≡ true → tableRight olds news ≡ true → isOld s ≡ true → threadByIndexAnswer s olds news first im index ns ≡ refusedMove 27 0
+    pub by-27 : imageRight (R .first) (length im) ≡ true → tableRight (R .olds) (R .news) ≡ true → isOld (R .section) ≡ true → threadByIndexAnswer R im index ns ≡ refusedMove 27 0
     unfolding threadByIndexAnswer
-    by-27 a b o = asked refusedMove _ s h ∙ rw (a, b, o)
+    by-27 a b o = asked refusedMove _ (R .section) h ∙ rw (a, b, o)
 
-    pub by-29 : imageRight first (length im) ≡ true → tableRight olds news ≡ true → isOld s ≡ false → same index (indexOf s) ≡ false
-        → threadByIndexAnswer s olds news first im index ns ≡ refusedMove 29 0
+    pub by-29 : imageRight (R .first) (length im) ≡ true → tableRight (R .olds) (R .news) ≡ true → isOld (R .section) ≡ false → same index (indexOf (R .section)) ≡ false
+        → threadByIndexAnswer R im index ns ≡ refusedMove 29 0
     unfolding threadByIndexAnswer
-    by-29 a b o r = asked refusedMove _ s h ∙ rw (a, b, o, r)
+    by-29 a b o r = asked refusedMove _ (R .section) h ∙ rw (a, b, o, r)
 
-    pub by-call : imageRight first (length im) ≡ true → tableRight olds news ≡ true → isOld s ≡ false → same index (indexOf s) ≡ true
-        → threadByIndexAnswer s olds news first im index ns ≡ threadAnswer s olds news first im ns
+    pub by-call : imageRight (R .first) (length im) ≡ true → tableRight (R .olds) (R .news) ≡ true → isOld (R .section) ≡ false → same index (indexOf (R .section)) ≡ true
+        → threadByIndexAnswer R im index ns ≡ threadAnswer R im ns
     unfolding threadByIndexAnswer
-    by-call a b o r = asked refusedMove _ s h ∙ rw (a, b, o, r)
+    by-call a b o r = asked refusedMove _ (R .section) h ∙ rw (a, b, o, r)
 
 pub index-moves : IndexMoves
 index-moves = record { same-answer = with-index; same-image = left-so }

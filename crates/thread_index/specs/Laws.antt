@@ -5,11 +5,12 @@ use mathlib.Core.Bool.{false}
 use mathlib.Core.List.{List}
 use Rattle.stackmap.specs.Section.{isOld}
 use Rattle.index.specs.Index.{indexOf}
+use Rattle.relocate.specs.Restore.{Restore}
 use Rattle.thread.specs.Thread.{threadAnswer, threadImage}
 use Rattle.thread_index.specs.ByIndex.{threadByIndexAnswer, threadByIndexImage}
 
 pub record IndexMoves : Type 0 where
-  pub same-answer : (s olds news : List ℕ) (first : ℕ) (im ns : List ℕ) → isOld s ≡ false
-      → threadByIndexAnswer s olds news first im (indexOf s) ns ≡ threadAnswer s olds news first im ns
-  pub same-image : (s olds news : List ℕ) (first : ℕ) (im ns : List ℕ) → isOld s ≡ false
-      → threadByIndexImage s olds news first im (indexOf s) ns ≡ threadImage s olds news first im ns
+  pub same-answer : (R : Restore) (im ns : List ℕ) → isOld (R .section) ≡ false
+      → threadByIndexAnswer R im (indexOf (R .section)) ns ≡ threadAnswer R im ns
+  pub same-image : (R : Restore) (im ns : List ℕ) → isOld (R .section) ≡ false
+      → threadByIndexImage R im (indexOf (R .section)) ns ≡ threadImage R im ns

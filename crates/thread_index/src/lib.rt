@@ -1,5 +1,6 @@
 // A whole thread in one call that is handed an index of the section. The index is tested; where it is the right one, the call is that
 // without an index.
+ghost use Rattle.relocate.specs.Restore.{restore};
 ghost use Rattle.thread_index.specs.ByIndex.{ThreadsByIndex};
 use moves::Move;
 use moves_table::table;
@@ -22,7 +23,7 @@ pub fn relocate_thread_by_index(
     list: &[u64],
     index: &[u64],
 ) -> Move
-    ensures { λ r. ⌜ ThreadsByIndex (now (section .entry)) (now (olds .entry)) (now (news .entry)) first (now (image .entry)) (now (index .entry)) (now (list .entry)) r (now (image .exit)) ⌝ }
+    ensures { λ r. ⌜ ThreadsByIndex (restore (now (section .entry)) (now (olds .entry)) (now (news .entry)) first) (now (image .entry)) (now (index .entry)) (now (list .entry)) r (now (image .exit)) ⌝ }
 {
     let checked = index_check::check(section, index, 0);
     let found = checked.found;

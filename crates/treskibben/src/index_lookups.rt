@@ -1,26 +1,22 @@
 // The exported functions that are handed an address index, for C and Rust, and nothing else.
 ghost use mathlib.Core.Path.{_≡_};
 ghost use Rattle.index.specs.Index.{byIndex, allByIndex};
+ghost use Rattle.relocate.specs.Restore.{restore};
 ghost use Rattle.thread_index.specs.ByIndex.{threadByIndexAnswer, threadByIndexImage};
-ghost use Rattle.treskibben.specs.Answer.{foundAt, moveAnswer};
+ghost use Rattle.treskibben_answers.specs.Answer.{foundAt, moveAnswer};
 ghost use Rattle.treskibben.specs.AddressIndex.{listed};
-use crate::Answer;
-use crate::Found;
 
 // The question by address through an index: the section's refusal, 27 on version 1, 29 unless the list is the section's index, 10 exactly if
 // no record has the address; or the first record with it, its function, and how many records share it.
 #[no_mangle]
-pub extern "C" fn treskibben_find_by_index(section: &[u8], index: &[u64], address: u64) -> Found
+pub extern "C" fn treskibben_find_by_index(
+    section: &[u8],
+    index: &[u64],
+    address: u64,
+) -> treskibben_answers::Found
     ensures { λ r. ⌜ r ≡ foundAt (byIndex (now (section .entry)) (now (index .entry)) address) ⌝ }
 {
-    let f = index_find::find_by_index(section, index, address);
-    Found {
-        number: f.number as u64,
-        place: f.place as u64,
-        index: f.index as u64,
-        function: f.function as u64,
-        sharing: f.sharing as u64,
-    }
+    treskibben_answers::search_answer(index_find::find_by_index(section, index, address))
 }
 
 // Many such questions in one call: five numbers an address, those of the answer above. The section's refusal, 27, 29, 24 if the list of
@@ -31,11 +27,11 @@ pub extern "C" fn treskibben_find_all_by_index(
     index: &[u64],
     addresses: &[u64],
     answers: &mut [u64],
-) -> Answer
+) -> treskibben_answers::Answer
     ensures { λ r. ⌜ (r ≡ listed (allByIndex (now (section .entry)) (now (index .entry)) (now (addresses .entry)) (now (answers .entry)))) × (now (answers .exit) ≡ allByIndex (now (section .entry)) (now (index .entry)) (now (addresses .entry)) (now (answers .entry)) .output) ⌝ }
 {
     let w = index_find_all::find_all_by_index(section, index, addresses, answers);
-    Answer {
+    treskibben_answers::Answer {
         number: w.number as u64,
         place: w.place as u64,
         value: w.written as u64,
@@ -52,10 +48,10 @@ pub extern "C" fn treskibben_thread_by_index(
     news: &[u64],
     frames: &[u64],
     index: &[u64],
-) -> Answer
-    ensures { λ r. ⌜ (r ≡ moveAnswer (threadByIndexAnswer (now (section .entry)) (now (olds .entry)) (now (news .entry)) first (now (image .entry)) (now (index .entry)) (now (frames .entry)))) × (now (image .exit) ≡ threadByIndexImage (now (section .entry)) (now (olds .entry)) (now (news .entry)) first (now (image .entry)) (now (index .entry)) (now (frames .entry))) ⌝ }
+) -> treskibben_answers::Answer
+    ensures { λ r. ⌜ (r ≡ moveAnswer (threadByIndexAnswer (restore (now (section .entry)) (now (olds .entry)) (now (news .entry)) first) (now (image .entry)) (now (index .entry)) (now (frames .entry)))) × (now (image .exit) ≡ threadByIndexImage (restore (now (section .entry)) (now (olds .entry)) (now (news .entry)) first) (now (image .entry)) (now (index .entry)) (now (frames .entry))) ⌝ }
 {
-    let t = thread_index::relocate_thread_by_index(
+    treskibben_answers::move_answer(thread_index::relocate_thread_by_index(
         section,
         image,
         first,
@@ -63,10 +59,5 @@ pub extern "C" fn treskibben_thread_by_index(
         news,
         frames,
         index,
-    );
-    Answer {
-        number: t.number as u64,
-        place: t.place as u64,
-        value: t.count as u64,
-    }
+    ))
 }

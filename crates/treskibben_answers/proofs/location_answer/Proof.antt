@@ -5,7 +5,6 @@ use borrow.Author.Needs.{needs}
 use Rattle.treskibben_answers.proofs.location_answer.Statement.{statement}
 use Rattle.treskibben_answers.proofs.location_answer.Tie as tie
 
-
 cast-t2 : tie.Need-cast-t2
 cast-t2 c = search needs
 

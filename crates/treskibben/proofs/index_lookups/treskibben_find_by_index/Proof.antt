@@ -1,4 +1,5 @@
--- The answer of the question, field by field.
+use mathlib.Core.Path.{ap, _∙_}
+use Rattle.treskibben_answers.specs.Answer.{foundAt}
 use borrow.Author.Needs.{needs}
 use Rattle.treskibben.proofs.index_lookups.treskibben_find_by_index.Statement.{statement}
 use Rattle.treskibben.proofs.index_lookups.treskibben_find_by_index.Tie as tie
@@ -6,11 +7,11 @@ use Rattle.treskibben.proofs.index_lookups.treskibben_find_by_index.Tie
 find-by-index-requires : tie.Need-find-by-index-requires
 find-by-index-requires c κs = search needs
 
-cast-t5 : tie.Need-cast-t5
-cast-t5 c = search needs
+search-answer-requires : tie.Need-search-answer-requires
+search-answer-requires c κs = search needs
 
 returns : tie.Need-returns
-returns c = rw (← c .before .find-by-index .ensures)
+returns c = c .search-answer .ensures ∙ ap foundAt (c .before .find-by-index .ensures)
 
 pub treskibben-find-by-index-spec : {M : Type 1} → statement M
-treskibben-find-by-index-spec = tie.close (tie.spec find-by-index-requires cast-t5 returns)
+treskibben-find-by-index-spec = tie.close (tie.spec find-by-index-requires search-answer-requires returns)
