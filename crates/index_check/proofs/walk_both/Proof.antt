@@ -43,8 +43,14 @@ no-hits-requires c κs = search needs
 loop-holds : tie.Need-loop-holds Inv-loop μ-loop
 loop-holds c =
     let q = c .before .before .before .before .before .before .before in
-    let e = c .before .before .before .u32-at2 .ensures in
-    (rw (c .no-hits .ensures) (fold-start (noted (q .args .address)) noHits (q .pre .0) (c .before .start .ensures) (q .pre .1) (q .pre .2) e), rw (c .no-hits .ensures) (omega arith), omega arith, fold-start (seen (rowsOf (c .before .before .before .u32-at2 .result) (q .args .list .now))) (leb (q .args .place) (c .before .before .before .u32-at2 .result)) (q .pre .0) (c .before .start .ensures) (q .pre .1) (q .pre .2) e, rw e (q .pre .3))
+    let e = c .before .before .before .u32-at2 .ensures in (
+      rw (c .no-hits .ensures) (fold-start (noted (q .args .address)) noHits (q .pre .0) (c .before .start .ensures) (q .pre .1) (q .pre .2) e),
+      rw (c .no-hits .ensures) (omega arith),
+      omega arith,
+      fold-start
+          (seen (rowsOf (c .before .before .before .u32-at2 .result) (q .args .list .now))) (leb (q .args .place) (c .before .before .before .u32-at2 .result)) (q .pre .0) (c .before .start .ensures) (q .pre .1) (q .pre .2) e,
+      rw e (q .pre .3),
+    )
 
 owner-requires : tie.Need-owner-requires Inv-loop μ-loop
 owner-requires c κs =
@@ -57,8 +63,12 @@ sub-record-at c = search needs
 
 record-at-requires : tie.Need-record-at-requires Inv-loop μ-loop
 record-at-requires c κs =
-    let w = c .before .before .loop .inv .0 .walking in
-    (c .before .before .before .before .before .is-old .ensures, c .before .before .before .before .before .before .before .before .before .before .pre .0 .inside, (λ z. let m = c .owner .ensures .3 z in let k = c .owner .ensures .2 in omega arith), w .inside)
+    let w = c .before .before .loop .inv .0 .walking in (
+      c .before .before .before .before .before .is-old .ensures,
+      c .before .before .before .before .before .before .before .before .before .before .pre .0 .inside,
+      (λ z. let m = c .owner .ensures .3 z in let k = c .owner .ensures .2 in omega arith),
+      w .inside,
+    )
 
 enum-known-k : tie.Need-enum-known-k Inv-loop μ-loop
 enum-known-k c = search needs
@@ -98,8 +108,16 @@ sub-next-place c = search needs
 next-place-requires : tie.Need-next-place-requires Inv-loop μ-loop
 next-place-requires c κs =
     let l = c .before .before .before .before .before .before .before .before .loop in
-    let v = sym (c .before .before .before .before .before .record-at .ensures) ∙ c .before .before .before .end .given .1 in
-    (c .before .owner-address .ensures, here-inside _ _ _ _ _ _ (l .inv .0 .walking .inside) v, address-fits (c .before .before .before .before .before .before .before .before .before .before .before .before .before .before .before .before .args .s .now) (c .before .before .before .before .before .before .before .before .before .before .before .before .before .u32-at .result) (l .number) (c .before .before .before .before .before .before .owner .result .next - 1) (l .p) _ v, omega arith, l .inv .4)
+    let v = sym (c .before .before .before .before .before .record-at .ensures) ∙ c .before .before .before .end .given .1 in (
+      c .before .owner-address .ensures,
+      here-inside _ _ _ _ _ _ (l .inv .0 .walking .inside) v,
+      address-fits
+          (c .before .before .before .before .before .before .before .before .before .before .before .before .before .before .before .before .args .s .now)
+          (c .before .before .before .before .before .before .before .before .before .before .before .before .before .u32-at .result) (l .number) (c .before .before .before .before .before .before .owner .result .next - 1)
+          (l .p) _ v,
+      omega arith,
+      l .inv .4,
+    )
 
 sub-t25 : tie.Need-sub-t25 Inv-loop μ-loop
 sub-t25 c = search needs
@@ -121,7 +139,8 @@ loop-again c =
     let v = sym (c .before .before .before .before .before .before .before .record-at .ensures) ∙ c .before .before .before .before .before .end .given .1 in
     let t = c .before .before .before .before .before .before .before .before .before .loop-test .taken in
     let f = fold-on (noted (q .args .address)) (o .result .next) (o .result .left) (l .inv .0) (o .ensures .0) (o .ensures .1) (o .ensures .2) (o .ensures .3) t v in
-    let g = fold-on (seen (rowsOf (c .before .before .before .before .before .before .before .before .before .before .before .before .before .before .u32-at2 .result) (q .args .list .now))) (o .result .next) (o .result .left) (l .inv .3) (o .ensures .0) (o .ensures .1) (o .ensures .2) (o .ensures .3) t v in
+    let g = fold-on (seen (rowsOf (c .before .before .before .before .before .before .before .before .before .before .before .before .before .before .u32-at2 .result) (q .args .list .now))) (o .result .next) (o .result .left) (l .inv .3)
+    (o .ensures .0) (o .ensures .1) (o .ensures .2) (o .ensures .3) t v in
     (rw (c .before .before .note .ensures .0) f, c .before .before .note .ensures .1, omega arith, rw (c .before .next-place .ensures .1) g, c .before .next-place .ensures .0)
 
 refused-requires-2 : tie.Need-refused-requires-2 Inv-loop μ-loop
@@ -142,8 +161,12 @@ returns-3 c =
     let l = c .before .before .before .loop in
     let none : l .remaining ≡ 0 = omega arith in
     let e = c .before .before .before .before .before .before .before .u32-at2 .ensures in
-    let k = fold-end (noted (q .args .address)) (l .inv .0) none in
-    (c .ended .ensures .0 ∙ rw (← k) (hits-answer (q .args .address) (entries (q .args .s .now))) ∙ ask-whole _ _ (c .before .before .before .before .before .before .before .before .u32-at .ensures) (l .inv .0) none (c .before .if1 .left), λ h. c .ended .ensures .1 ∙ sym (fold-end (seen (rowsOf (c .before .before .before .before .before .before .before .u32-at2 .result) (q .args .list .now))) (l .inv .3) none) ∙ ap (λ (m : ℕ). fold (seen (rowsOf m (q .args .list .now))) (entries (q .args .s .now)) (leb (q .args .place) m)) e)
+    let k = fold-end (noted (q .args .address)) (l .inv .0) none in (
+      c .ended .ensures .0 ∙ rw (← k) (hits-answer (q .args .address) (entries (q .args .s .now))) ∙ ask-whole _ _ (c .before .before .before .before .before .before .before .before .u32-at .ensures) (l .inv .0) none
+          (c .before .if1 .left),
+      λ h. c .ended .ensures .1 ∙ sym (fold-end (seen (rowsOf (c .before .before .before .before .before .before .before .u32-at2 .result) (q .args .list .now))) (l .inv .3) none) ∙ ap
+          (λ (m : ℕ). fold (seen (rowsOf m (q .args .list .now))) (entries (q .args .s .now)) (leb (q .args .place) m)) e,
+    )
 
 pub walk-both-spec : {M : Type 1} → statement M
 walk-both-spec =
