@@ -13,7 +13,7 @@ use Rattle.stackmap.specs.Section.{functionFields, constantFields, recordFields
 use Rattle.stackmap.proofs.Fields.{size-append, length-many, size-many}
 use Rattle.stackmap.proofs.Items.{function-size, constant-size}
 use Rattle.listing.specs.Listing.{listedFunction, listedConstant, readItems}
-use Rattle.parser_items.specs.Count.{Tabled}
+use Rattle.parser_items.specs.Count.{TablesCounted}
 use Rattle.parser_items.specs.Survey.{recordsFrom, recordsAfter, functionsOf}
 use Rattle.builder.specs.Put.{headerFields}
 use Rattle.builder_items.proofs.Puts.{then-put, puts-all}
@@ -36,7 +36,7 @@ header-put old f c n out = rw (← header-words old f c n) (puts-all (headerWord
 
 -- The section.
 
-module _ (old : Bool) {l : List ℕ} {f c n : ℕ} (t : Tabled l f c) (counted : length (recordsFrom l (recordsAfter l f c)) ≡ n) where
+module _ (old : Bool) {l : List ℕ} {f c n : ℕ} (t : TablesCounted l f c) (counted : length (recordsFrom l (recordsAfter l f c)) ≡ n) where
   abbrev H : List Field
   H = headerFields old f c n
 

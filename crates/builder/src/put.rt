@@ -30,7 +30,7 @@ fn version_word(old: bool) -> u32
 }
 
 // The header: version and three zero bytes, and how many functions, constants and records.
-fn header(plan: Plan, out: &mut [u8])
+fn put_header(plan: Plan, out: &mut [u8])
     requires { ⌜ (plan .functions ≤ listingMost) × (plan .constants ≤ listingMost) × (plan .records ≤ listingMost) × (headerSize ≤ length (now out)) ⌝ }
     ensures { λ _. ⌜ now (out .exit) ≡ sets (now (out .entry)) 0 (bytesOf (headerFields (plan .old) (plan .functions) (plan .constants) (plan .records))) ⌝ }
 {
@@ -52,7 +52,7 @@ pub fn section(l: &[u8], plan: Plan, out: &mut [u8])
     let from = first + numbers::CONSTANT_ITEM_SIZE * c;
     let next = layout::HEADER_SIZE + layout::function_size(plan.old) * f;
     let to = next + layout::CONSTANT_SIZE * c;
-    header(plan, out);
+    put_header(plan, out);
     runs::functions(l, plan.old, 0, f, out, layout::HEADER_SIZE);
     runs::constants(l, first, c, out, next);
     builder_records::records(l, plan.old, from, n, out, to);

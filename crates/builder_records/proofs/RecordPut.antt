@@ -14,7 +14,7 @@ use Rattle.stackmap.specs.Section.{locationFields, liveOutFields, recordFields}
 use Rattle.stackmap.proofs.Fields.{size-append, length-many, size-many}
 use Rattle.stackmap.proofs.Items.{location-size, live-out-size}
 use Rattle.listing.specs.Listing.{listedLocation, listedLiveOut, listedRecord}
-use Rattle.parser_items.specs.Count.{Shaped}
+use Rattle.parser_items.specs.Count.{RecordCounted}
 use Rattle.builder_records.specs.Put.{headFields}
 use Rattle.builder_items.proofs.Puts.{then-put, puts-all}
 
@@ -33,7 +33,7 @@ two-fields : (w v u x : ℕ) (out : List ℕ) (p q : ℕ) → q ≡ p + w → se
 unfolding bytesOf
 two-fields w v u x out p q e = rw (append-nil, sets-append, length-bytes, e)
 
-module _ (old : Bool) {l : List ℕ} {at n m stop : ℕ} (h : Shaped l at n m stop) where
+module _ (old : Bool) {l : List ℕ} {at n m stop : ℕ} (h : RecordCounted l at n m stop) where
   abbrev H : List Field
   H = headFields l at n
 

@@ -13,7 +13,7 @@ use Rattle.stackmap.proofs.Tests.{and-true}
 use Rattle.stackmap.proofs.Verdicts.{must-held, must-rest}
 use Rattle.listing.specs.Layout.{recordKind, recordItemSize, itemsMost}
 use Rattle.listing.specs.Listing.{stands, listedRecord}
-use Rattle.parser_items.specs.Count.{Shaped}
+use Rattle.parser_items.specs.Count.{RecordCounted}
 use Rattle.parser_items.specs.Survey.{recordSize, recordsFrom}
 use Rattle.parser_items.specs.Draft.{Ready}
 use Rattle.parser_items.proofs.Records.{shape-size, records-here, check-here, sized-here, some-record}
@@ -30,7 +30,7 @@ module _ {l : List ℕ} {at n : ℕ} (r : Ready l at n) (h : 0 < n) where
   pub ready-stands : stands recordKind recordItemSize l at ≡ true
   ready-stands = let c = r .counted in some-record l at (omega arith)
 
-  module _ {a b stop : ℕ} (s : Shaped l at a b stop) where
+  module _ {a b stop : ℕ} (s : RecordCounted l at a b stop) where
     -- neither list is too long
     pub ready-small : (a ≤ itemsMost) × (b ≤ itemsMost)
     ready-small =
@@ -51,7 +51,7 @@ module _ {l : List ℕ} {old : Bool} {from : ℕ} {out₀ : List ℕ} {to : ℕ}
   pub records-start : {n : ℕ} → Ready l from n → to + size (all (recordFields old) (recordsFrom l from)) ≤ length out₀ → PuttingRecords l old from out₀ to out₀ from to n
   records-start r h = record { ready = r; room = h; long = refl; same = refl }
 
-  module _ {out : List ℕ} {at q left : ℕ} (w : PuttingRecords l old from out₀ to out at q left) (h : 0 < left) {a b stop : ℕ} (s : Shaped l at a b stop) where
+  module _ {out : List ℕ} {at q left : ℕ} (w : PuttingRecords l old from out₀ to out at q left) (h : 0 < left) {a b stop : ℕ} (s : RecordCounted l at a b stop) where
     pub record-room : q + recordSize old a b ≤ length out
     record-room =
         let r = w .room in

@@ -9,7 +9,7 @@ ghost use Rattle.stackmap.specs.Fields.{bytesOf, size, all};
 ghost use Rattle.stackmap.specs.Section.{recordFields};
 ghost use Rattle.listing.specs.Layout.{recordItemSize, itemsMost, listingMost};
 ghost use Rattle.listing.specs.Listing.{listedRecord};
-ghost use Rattle.parser_items.specs.Count.{Shaped};
+ghost use Rattle.parser_items.specs.Count.{RecordCounted};
 ghost use Rattle.parser_items.specs.Survey.{recordSize, recordsFrom};
 ghost use Rattle.parser_items.specs.Draft.{Ready};
 ghost use Rattle.builder_records.specs.Put.{headFields};
@@ -34,7 +34,7 @@ fn head(l: &[u8], at: usize, n: usize, out: &mut [u8], to: usize)
 
 // The record item at `at` with its locations and live-outs, and the paddings after both.
 fn whole_record(l: &[u8], old: bool, at: usize, shape: shape::Shape, out: &mut [u8], to: usize)
-    requires { ⌜ Shaped (now l) at (shape .locations) (shape .outs) (shape .stop) × (shape .locations ≤ itemsMost) × (shape .outs ≤ itemsMost) × (to + recordSize old (shape .locations) (shape .outs) ≤ length (now out)) ⌝ }
+    requires { ⌜ RecordCounted (now l) at (shape .locations) (shape .outs) (shape .stop) × (shape .locations ≤ itemsMost) × (shape .outs ≤ itemsMost) × (to + recordSize old (shape .locations) (shape .outs) ≤ length (now out)) ⌝ }
     ensures { λ _. ⌜ now (out .exit) ≡ sets (now (out .entry)) to (bytesOf (recordFields old (listedRecord (now (l .entry)) at))) ⌝ }
 {
     let n = shape.locations;

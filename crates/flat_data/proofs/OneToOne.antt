@@ -13,7 +13,7 @@ use Rattle.flat.proofs.Steps.{and-true}
 use Rattle.flat.proofs.Arrays.{Right, right-told, Arranged, arranged}
 use Rattle.flat_check.specs.Check.{clear, registersEnd, recordsEnd, reservedClear, Accepted}
 use Rattle.flat_check.proofs.Chain.{Told, accepted-told}
-use Rattle.flat_data.specs.Data.{readConstant, readFrame, readRegister, readRecord, readLocation, readLiveOut, many, readSection, constantBytes, frameBytes, registerBytes, recordBytes, locationBytes, liveOutBytes, all, framesStart, registersStart, registersStop, recordsStart, recordsStop, locationsStart, liveOutsStart, header, encodeSection}
+use Rattle.flat_data.specs.Data.{readConstant, readFrame, readRegister, readRecord, readLocation, readLiveOut, many, readSection, constantBytes, frameBytes, registerBytes, recordBytes, locationBytes, liveOutBytes, all, framesStart, registersStart, registersStop, recordsStart, recordsStop, locationsStart, liveOutsStart, headerBytes, encodeSection}
 use Rattle.flat_data.specs.Laws.{Determined}
 use Rattle.flat_data.proofs.Fronts.{front, zero-front, padding, reserved, constant-front, frame-front, register-front, record-front, location-front, live-out-front, all-front, length-many}
 
@@ -26,7 +26,7 @@ module _ (s : List ℕ) (w : Bytes s) (t : Told s) where
 
   -- padding and reserved bytes
   record Cleared : Type 0 where
-    header : clear s 1 1 1 3 ≡ true
+    headerBytes : clear s 1 1 1 3 ≡ true
     after-header : clear s 1 28 1 4 ≡ true
     after-registers : clear s 1 (registersEnd s) 1 (recordsAt s - registersEnd s) ≡ true
     after-records : clear s 1 (recordsEnd s) 1 (locationsAt s - recordsEnd s) ≡ true
@@ -44,7 +44,7 @@ module _ (s : List ℕ) (w : Bytes s) (t : Told s) where
       let b = and-true (clear s 2 (registersAt s + 5) 6 (numRegisters s)) (clear s 1 (registersEnd s) 1 (recordsAt s - registersEnd s)) (h₃ .1) in
       let c = and-true (clear s 2 (recordsAt s + 13) 22 (numRecords s)) (clear s 1 (recordsEnd s) 1 (locationsAt s - recordsEnd s)) (h₂ .1) in
       let d = and-true (clear s 1 (locationsAt s + 1) 8 (numLocations s)) (clear s 1 (liveOutsAt s + 2) 4 (numLiveOuts s)) (h₁ .1) in
-      record { header = a .0; after-header = a .1; after-registers = b .1; after-records = c .1; locations = d .0; live-outs = d .1 }
+      record { headerBytes = a .0; after-header = a .1; after-registers = b .1; after-records = c .1; locations = d .0; live-outs = d .1 }
 
   -- Where the arrays of what is read begin.
 
@@ -122,8 +122,8 @@ module _ (s : List ℕ) (w : Bytes s) (t : Told s) where
   version-part : bytes 1 2 ++ drop 1 s ≡ drop 0 s
   version-part = let l = t .least in rw version-word at (front s w 1 0 1 refl (omega arith))
 
-  header-part : header (readSection s) ++ drop 32 s ≡ drop 0 s
-  unfolding header
+  header-part : headerBytes (readSection s) ++ drop 32 s ≡ drop 0 s
+  unfolding headerBytes
   header-part =
       let l = t .least in
       let c : bytes 4 32 ++ drop 8 s ≡ drop 4 s = rw (right .constants) at (front s w 4 4 8 refl (omega arith)) in
@@ -137,7 +137,7 @@ module _ (s : List ℕ) (w : Bytes s) (t : Told s) where
         front s w 4 12 16 refl (omega arith),
         front s w 4 8 12 refl (omega arith),
         c,
-        zero-front s w 3 1 4 (padding s w 1 3 (cleared .header)) refl (omega arith),
+        zero-front s w 3 1 4 (padding s w 1 3 (cleared .headerBytes)) refl (omega arith),
         version-part,
       )))
 

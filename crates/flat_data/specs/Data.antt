@@ -171,15 +171,15 @@ module _ (t : Section) where
   liveOutsStart = locationsStart + locationSize * length (t .locations)
 
   -- version, reserved bytes, six offsets, padding
-  unfoldable pub header : List ℕ
-  header =
+  unfoldable pub headerBytes : List ℕ
+  headerBytes =
       bytes 1 versionNumber ++ bytes headerReservedSize 0
       ++ bytes 4 sectionLeast ++ bytes 4 framesStart ++ bytes 4 registersStart ++ bytes 4 recordsStart ++ bytes 4 locationsStart
       ++ bytes 4 liveOutsStart ++ bytes headerPadding 0
 
   unfoldable pub encodeSection : List ℕ
   encodeSection =
-      header ++ all constantBytes (t .constants) ++ all frameBytes (t .frames)
+      headerBytes ++ all constantBytes (t .constants) ++ all frameBytes (t .frames)
       ++ all registerBytes (t .registers) ++ bytes (recordsStart - registersStop) 0
       ++ all recordBytes (t .records) ++ bytes (locationsStart - recordsStop) 0
       ++ all locationBytes (t .locations) ++ all liveOutBytes (t .liveOuts)

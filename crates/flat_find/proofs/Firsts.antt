@@ -11,13 +11,13 @@ use lib.Dec.{eqb}
 use Rattle.flat.specs.Places.{numFrames}
 use Rattle.flat_check.specs.Check.{flatCheck}
 use Rattle.flat_check.proofs.Chain.{ask-accepted}
-use Rattle.flat_find.specs.declared.Found.{Found}
+use Rattle.flat_find.specs.declared.MatchAnswer.{MatchAnswer}
 use Rattle.flat_find.specs.Find.{Match, addressOf, inFrame, recordIndex, recordCount, inFrames, matches, notFound, firstOf, byAddress, Matches, NotAfter, FirstMatch}
 use Rattle.flat_find.proofs.Lookup.{first-hit, first-miss}
 
 module _ (s : List ℕ) (a : ℕ) where
   -- in the frame i, among n records from k on
-  record Inside (i k n : ℕ) (r : Found) : Type 0 where
+  record Inside (i k n : ℕ) (r : MatchAnswer) : Type 0 where
     frame : r .frame ≡ i
     from : k ≤ r .index
     below : r .index < k + n
@@ -52,14 +52,14 @@ module _ (s : List ℕ) (a : ℕ) where
 
   -- n frames from i on
 
-  record Among (i n : ℕ) (r : Found) : Type 0 where
+  record Among (i n : ℕ) (r : MatchAnswer) : Type 0 where
     first : i ≤ r .frame
     last : r .frame < i + n
     from : recordIndex s (r .frame) ≤ r .index
     below : r .index < recordIndex s (r .frame) + recordCount s (r .frame)
     address : addressOf s (r .frame) (r .index) ≡ a
 
-  here : (i n : ℕ) (r : Found) → Inside i (recordIndex s i) (recordCount s i) r → Among i (suc n) r
+  here : (i n : ℕ) (r : MatchAnswer) → Inside i (recordIndex s i) (recordCount s i) r → Among i (suc n) r
   here i n r m =
       let e = m .frame in
       record {
@@ -86,7 +86,7 @@ module _ (s : List ℕ) (a : ℕ) where
           let m = rest (rw d at h) in
           rw d (record { first = let x = m .first in omega arith; last = let x = m .last in omega arith; from = m .from; below = m .below; address = m .address })
 
-  abbrev Before : ℕ → ℕ → Found → Type 0
+  abbrev Before : ℕ → ℕ → MatchAnswer → Type 0
   Before j l r = (r .number ≡ 0) × NotAfter (r .frame) (r .index) j l
 
   before : (i n j l : ℕ) → i ≤ j → j < i + n → recordIndex s j ≤ l → l < recordIndex s j + recordCount s j → addressOf s j l ≡ a

@@ -12,7 +12,7 @@ use Rattle.wire.specs.Word.{word}
 use Rattle.flat.specs.Places.{framesAt, recordsAt, numFrames}
 use Rattle.flat_check.proofs.Chain.{Told}
 use Rattle.flat_check.proofs.Accept.{told-arranged, frame-range}
-use Rattle.flat_find.specs.declared.Found.{Found}
+use Rattle.flat_find.specs.declared.MatchAnswer.{MatchAnswer}
 use Rattle.flat_find.specs.Find.{Match, addressOf, inFrame, recordIndex, recordCount, inFrames, matches, notFound, firstOf}
 
 -- Within the frame i.
@@ -23,7 +23,7 @@ unfolding inFrame
 none-past s a i h k zero = refl
 none-past s a i h k (suc n) = rw (ne-eqb (addressOf s i k) a (λ e. omega arith)) (none-past s a i h (suc k) n)
 
-pub past : (s : List ℕ) (a i k n : ℕ) (r : Found) (frames f : ℕ) → frames ≡ framesAt s → f ≡ word 8 s (frames + 28 * i) → a < f → r ≡ notFound 41
+pub past : (s : List ℕ) (a i k n : ℕ) (r : MatchAnswer) (frames f : ℕ) → frames ≡ framesAt s → f ≡ word 8 s (frames + 28 * i) → a < f → r ≡ notFound 41
     → r ≡ firstOf (inFrame s a i k n)
 past s a i k n r frames f e g h m =
     let v : f ≡ word 8 s (framesAt s + 28 * i) = rw e at g in
@@ -63,7 +63,7 @@ module _ (s : List ℕ) (a i k n j : ℕ) (t : Looking s a i k n j) (l : j < k +
   unfolding inFrame
   look-hit h = sym (t .same ∙ rw (left, eq-eqb (addressOf s i j) a h))
 
-pub look-end : (s : List ℕ) (a i k n j : ℕ) (r : Found) → Looking s a i k n j → k + n ≤ j → r ≡ notFound 41 → r ≡ firstOf (inFrame s a i k n)
+pub look-end : (s : List ℕ) (a i k n j : ℕ) (r : MatchAnswer) → Looking s a i k n j → k + n ≤ j → r ≡ notFound 41 → r ≡ firstOf (inFrame s a i k n)
 unfolding inFrame
 look-end s a i k n j r t l e = let z : k + n - j ≡ 0 = omega arith in e ∙ sym (t .same ∙ rw z)
 
@@ -93,14 +93,14 @@ module _ (s : List ℕ) (a i : ℕ) (t : Going s a i) (l : i < numFrames s) wher
   unfolding inFrames
   step = t .same ∙ rw (ahead, add-one)
 
-  pub go-on : (r : Found) → r ≡ firstOf (inFrame s a i (recordIndex s i) (recordCount s i)) → (r .number ≡ 0 → ⊥) → Going s a (i + 1)
+  pub go-on : (r : MatchAnswer) → r ≡ firstOf (inFrame s a i (recordIndex s i) (recordCount s i)) → (r .number ≡ 0 → ⊥) → Going s a (i + 1)
   go-on r e h = record { most = omega arith; same = step ∙ first-miss (inFrame s a i (recordIndex s i) (recordCount s i)) (inFrames s a (i + 1) (numFrames s - (i + 1))) (rw e at h) }
 
-  pub go-hit : (r : Found) → r ≡ firstOf (inFrame s a i (recordIndex s i) (recordCount s i)) → r .number ≡ 0 → r ≡ firstOf (matches s a)
+  pub go-hit : (r : MatchAnswer) → r ≡ firstOf (inFrame s a i (recordIndex s i) (recordCount s i)) → r .number ≡ 0 → r ≡ firstOf (matches s a)
   go-hit r e h =
       e ∙ sym (step ∙ first-hit (inFrame s a i (recordIndex s i) (recordCount s i)) (inFrames s a (i + 1) (numFrames s - (i + 1))) (rw e at h))
 
-pub go-end : (s : List ℕ) (a i : ℕ) (r : Found) → Going s a i → numFrames s ≤ i → r ≡ notFound 41 → r ≡ firstOf (matches s a)
+pub go-end : (s : List ℕ) (a i : ℕ) (r : MatchAnswer) → Going s a i → numFrames s ≤ i → r ≡ notFound 41 → r ≡ firstOf (matches s a)
 unfolding inFrames
 go-end s a i r t l e = let z : numFrames s - i ≡ 0 = omega arith in e ∙ sym (t .same ∙ rw z)
 
@@ -114,7 +114,7 @@ module _ (s : List ℕ) (i frames k n : ℕ) (d : frames ≡ framesAt s) (e : k 
       let a = told-arranged s t in
       (omega arith, omega arith)
 
-  pub hit-is : (a : ℕ) (r : Found) → r ≡ firstOf (inFrame s a i k n) → r ≡ firstOf (inFrame s a i (recordIndex s i) (recordCount s i))
+  pub hit-is : (a : ℕ) (r : MatchAnswer) → r ≡ firstOf (inFrame s a i k n) → r ≡ firstOf (inFrame s a i (recordIndex s i) (recordCount s i))
   hit-is a r h =
       let v : k ≡ recordIndex s i = rw d at e in
       let w : n ≡ recordCount s i = rw d at f in

@@ -9,7 +9,7 @@ use Rattle.wire.specs.Word.{word}
 use Rattle.flat.specs.Places.{framesAt}
 use Rattle.sorted.specs.Sorted.{Sorted, EntryOf, LowerBound}
 use Rattle.sorted_numbers.specs.Numbers.{Rearranged}
-use Rattle.flat_find.specs.declared.Found.{Found}
+use Rattle.flat_find.specs.declared.MatchAnswer.{MatchAnswer}
 use Rattle.flat_find.specs.Find.{addressOf, inFrame, notFound, firstOf}
 use Rattle.flat_find.specs.Keys.{offsetOf, Filled, Keyed}
 use Rattle.flat_find.proofs.Lookup.{Looking, look-start, look-on, look-end}
@@ -40,7 +40,7 @@ skipped s a i k n (suc d) l h =
     let z : k + suc d ≡ k + d + 1 = omega arith in
     rw z (look-on s a i k n (k + d) t (omega arith) (h (k + d) (omega arith) (omega arith)))
 
-pub no-match : (s : List ℕ) (a i k n : ℕ) (r : Found) → ((j : ℕ) → k ≤ j → j < k + n → addressOf s i j ≡ a → ⊥) → r ≡ notFound 41 → r ≡ firstOf (inFrame s a i k n)
+pub no-match : (s : List ℕ) (a i k n : ℕ) (r : MatchAnswer) → ((j : ℕ) → k ≤ j → j < k + n → addressOf s i j ≡ a → ⊥) → r ≡ notFound 41 → r ≡ firstOf (inFrame s a i k n)
 no-match s a i k n r h e = look-end s a i k n (k + n) r (skipped s a i k n n (omega arith) h) (omega arith) e
 
 module _ (s keys : List ℕ) (a i k n count frames f : ℕ) (h : Keyed s keys count) (l : k + n ≤ count) (d : frames ≡ framesAt s) (g : f ≡ word 8 s (frames + 28 * i)) where
@@ -48,7 +48,7 @@ module _ (s keys : List ℕ) (a i k n count frames f : ℕ) (h : Keyed s keys co
   start-is = rw d at g
 
   -- an offset has 32 bits
-  pub too-far : (r : Found) → f ≤ a → 4294967296 ≤ a - f → r ≡ notFound 41 → r ≡ firstOf (inFrame s a i k n)
+  pub too-far : (r : MatchAnswer) → f ≤ a → 4294967296 ≤ a - f → r ≡ notFound 41 → r ≡ firstOf (inFrame s a i k n)
   too-far r m v e =
       no-match s a i k n r (λ j u w x. let o = h .small j (omega arith) in let b = start-is in omega arith) e
 
@@ -75,7 +75,7 @@ module _ (s keys : List ℕ) (a i k n count frames f : ℕ) (h : Keyed s keys co
             (omega arith, omega arith)
 
     -- no match below the key's record
-    pub from-key : (j : ℕ) (r : Found) → p < count → getD keys p 0 < (a - f) * 131072 + (k + n) → j ≡ getD keys p 0 - (a - f) * 131072
+    pub from-key : (j : ℕ) (r : MatchAnswer) → p < count → getD keys p 0 < (a - f) * 131072 + (k + n) → j ≡ getD keys p 0 - (a - f) * 131072
         → r ≡ firstOf (inFrame s a i j (k + n - j)) → r ≡ firstOf (inFrame s a i k n)
     from-key j r y z w e =
         let v = b .above p (omega arith) y in
@@ -83,5 +83,5 @@ module _ (s keys : List ℕ) (a i k n count frames f : ℕ) (h : Keyed s keys co
         let t = skipped s a i k n (j - k) (omega arith) (λ o u c m. let q = at-or-after o u (omega arith) m .1 in omega arith) in
         e ∙ sym ((rw x at t) .same)
 
-    pub none-at : (r : Found) → (p < count → (a - f) * 131072 + (k + n) ≤ getD keys p 0) → r ≡ notFound 41 → r ≡ firstOf (inFrame s a i k n)
+    pub none-at : (r : MatchAnswer) → (p < count → (a - f) * 131072 + (k + n) ≤ getD keys p 0) → r ≡ notFound 41 → r ≡ firstOf (inFrame s a i k n)
     none-at r z e = no-match s a i k n r (λ j u v x. let q = at-or-after j u v x in let y = z (q .0) in let w = q .1 in omega arith) e

@@ -10,7 +10,7 @@ use Rattle.wire.specs.Word.{word}
 use Rattle.flat.specs.Layout.{frameSize, recordCountAt, recordIndexAt, recordSize, instructionOffsetAt}
 use Rattle.flat.specs.Places.{framesAt, recordsAt, numFrames}
 use Rattle.flat_check.specs.Check.{flatCheck, ask}
-use Rattle.flat_find.specs.declared.Found.{Found}
+use Rattle.flat_find.specs.declared.MatchAnswer.{MatchAnswer}
 
 -- a frame's number and a record's
 pub record Match : Type 0 where
@@ -43,15 +43,15 @@ inFrames s a i (suc n) = inFrame s a i (recordIndex s i) (recordCount s i) ++ in
 unfoldable pub matches : List ℕ → ℕ → List Match
 matches s a = inFrames s a 0 (numFrames s)
 
-abbrev pub notFound : ℕ → Found
+abbrev pub notFound : ℕ → MatchAnswer
 notFound n = record { number = n; place = 0; frame = 0; index = 0 }
 
 -- the first of them, or 41
-abbrev pub firstOf : List Match → Found
+abbrev pub firstOf : List Match → MatchAnswer
 firstOf [] = notFound 41
 firstOf (m ∷ ms) = record { number = 0; place = 0; frame = m .frame; index = m .index }
 
-unfoldable pub byAddress : List ℕ → ℕ → Found
+unfoldable pub byAddress : List ℕ → ℕ → MatchAnswer
 byAddress s a = ask notFound (firstOf (matches s a)) (flatCheck s)
 
 -- What that means, without the list.

@@ -13,7 +13,7 @@ use flat::offsets;
 mod keys;
 
 // The number of a refusal, or 0 and the numbers of frame and record. The place is always 0.
-pub struct Found {
+pub struct MatchAnswer {
     pub number: u8,
     pub place: usize,
     pub frame: usize,
@@ -23,10 +23,10 @@ pub struct Found {
 // Where the frames name more records than this, the records' offsets are put in order first: to do so takes less than to try them all.
 const NAMED_MOST: u64 = 16777216;
 
-fn not_found(number: u8) -> Found
+fn not_found(number: u8) -> MatchAnswer
     ensures { λ r. ⌜ r ≡ notFound number ⌝ }
 {
-    Found {
+    MatchAnswer {
         number: number,
         place: 0,
         frame: 0,
@@ -35,7 +35,7 @@ fn not_found(number: u8) -> Found
 }
 
 // The first of n records from k on that has the address in the frame i.
-fn in_frame(s: &[u8], address: u64, i: usize, k: usize, n: usize) -> Found
+fn in_frame(s: &[u8], address: u64, i: usize, k: usize, n: usize) -> MatchAnswer
     requires { ⌜ (sectionLeast ≤ length (now s)) × (framesAt (now s) + frameSize * i + frameSize ≤ length (now s)) × (recordsAt (now s) + recordSize * (k + n) ≤ length (now s)) ⌝ }
     ensures { λ r. ⌜ r ≡ firstOf (inFrame (now (s .entry)) address i k n) ⌝ }
 {
@@ -54,7 +54,7 @@ fn in_frame(s: &[u8], address: u64, i: usize, k: usize, n: usize) -> Found
             records + layout::RECORD_SIZE * j + layout::INSTRUCTION_OFFSET_AT,
         ) as u64;
         if offset == rest {
-            return Found {
+            return MatchAnswer {
                 number: 0,
                 place: 0,
                 frame: i,
@@ -82,7 +82,7 @@ fn named(s: &[u8]) -> u64
 }
 
 // The first match in frame order, then record order, by the keys of the first `count` records.
-fn in_frames(s: &[u8], address: u64, keys: &[u64], count: usize) -> Found
+fn in_frames(s: &[u8], address: u64, keys: &[u64], count: usize) -> MatchAnswer
     requires { ⌜ Accepted (now s) × (count ≤ length (now keys)) × (count ≤ keysMost) × Keyed (now s) (now keys) count ⌝ }
     ensures { λ r. ⌜ r ≡ firstOf (matches (now (s .entry)) address) ⌝ }
 {
@@ -103,7 +103,7 @@ fn in_frames(s: &[u8], address: u64, keys: &[u64], count: usize) -> Found
 }
 
 // The same without keys.
-fn one_by_one(s: &[u8], address: u64) -> Found
+fn one_by_one(s: &[u8], address: u64) -> MatchAnswer
     requires { ⌜ Accepted (now s) ⌝ }
     ensures { λ r. ⌜ r ≡ firstOf (matches (now (s .entry)) address) ⌝ }
 {
@@ -112,7 +112,7 @@ fn one_by_one(s: &[u8], address: u64) -> Found
 }
 
 // The same by the keys of all records that a frame can name.
-fn by_keys(s: &[u8], address: u64) -> Found
+fn by_keys(s: &[u8], address: u64) -> MatchAnswer
     requires { ⌜ Accepted (now s) ⌝ }
     ensures { λ r. ⌜ r ≡ firstOf (matches (now (s .entry)) address) ⌝ }
 {
@@ -122,7 +122,7 @@ fn by_keys(s: &[u8], address: u64) -> Found
 }
 
 // A record by its address: 36 to 40, then 41.
-pub fn find(s: &[u8], address: u64) -> Found
+pub fn find(s: &[u8], address: u64) -> MatchAnswer
     ensures { λ r. ⌜ r ≡ byAddress (now (s .entry)) address ⌝ }
 {
     let refusal = flat_check::check(s);

@@ -15,14 +15,14 @@ use Rattle.stackmap.specs.Check.{recordsCheck, walkCheck, Accepted}
 use Rattle.stackmap.specs.Walk.{ownerAt, entryAt, ahead}
 use Rattle.stackmap.proofs.Addresses.{right-fits}
 use Rattle.stackmap.proofs.Verdicts.{must-held, chain-first, chain-rest, bind-first, shift-valid}
-use Rattle.stackmap.proofs.Within.{Tabled, begin-held, section-parts, is-inside, here-inside, part-from}
+use Rattle.stackmap.proofs.Within.{BeforeRecords, begin-held, section-parts, is-inside, here-inside, part-from}
 use Rattle.stackmap.proofs.Turns.{allOwners, checkedAt, walk-here}
 use Rattle.stackmap.proofs.OneWalk.{Folding, here-ends, fold-on}
 use Rattle.index_fill.specs.Filled.{Filling, filled}
 
 module _ (s : List ℕ) (k : Accepted s) where
   -- its tables are inside and its counts add up
-  pub tabled : Tabled s (recordsAt s)
+  pub tabled : BeforeRecords s (recordsAt s)
   tabled =
       let t = begin-held s _ (chain-first _ _ _ (sym (section-parts s) ∙ k) .1) in
       record { begins = refl; inside = t .inside; walkable = t .walkable }

@@ -138,6 +138,38 @@ module _ (s zs : List ℕ) (n : ℕ) (i : Indexed s zs n) where
   unfolding rowAt
   number-there j l = row-number s (rowAt zs j) (back j l)
 
+  -- The second bound, from the two pairs after the first.
+
+  module _ (a low : ℕ) (l : LowerBy (rankAt zs) n (a * 18446744073709551616 + 0) low) where
+    above-all : (j : ℕ) → low ≤ j → j < n → (firstAt zs j ≡ a → ⊥) → a * 18446744073709551616 + 18446744073709551615 ≤ rankAt zs j
+    above-all j m o d = go (decLt a (firstAt zs j))
+      where
+        go : Dec (a < firstAt zs j) → a * 18446744073709551616 + 18446744073709551615 ≤ rankAt zs j
+        go (yes x) = omega arith
+        go (no x) = absurd (d (let q = l .above j m o in let t = number-there j o in let u = small in omega arith))
+
+    after : (j : ℕ) → low ≤ j → j < n → (firstAt zs j ≡ a → ⊥) → (k : ℕ) → j ≤ k → k < n → a * 18446744073709551616 + 18446744073709551615 ≤ rankAt zs k
+    after j m o d k b e =
+        let z : j + (k - j) ≡ k = omega arith in
+        let c = rw z at (climb zs n rising j (k - j) (omega arith)) in
+        let q = above-all j m o d in
+        omega arith
+
+    pub none-here : low < n → (firstAt zs low ≡ a → ⊥) → LowerBy (rankAt zs) n (a * 18446744073709551616 + 18446744073709551615) low
+    none-here o d =
+        record { most = l .most; below = λ k m. let q = l .below k m in omega arith; above = λ k m e. after low (omega arith) o d k m e }
+
+    pub one-here : low + 1 < n → firstAt zs low ≡ a → (firstAt zs (low + 1) ≡ a → ⊥) → LowerBy (rankAt zs) n (a * 18446744073709551616 + 18446744073709551615) (low + 1)
+    one-here o q d = record { most = omega arith; below = λ k m. go k m (decLt k low); above = λ k m e. after (low + 1) (omega arith) o d k m e }
+      where
+        go : (k : ℕ) → k < low + 1 → Dec (k < low) → rankAt zs k < a * 18446744073709551616 + 18446744073709551615
+        go k m (yes x) = let w = l .below k x in omega arith
+        go k m (no x) =
+            let z : k ≡ low = omega arith in
+            let t = number-there low (omega arith) in
+            let u = small in
+            rw z (omega arith)
+
   module _ (a low high : ℕ) (l : LowerBy (rankAt zs) n (a * 18446744073709551616 + 0) low)
       (h : LowerBy (rankAt zs) n (a * 18446744073709551616 + 18446744073709551615) high) where
     next : LowerBy (rankAt zs) n ((a + 1) * 18446744073709551616) high

@@ -8,6 +8,7 @@ ghost use lib.Seq.{sets};
 ghost use Rattle.stackmap.specs.Section.{isOld, entries};
 ghost use Rattle.stackmap.specs.Check.{Accepted};
 ghost use Rattle.questions.specs.Questions.{firstOf, withAddress};
+ghost use Rattle.sorted_pairs.specs.Pairs.{rankAt, LowerBy};
 ghost use Rattle.index.specs.Answers.{Answers};
 ghost use Rattle.index.specs.Index.{indexOf, putNumbers, fiveNumbers, answersOf, allByIndex};
 ghost use Rattle.index_owner.specs.Owner.{Marked};
@@ -36,13 +37,30 @@ pub struct Looked {
     sharing: u64,
 }
 
+// How many pairs are not above the address, where `low` are below it. In most cases none or one has it, and the next two pairs tell so; else
+// by a second halving.
+fn past(s: &[u8], index: &[u64], n: usize, address: u64, low: usize) -> usize
+    requires { ⌜ Indexed (now s) (now index) n × LowerBy (rankAt (now index)) n (address * 18446744073709551616 + 0) low ⌝ }
+    ensures { λ r. ⌜ LowerBy (rankAt (now (index .entry))) n (address * 18446744073709551616 + 18446744073709551615) r ⌝ }
+{
+    if low + 1 < n {
+        if index[2 * low] != address {
+            return low;
+        }
+        if index[2 * (low + 1)] != address {
+            return low + 1;
+        }
+    }
+    sorted_pairs::lower(index, n, address, HIGHEST)
+}
+
 // One address, in an index of n records.
 fn look_up(s: &[u8], index: &[u64], n: usize, marks: &[u32], count: usize, address: u64) -> Looked
     requires { ⌜ Indexed (now s) (now index) n × Marked (now s) (now marks) count ⌝ }
     ensures { λ r. ⌜ five r ≡ fiveNumbers (firstOf (withAddress address (entries (now (s .entry))))) ⌝ }
 {
     let low = sorted_pairs::lower(index, n, address, 0);
-    let high = sorted_pairs::lower(index, n, address, HIGHEST);
+    let high = past(s, index, n, address, low);
     if low == high {
         return Looked {
             number: NOT_FOUND,

@@ -23,7 +23,7 @@ use Rattle.listing.proofs.Listing.{version-size, listing-length as encoded-list
 use Rattle.listing.proofs.Short.{listing-short}
 use Rattle.listing.proofs.Writes.{give-short, give-all}
 use Rattle.lister_items.specs.Put.{Put}
-use Rattle.lister.specs.Shape.{Tabled}
+use Rattle.lister.specs.Shape.{SectionLayout}
 use Rattle.lister_items.proofs.Puts.{put-join, put-long}
 use Rattle.lister_records.proofs.Passes.{inSection, inListing}
 
@@ -75,7 +75,7 @@ module _ (s : List ℕ) where
     pub records-inside : first + inSection old s records first ≤ length s
     pub fits : versionLength old + 25 * functions + 9 * constants + inListing old s records first + 1 ≤ room
 
-  pub parts : {old : Bool} {functions constants records pool first : ℕ} → Tabled s old functions constants records pool first → Accepted s
+  pub parts : {old : Bool} {functions constants records pool first : ℕ} → SectionLayout s old functions constants records pool first → Accepted s
       → (out : List ℕ) → length (encodeListing (readSection s)) ≤ length out → Parts old functions constants records pool first (length out)
   parts h k out room =
       let l = laid k in
@@ -84,7 +84,7 @@ module _ (s : List ℕ) where
       (record { functions-inside = omega arith; constants-inside = omega arith; records-inside = omega arith; fits = omega (arith, listing-length) })
 
   -- its version, its functions, its constants, its records and the end are all of it
-  module _ {old : Bool} {functions constants records pool first : ℕ} (h : Tabled s old functions constants records pool first) where
+  module _ {old : Bool} {functions constants records pool first : ℕ} (h : SectionLayout s old functions constants records pool first) where
     pub listing-join : {o₀ o₁ o₂ o₃ o₄ : List ℕ} {z a b c d : ℕ} → Put o₀ o₁ z a (versionItem old)
         → Put o₁ o₂ a b (all functionItem (many (readFunction old) (functionSize old) functions s 16))
         → Put o₂ o₃ b c (all constantItem (many readConstant 8 constants s pool)) → Put o₃ o₄ c d (all recordItems (readRecords old records s first))

@@ -6,7 +6,7 @@ use mathlib.Core.Bool.{Bool}
 use mathlib.Core.List.{List}
 use Rattle.stackmap.specs.Section.{isOld, numFunctions, numConstants, numRecords, constantsAt, recordsAt}
 
-pub record Tabled (s : List ℕ) (old : Bool) (functions constants records pool first : ℕ) : Type 0 where
+pub record SectionLayout (s : List ℕ) (old : Bool) (functions constants records pool first : ℕ) : Type 0 where
   pub old-is : old ≡ isOld s
   pub functions-are : functions ≡ numFunctions s
   pub constants-are : constants ≡ numConstants s

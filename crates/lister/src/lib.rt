@@ -8,7 +8,7 @@ ghost use Rattle.stackmap.specs.Check.{Accepted};
 ghost use Rattle.listing.specs.Listing.{listingFields, encodeListing, toListing};
 ghost use Rattle.listing.specs.Answers.{Answers};
 ghost use Rattle.lister_items.specs.Put.{Put};
-ghost use Rattle.lister.specs.Shape.{Tabled};
+ghost use Rattle.lister.specs.Shape.{SectionLayout};
 use lister_items::items;
 use lister_items::runs;
 use listing::Conversion;
@@ -30,7 +30,7 @@ struct Tables {
 // The layout, as the header gives it.
 fn section_tables(s: &[u8]) -> Tables
     requires { ⌜ headerSize ≤ length (now s) ⌝ }
-    ensures { λ r. ⌜ Tabled (now (s .entry)) (r .old) (r .functions) (r .constants) (r .records) (r .pool) (r .first) ⌝ }
+    ensures { λ r. ⌜ SectionLayout (now (s .entry)) (r .old) (r .functions) (r .constants) (r .records) (r .pool) (r .first) ⌝ }
 {
     let old = stackmap_tables::tables::is_old(s);
     let functions = wire::u32_at(s, layout::NUM_FUNCTIONS_AT) as usize;

@@ -8,7 +8,7 @@ use lib.ListN.{length, take, drop, length-drop}
 use Rattle.stackmap.specs.Layout.{locationSize}
 use Rattle.stackmap.specs.Fields.{Field, size, all, many}
 use Rattle.stackmap.specs.Section.{recordFields, readLocation, readLiveOut, numLocations, numLiveOuts, recordLength, readRecord, readRecords}
-use Rattle.stackmap.specs.Shape.{Shaped}
+use Rattle.stackmap.specs.Shape.{RecordLayout}
 use Rattle.stackmap.proofs.Fields.{size-append}
 use Rattle.stackmap.proofs.Parts.{count-locations, count-live-outs}
 use Rattle.stackmap.proofs.Forth.{read-size}
@@ -22,7 +22,7 @@ use Rattle.lister_items.proofs.Puts.{Putting, putting-start, putting-on, puttin
 -- One record, which stands at the start of s.
 
 module _ (old : Bool) (s : List ℕ) where
-  module _ {locations outs begin long : ℕ} (h : Shaped old s locations outs begin long) where
+  module _ {locations outs begin long : ℕ} (h : RecordLayout old s locations outs begin long) where
     locations-read : locations ≡ numLocations s
     locations-read = h .locations-are ∙ count-locations old s
 
@@ -70,8 +70,8 @@ module _ (old : Bool) (s : List ℕ) where
   next-on n p i h e = rw e (omega (arith, section-step n p h))
 
 -- the part `&s[p..]`, as it is seen by what is called
-pub shaped-part : (old : Bool) (s : List ℕ) (p : ℕ) {locations outs begin long : ℕ} → Shaped old (take (length s - p) (drop p s)) locations outs begin long
-    → Shaped old (drop p s) locations outs begin long
+pub shaped-part : (old : Bool) (s : List ℕ) (p : ℕ) {locations outs begin long : ℕ} → RecordLayout old (take (length s - p) (drop p s)) locations outs begin long
+    → RecordLayout old (drop p s) locations outs begin long
 shaped-part old s p h = rw part-from at h
 
 -- A pass that adds up how long the items of the records are: `left` from p are ahead.
@@ -89,7 +89,7 @@ module _ {old : Bool} {s : List ℕ} {whole p left total : ℕ} (m : Measuring o
   pub measure-here : 0 < left → recordLength old (take (length s - p) (drop p s)) ≤ length (take (length s - p) (drop p s))
   measure-here h = rw part-from (next-inside old s left p (m .inside) h)
 
-  pub measure-on : 0 < left → {locations outs begin long : ℕ} → Shaped old (take (length s - p) (drop p s)) locations outs begin long
+  pub measure-on : 0 < left → {locations outs begin long : ℕ} → RecordLayout old (take (length s - p) (drop p s)) locations outs begin long
       → Measuring old s whole (p + long) (left - 1) (total + (13 + 10 * locations + 4 * outs))
   measure-on h {locations} {outs} {begin} {long} q =
       let r = shaped-part old s p q in

@@ -11,7 +11,7 @@ use lib.ListN.{length}
 use Rattle.stackmap.specs.declared.Verdict.the-variants.{Valid}
 use Rattle.stackmap.specs.Layout.{versionNumber, locationsPadding}
 use Rattle.stackmap.specs.Fields.{size, Field, Fit, all}
-use Rattle.stackmap.specs.Section.{Encodable, Function, LiveOut, Location, Record, Section, constantFields, functionFields, liveOutFields, locationFields, recordHead, recordMiddle, recordEnd, recordFields, header, sectionFields}
+use Rattle.stackmap.specs.Section.{Encodable, Function, LiveOut, Location, Record, Section, constantFields, functionFields, liveOutFields, locationFields, recordHead, recordMiddle, recordEnd, recordFields, sectionHeader, sectionFields}
 use Rattle.stackmap.specs.Verdict.{must}
 use Rattle.stackmap.proofs.Fields.{size-append, fit-join, fit-first, fit-second}
 use Rattle.stackmap.proofs.Tests.{and-true}
@@ -181,7 +181,7 @@ whole-small (r ∷ rs) at e h =
 
 module _ (t : Section) where
   abbrev H : List Field
-  H = header t
+  H = sectionHeader t
 
   abbrev F : List Field
   F = all (functionFields (t .old)) (t .functions)

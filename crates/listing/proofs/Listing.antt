@@ -291,13 +291,13 @@ module _ (l : List ℕ) where
   R′ = all recordItems (listedRecords l (length l) (recordsBegin l))
 
   module _ (old : Bool) (e : ℕ) (k : itemsCheck old l ≡ Valid e) where
-    pub record Kept : Type 0 where
+    pub record ItemsChecked : Type 0 where
       has-it : Has l 0 (itemFields (readItems l old))
       long : size (itemFields (readItems l old)) ≡ length l
       small : AllSmall (readItems l old .records)
       pub old-right : Counts old (readItems l old .functions) × Sizes old (readItems l old .records)
 
-    pub kept : Kept
+    pub kept : ItemsChecked
     unfolding itemsCheck itemsStop itemFields readItems size
     kept =
         let nf = functionsListed l in

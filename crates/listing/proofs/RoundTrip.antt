@@ -19,7 +19,7 @@ use Rattle.stackmap.proofs.Forth.{accepted-length}
 use Rattle.stackmap.proofs.Verdicts.{chain-first, chain-rest}
 use Rattle.stackmap.proofs.WellFormed.{accepted-well-formed, bytes-of}
 use Rattle.listing.specs.Listing.{listingFields, encodeListing, listingCheck, readListing, give, toListing, toSection}
-use Rattle.listing.specs.RoundTrip.{result, gives, RoundTrips, OutputKept, ListingOneToOne}
+use Rattle.listing.specs.RoundTrip.{result, convertedTo, RoundTrips, OutputKept, ListingOneToOne}
 use Rattle.listing.proofs.Fits.{section-to-listing}
 use Rattle.listing.proofs.Versions.{listing-back, listing-check, listing-no-counts, accepted-listing, listing-encodable}
 use Rattle.stackmap.proofs.Numbers.{Numbered, n-more, n-chain, section-numbered}
@@ -41,7 +41,7 @@ gave (Valid e) r out a h = go (leb (length r) (length out)) refl h
     go true q h = record { end = e; whole = refl; wrote = rw (q, give) (take-append-seam r (drop (length r) out)) }
     go false q h = absurd (let z : _≡_ {A = ℕ} 24 0 = rw (q, give) at h in omega arith)
 
-section-first : (s out out′ : List ℕ) → Bytes s → toListing s out .number ≡ 0 → toSection (result (toListing s out)) out′ ≡ gives s out′
+section-first : (s out out′ : List ℕ) → Bytes s → toListing s out .number ≡ 0 → toSection (result (toListing s out)) out′ ≡ convertedTo s out′
 unfolding toListing toSection chain
 section-first s out out′ w h =
     let t = readSection s in
@@ -52,7 +52,7 @@ section-first s out out′ w h =
     let l : length (encodeListing t) ≤ 33554432 = omega (arith, listing-short s _ k, accepted-length s _ k) in
     rw (g .wrote, listing-check t f l, listing-back t f, a .1, k)
 
-listing-first : (l out out′ : List ℕ) → Bytes l → toSection l out .number ≡ 0 → toListing (result (toSection l out)) out′ ≡ gives l out′
+listing-first : (l out out′ : List ℕ) → Bytes l → toSection l out .number ≡ 0 → toListing (result (toSection l out)) out′ ≡ convertedTo l out′
 unfolding toListing toSection
 listing-first l out out′ w h =
     let t = readListing l in

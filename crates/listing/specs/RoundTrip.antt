@@ -31,13 +31,13 @@ unfoldable pub result : Converted → List ℕ
 result c = take (c .written) (c .output)
 
 -- the conversion whose result is b: b and its length, and the output beyond it unchanged; or 24
-abbrev pub gives : List ℕ → List ℕ → Converted
-gives b out = give (Valid (length b)) b out
+abbrev pub convertedTo : List ℕ → List ℕ → Converted
+convertedTo b out = give (Valid (length b)) b out
 
 abbrev pub RoundTrips : Type 0
 RoundTrips =
-    ((s out out′ : List ℕ) → Bytes s → toListing s out .number ≡ 0 → toSection (result (toListing s out)) out′ ≡ gives s out′)
-    × ((l out out′ : List ℕ) → Bytes l → toSection l out .number ≡ 0 → toListing (result (toSection l out)) out′ ≡ gives l out′)
+    ((s out out′ : List ℕ) → Bytes s → toListing s out .number ≡ 0 → toSection (result (toListing s out)) out′ ≡ convertedTo s out′)
+    × ((l out out′ : List ℕ) → Bytes l → toSection l out .number ≡ 0 → toListing (result (toSection l out)) out′ ≡ convertedTo l out′)
 
 -- a refused conversion leaves the output untouched
 abbrev pub OutputKept : Type 0

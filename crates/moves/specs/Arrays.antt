@@ -7,14 +7,14 @@ use mathlib.Core.Option.{Option, none, some}
 use mathlib.Core.List.{List, [], _∷_}
 use lib.Dec.{eqb}
 use lib.ListN.{getD}
-use Rattle.moves.specs.declared.Found.{Found}
-use Rattle.moves.specs.declared.Found.the-variants.{At, Nothing}
+use Rattle.moves.specs.declared.NewStart.{NewStart}
+use Rattle.moves.specs.declared.NewStart.the-variants.{At, Nothing}
 use Rattle.moves.specs.Limits.{pointerSize}
 use Rattle.moves.specs.Search.{lowest, anyBelow}
 use Rattle.moves.specs.Pointers.{Pointer, null, slots, slotsClash, isNone}
 use Rattle.moves.specs.Settle.{put}
 
-abbrev pub asOption : Found → Option ℕ
+abbrev pub asOption : NewStart → Option ℕ
 asOption (At n) = some n
 asOption Nothing = none
 

@@ -10,7 +10,7 @@ pub const PAIRS_MOST: usize = 256;
 pub const TABLE_MOST: usize = 65536;
 
 // Where an object is now.
-pub enum Found {
+pub enum NewStart {
     At(u64),
     Nothing,
 }

@@ -9,7 +9,7 @@ ghost use Rattle.moves.specs.Table.{tableRight, lookUp};
 ghost use Rattle.moves.specs.Pointers.{newDerived};
 ghost use Rattle.moves.specs.Arrays.{Filled, unknownAt, firstUnknown};
 use crate::table;
-use moves::Found;
+use moves::NewStart;
 use moves::PAIRS_MOST;
 
 // Pair p's old base, of those in `contents`, is neither 0 nor an old start.
@@ -27,8 +27,8 @@ fn unknown_at(
         return false;
     }
     match table::look_up(olds, news, contents[p]) {
-        Found::At(_) => false,
-        Found::Nothing => true,
+        NewStart::At(_) => false,
+        NewStart::Nothing => true,
     }
 }
 
@@ -59,8 +59,8 @@ fn moved_one(derived: u64, base: u64, olds: &[u64], news: &[u64]) -> u64
     ensures { λ r. ⌜ r ≡ newDerived (lookUp (now (olds .entry)) (now (news .entry))) derived base ⌝ }
 {
     let to = match table::look_up(olds, news, base) {
-        Found::At(to) => to,
-        Found::Nothing => 0,
+        NewStart::At(to) => to,
+        NewStart::Nothing => 0,
     };
     std::num::wrapping_add_u64(derived, std::num::wrapping_sub_u64(to, base))
 }

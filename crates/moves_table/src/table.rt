@@ -4,7 +4,7 @@ ghost use mathlib.Core.Path.{_≡_};
 ghost use mathlib.Core.Bool.{true};
 ghost use Rattle.moves.specs.Table.{rising, noZero, tableRight, lookUp};
 ghost use Rattle.moves.specs.Arrays.{asOption};
-use moves::Found;
+use moves::NewStart;
 use moves::TABLE_MOST;
 
 // Whether the numbers rise strictly from above 0.
@@ -53,19 +53,19 @@ pub fn table_right(olds: &[u64], news: &[u64]) -> bool
 }
 
 // Where the object of an old base is now, by halving; 0 stays 0.
-pub fn look_up(olds: &[u64], news: &[u64], base: u64) -> Found
+pub fn look_up(olds: &[u64], news: &[u64], base: u64) -> NewStart
     requires { ⌜ tableRight (now olds) (now news) ≡ true ⌝ }
     ensures { λ r. ⌜ asOption r ≡ lookUp (now (olds .entry)) (now (news .entry)) base ⌝ }
 {
     if base == 0 {
-        return Found::At(0);
+        return NewStart::At(0);
     }
     let i = sorted::lower_bound(olds, olds.len(), base);
     if i == olds.len() {
-        return Found::Nothing;
+        return NewStart::Nothing;
     }
     if olds[i] == base {
-        return Found::At(news[i]);
+        return NewStart::At(news[i]);
     }
-    Found::Nothing
+    NewStart::Nothing
 }

@@ -21,9 +21,9 @@ use Rattle.stackmap.specs.Fault.{locationFault, locationsFault, entryFault}
 use Rattle.stackmap.proofs.Steps.{many-step}
 use Rattle.stackmap.proofs.Items.{byte-word}
 use Rattle.listing.specs.Listing.{listedLocation, listedRecord}
-use Rattle.parser_items.specs.Count.{Shaped}
+use Rattle.parser_items.specs.Count.{RecordCounted}
 use Rattle.parser_items.specs.Survey.{recordSize}
-use Rattle.parser.specs.Walk.{ownerBy, entryAt}
+use Rattle.parser.specs.Walk.{listedOwner, listedEntry}
 use Rattle.parser_items.proofs.Records.{shape-size}
 
 -- a verdict about a part, said of the whole, test by test
@@ -80,26 +80,26 @@ unfolding locationFault poolCheck listedLocation
 location-listed old c l at p = rw byte-word
 
 -- a record's refusal, by the bytes of its items and its owner's address
-pub entry-listed : {l : List ℕ} {at n m stop : ℕ} (old : Bool) (i p c : ℕ) → Shaped l at n m stop
-    → shift p (entryFault old c (entryAt l old i at p))
-    ≡ must (addressRight old (ownerBy l old i .function .address + word 4 l (at + 9))) 8 p
+pub entry-listed : {l : List ℕ} {at n m stop : ℕ} (old : Bool) (i p c : ℕ) → RecordCounted l at n m stop
+    → shift p (entryFault old c (listedEntry l old i at p))
+    ≡ must (addressRight old (listedOwner l old i .function .address + word 4 l (at + 9))) 8 p
     (chain (locationsFault old c (many listedLocation 10 n l (at + 13)) (p + 16)) (Valid (p + recordSize old n m)))
 unfolding address listedRecord
-entry-listed {l} {at} old i p c h = rw (entry-placed old p c (entryAt l old i at p), shape-size h old, h .locations-are)
+entry-listed {l} {at} old i p c h = rw (entry-placed old p c (listedEntry l old i at p), shape-size h old, h .locations-are)
 
-owner-zero : (old : Bool) (l : List ℕ) (i : ℕ) → old ≡ true → ownerBy l old i .function .address ≡ 0
-unfolding ownerBy
+owner-zero : (old : Bool) (l : List ℕ) (i : ℕ) → old ≡ true → listedOwner l old i .function .address ≡ 0
+unfolding listedOwner
 owner-zero true l i h = refl
 owner-zero false l i h = absurd (true≢false (sym h))
 
 -- 8: its address does not fit; a record of version 1 is at its offset, which always does
-pub entry-over : {l : List ℕ} {at n m stop : ℕ} (old : Bool) (i p c : ℕ) → Shaped l at n m stop → word 4 l (at + 9) < 2 ^ 32
-    → 2 ^ 64 - 1 < ownerBy l old i .function .address + word 4 l (at + 9) → shift p (entryFault old c (entryAt l old i at p)) ≡ Refused 8 p
+pub entry-over : {l : List ℕ} {at n m stop : ℕ} (old : Bool) (i p c : ℕ) → RecordCounted l at n m stop → word 4 l (at + 9) < 2 ^ 32
+    → 2 ^ 64 - 1 < listedOwner l old i .function .address + word 4 l (at + 9) → shift p (entryFault old c (listedEntry l old i at p)) ≡ Refused 8 p
 unfolding must
-entry-over {l} {at} old i p c h small over = rw (entry-listed old i p c h, same-test old (ownerBy l old i .function .address) (word 4 l (at + 9)) (owner-zero old l i) small, lt-leb _ _ over)
+entry-over {l} {at} old i p c h small over = rw (entry-listed old i p c h, same-test old (listedOwner l old i .function .address) (word 4 l (at + 9)) (owner-zero old l i) small, lt-leb _ _ over)
 
 -- its address fits
-pub entry-fits : {l : List ℕ} {at n m stop : ℕ} (old : Bool) (i p c : ℕ) → Shaped l at n m stop → ownerBy l old i .function .address + word 4 l (at + 9) ≤ 2 ^ 64 - 1
-    → shift p (entryFault old c (entryAt l old i at p)) ≡ chain (locationsFault old c (many listedLocation 10 n l (at + 13)) (p + 16)) (Valid (p + recordSize old n m))
+pub entry-fits : {l : List ℕ} {at n m stop : ℕ} (old : Bool) (i p c : ℕ) → RecordCounted l at n m stop → listedOwner l old i .function .address + word 4 l (at + 9) ≤ 2 ^ 64 - 1
+    → shift p (entryFault old c (listedEntry l old i at p)) ≡ chain (locationsFault old c (many listedLocation 10 n l (at + 13)) (p + 16)) (Valid (p + recordSize old n m))
 unfolding must
 entry-fits old i p c h f = rw (entry-listed old i p c h, address-fits old _ f)

@@ -9,7 +9,7 @@ use Rattle.stackmap.specs.Section.{recordOwners}
 use Rattle.stackmap.proofs.Steps.{replicate-step, owners-step, owners-some}
 use Rattle.listing.specs.Listing.{listedFunction}
 use Rattle.parser_items.specs.Survey.{functionsOf}
-use Rattle.parser.specs.Walk.{ownerBy, laterOwners, ahead}
+use Rattle.parser.specs.Walk.{listedOwner, laterOwners, ahead}
 
 module _ (l : List ℕ) (n : ℕ) where
   -- version 3: the first function is next
@@ -19,17 +19,17 @@ module _ (l : List ℕ) (n : ℕ) where
 
   -- version 1: all records are nobody's
   pub ahead-old : (records : ℕ) → ahead l true n 1 records ≡ recordOwners true records (functionsOf l n)
-  unfolding ahead laterOwners ownerBy recordOwners
+  unfolding ahead laterOwners listedOwner recordOwners
   ahead-old records = rw append-nil
 
   -- the next record belongs to the function before `next`
-  pub ahead-one : (old : Bool) (next left : ℕ) → 0 < left → ahead l old n next left ≡ ownerBy l old (next - 1) ∷ ahead l old n next (left - 1)
+  pub ahead-one : (old : Bool) (next left : ℕ) → 0 < left → ahead l old n next left ≡ listedOwner l old (next - 1) ∷ ahead l old n next (left - 1)
   unfolding ahead
   ahead-one old next left h = replicate-step left _ _ h
 
   -- no record is left of a function: those of the next one follow
   pub ahead-next : (next : ℕ) → next < n → ahead l false n next 0 ≡ ahead l false n (next + 1) (listedFunction l (25 * next) .count)
-  unfolding ahead laterOwners ownerBy
+  unfolding ahead laterOwners listedOwner
   ahead-next next h =
       let d : 25 * next + 25 ≡ 25 * (next + 1) = omega arith in
       let e : next + 1 - 1 ≡ next = omega arith in

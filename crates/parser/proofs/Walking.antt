@@ -16,9 +16,9 @@ use Rattle.stackmap.proofs.Back.{entry-valid}
 use Rattle.stackmap.proofs.Turns.{length-recordOwners}
 use Rattle.listing.specs.Layout.{recordKind, recordItemSize}
 use Rattle.listing.specs.Listing.{stands}
-use Rattle.parser_items.specs.Count.{Shaped}
+use Rattle.parser_items.specs.Count.{RecordCounted}
 use Rattle.parser_items.specs.Survey.{recordSize, recordsFrom, functionsOf}
-use Rattle.parser.specs.Walk.{ahead, entryAt, Turning, Starting, Walkable}
+use Rattle.parser.specs.Walk.{ahead, listedEntry, Turning, Starting, Walkable}
 use Rattle.parser_items.proofs.Records.{shape-size, records-here, sized-here, some-record}
 use Rattle.parser.proofs.Turns.{ahead-one}
 
@@ -71,7 +71,7 @@ module _ {l : List ℕ} {old : Bool} {n c from records place end : ℕ} where
     walk-stands = let z = w .listed in some-record l at (omega arith)
 
     -- its locations and live-outs are counted
-    module _ {a b stop : ℕ} (h : Shaped l at a b stop) where
+    module _ {a b stop : ℕ} (h : RecordCounted l at a b stop) where
       pub walk-room : to + recordSize old a b ≤ end
       walk-room =
           let z = w .ends in
@@ -81,13 +81,13 @@ module _ {l : List ℕ} {old : Bool} {n c from records place end : ℕ} where
       -- the turn has passed on to its owner
       module _ (next′ left′ : ℕ) (e : ahead l old n next′ left′ ≡ ahead l old n next left) (p : 0 < left′) where
         pub walk-here : whole l old n c from records place end
-            ≡ chain (shift to (entryFault old c (entryAt l old (next′ - 1) at to)))
+            ≡ chain (shift to (entryFault old c (listedEntry l old (next′ - 1) at to)))
             (entriesFault old c (entriesFrom old 0 (to + recordSize old a b) (ahead l old n next′ (left′ - 1)) (recordsFrom l stop)) end)
         walk-here =
             w .same ∙ rw (← e, ahead-one l n old next′ left′ p, records-here h walk-stands, entries-one, shape-size h old)
 
         -- and it is valid
-        pub walk-on : {q : ℕ} → 0 < next′ → (old ≡ false → next′ ≤ n) → shift to (entryFault old c (entryAt l old (next′ - 1) at to)) ≡ Valid q
+        pub walk-on : {q : ℕ} → 0 < next′ → (old ≡ false → next′ ≤ n) → shift to (entryFault old c (listedEntry l old (next′ - 1) at to)) ≡ Valid q
             → Walking l old n c from records place end next′ (left′ - 1) (remaining - 1) stop q
         walk-on {q} b′ m v =
             let x = shift-valid _ _ _ v in

@@ -34,6 +34,6 @@ pub record Buildable (l : List ℕ) (old : Bool) (functions constants records by
   pub short : length l ≤ listingMost
   pub sized : size ≡ sectionEnd old functions constants bytes
 
-abbrev pub Found : List ℕ → Outcome → Type 0
-Found l (Refused n p) = refusal l ≡ verdict.Refused n p
-Found l (Section plan size) = Buildable l (plan .old) (plan .functions) (plan .constants) (plan .records) (plan .bytes) size
+abbrev pub Parsed : List ℕ → Outcome → Type 0
+Parsed l (Refused n p) = refusal l ≡ verdict.Refused n p
+Parsed l (Section plan size) = Buildable l (plan .old) (plan .functions) (plan .constants) (plan .records) (plan .bytes) size

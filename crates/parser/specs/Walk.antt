@@ -14,9 +14,9 @@ use Rattle.parser_items.specs.Survey.{functionsOf, recordsFrom}
 
 module _ (l : List ℕ) where
   -- function number i; a record of version 1 is nobody's
-  unfoldable pub ownerBy : Bool → ℕ → Owner
-  ownerBy true i = record { number = i; function = nobody .function }
-  ownerBy false i = record { number = i; function = listedFunction l (functionItemSize * i) }
+  unfoldable pub listedOwner : Bool → ℕ → Owner
+  listedOwner true i = record { number = i; function = nobody .function }
+  listedOwner false i = record { number = i; function = listedFunction l (functionItemSize * i) }
 
   -- the owners of the records of all functions from `next` on, of n functions; in version 1 there are no such
   unfoldable pub laterOwners : Bool → ℕ → ℕ → List Owner
@@ -26,11 +26,11 @@ module _ (l : List ℕ) where
   -- the owners of the records still ahead, of n functions: `left` records of the function before `next`, and those of all
   -- functions from `next` on
   unfoldable pub ahead : Bool → ℕ → ℕ → ℕ → List Owner
-  ahead old n next left = replicate left (ownerBy old (next - 1)) ++ laterOwners old n next
+  ahead old n next left = replicate left (listedOwner old (next - 1)) ++ laterOwners old n next
 
   -- the record item at `at`, of function number i, as it is to stand at `place` of the section
-  abbrev pub entryAt : Bool → ℕ → ℕ → ℕ → Entry
-  entryAt old i at place = record { number = 0; first = place; owner = ownerBy old i; body = listedRecord l at }
+  abbrev pub listedEntry : Bool → ℕ → ℕ → ℕ → Entry
+  listedEntry old i at place = record { number = 0; first = place; owner = listedOwner old i; body = listedRecord l at }
 
   -- what the walk relies on: n functions whose record counts add up to the records from `from` on; the section's records
   -- begin at `place`, and it ends at `end`

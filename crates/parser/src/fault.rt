@@ -11,9 +11,9 @@ ghost use Rattle.stackmap.specs.Fields.{many};
 ghost use Rattle.stackmap.specs.Fault.{locationFault, locationsFault, entryFault};
 ghost use Rattle.listing.specs.Layout.{functionItemSize, locationItemSize, listingMost};
 ghost use Rattle.listing.specs.Listing.{listedLocation};
-ghost use Rattle.parser_items.specs.Count.{Shaped};
+ghost use Rattle.parser_items.specs.Count.{RecordCounted};
 ghost use Rattle.parser_items.specs.Survey.{recordSize};
-ghost use Rattle.parser.specs.Walk.{ownerBy, entryAt};
+ghost use Rattle.parser.specs.Walk.{listedOwner, listedEntry};
 use listing::numbers;
 use parser_items::Plan;
 use parser_items::shape;
@@ -69,7 +69,7 @@ fn locations(l: &[u8], old: bool, at: usize, n: usize, place: usize, constants: 
 // What a record's offset counts from: the address of its function, or 0 where it is nobody's.
 fn owner_address(l: &[u8], old: bool, function: usize) -> u64
     requires { ⌜ (old ≡ false → functionItemSize * function + functionItemSize ≤ length (now l)) ⌝ }
-    ensures { λ r. ⌜ r ≡ ownerBy (now (l .entry)) old function .function .address ⌝ }
+    ensures { λ r. ⌜ r ≡ listedOwner (now (l .entry)) old function .function .address ⌝ }
 {
     if old {
         return 0;
@@ -89,8 +89,8 @@ pub fn entry(
     function: usize,
     place: usize,
 ) -> Verdict
-    requires { ⌜ Shaped (now l) at (shape .locations) (shape .outs) (shape .stop) × (plan .old ≡ false → functionItemSize * function + functionItemSize ≤ length (now l)) × (length (now l) ≤ listingMost) × (place + recordSize (plan .old) (shape .locations) (shape .outs) ≤ sectionMost) ⌝ }
-    ensures { λ r. ⌜ r ≡ shift place (entryFault (plan .old) (plan .constants) (entryAt (now (l .entry)) (plan .old) function at place)) ⌝ }
+    requires { ⌜ RecordCounted (now l) at (shape .locations) (shape .outs) (shape .stop) × (plan .old ≡ false → functionItemSize * function + functionItemSize ≤ length (now l)) × (length (now l) ≤ listingMost) × (place + recordSize (plan .old) (shape .locations) (shape .outs) ≤ sectionMost) ⌝ }
+    ensures { λ r. ⌜ r ≡ shift place (entryFault (plan .old) (plan .constants) (listedEntry (now (l .entry)) (plan .old) function at place)) ⌝ }
 {
     let old = plan.old;
     let address = owner_address(l, old, function);

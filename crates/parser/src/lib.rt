@@ -1,7 +1,7 @@
 // What a listing comes to: refused, or the section that is to be built of it. Both are found over the listing's items alone:
 // the built section's refusals are said of the items, with places in the section. Places are counted from the first byte after
 // the version's item.
-ghost use Rattle.parser.specs.Outcome.{Found};
+ghost use Rattle.parser.specs.Outcome.{Parsed};
 use listing::numbers;
 use parser_items::Plan;
 use parser_items::draft;
@@ -22,7 +22,7 @@ pub enum Outcome {
 
 // The refusals of the listing, and then of the section that it is to become.
 pub fn parse(l: &[u8]) -> Outcome
-    ensures { λ r. ⌜ Found (now (l .entry)) r ⌝ }
+    ensures { λ r. ⌜ Parsed (now (l .entry)) r ⌝ }
 {
     if l.len() > numbers::LISTING_MOST {
         return Outcome::Refused(1, 0);

@@ -13,14 +13,14 @@ use Rattle.stackmap.specs.Section.{recordFields}
 use Rattle.stackmap.proofs.Verdicts.{never, chain-first, chain-rest}
 use Rattle.listing.specs.Listing.{itemsCheck, oldRight}
 use Rattle.listing.proofs.Items.{records-no}
-use Rattle.parser_items.specs.Count.{Tabled}
+use Rattle.parser_items.specs.Count.{TablesCounted}
 use Rattle.parser_items.specs.Survey.{recordsFrom, recordsAfter, Passed, Measured, Ends, Planned, functionsOf}
 use Rattle.parser_items.specs.Grammar.{grammarCheck}
 use Rattle.parser_items.specs.Draft.{Ready, Whole}
 use Rattle.parser_items.proofs.Ends.{items-crowded, items-check}
 use Rattle.parser_items.proofs.Tables.{begins, reads}
 
-module _ {l : List ℕ} (old : Bool) {f c : ℕ} (t : Tabled l f c) where
+module _ {l : List ℕ} (old : Bool) {f c : ℕ} (t : TablesCounted l f c) where
   -- 28
   abbrev limits : Verdict
   limits = oldRight old (functionsOf l f) (recordsFrom l (recordsAfter l f c)) (recordsAfter l f c)

@@ -14,7 +14,7 @@ use Rattle.stackmap.specs.declared.Verdict.the-variants.{Valid}
 use Rattle.stackmap.proofs.Steps.{many-step}
 use Rattle.listing.specs.Layout.{recordKind, recordItemSize}
 use Rattle.listing.specs.Listing.{stands, listedFunction, listedLocation, listedRecord, noCounts, smallSizes, allSmallSizes}
-use Rattle.parser_items.specs.Count.{Shaped}
+use Rattle.parser_items.specs.Count.{RecordCounted}
 use Rattle.parser_items.specs.Survey.{recordsFrom}
 use Rattle.parser_items.proofs.Records.{shape-items, records-here}
 
@@ -29,7 +29,7 @@ unfolding smallSizes listedLocation
 sizes-step n l at h = rw (many-step listedLocation 10 n l at h)
 
 -- the record that stands here, and then the rest
-pub sizes-here : {l : List ℕ} {at n m stop : ℕ} → Shaped l at n m stop → stands recordKind recordItemSize l at ≡ true
+pub sizes-here : {l : List ℕ} {at n m stop : ℕ} → RecordCounted l at n m stop → stands recordKind recordItemSize l at ≡ true
     → allSmallSizes (recordsFrom l at) at ≡ chain (smallSizes (many listedLocation 10 n l (at + 13)) (at + 13)) (allSmallSizes (recordsFrom l stop) stop)
 unfolding allSmallSizes listedRecord
 sizes-here h e = rw (records-here h e, shape-items h, h .locations-are)

@@ -16,7 +16,7 @@ use Rattle.stackmap.proofs.Back.{record-size}
 use Rattle.listing.specs.Layout.{recordKind, recordItemSize, locationItemSize, liveOutItemSize, itemsMost}
 use Rattle.listing.specs.Listing.{recordItems, stands, listedRecord, recordStop, notTooMany}
 use Rattle.listing.proofs.Listing.{items-size}
-use Rattle.parser_items.specs.Count.{Shaped}
+use Rattle.parser_items.specs.Count.{RecordCounted}
 use Rattle.parser_items.specs.Survey.{recordSize, recordsFrom, stopFrom, Passed, Measured}
 use Rattle.listing.proofs.Bound.{records-on}
 use Rattle.listing.proofs.Items.{is-item, records-no}
@@ -26,7 +26,7 @@ pub size-most : (old : Bool) (n m : ℕ) → recordSize old n m ≤ 3 * (recordI
 size-most true n m = omega arith
 size-most false n m = omega arith
 
-module _ {l : List ℕ} {at n m stop : ℕ} (h : Shaped l at n m stop) where
+module _ {l : List ℕ} {at n m stop : ℕ} (h : RecordCounted l at n m stop) where
   -- the record that stands here
   pub shape-lengths : (length (listedRecord l at .locations) ≡ n) × (length (listedRecord l at .liveOuts) ≡ m)
   unfolding listedRecord

@@ -6,10 +6,10 @@ use mathlib.Core.Bool.{Bool}
 use Rattle.stackmap.specs.Fields.{many}
 use Rattle.stackmap.specs.Section.{Section}
 use Rattle.listing.specs.Listing.{listedConstant, recordsBegin, readItems}
-use Rattle.parser_items.specs.Count.{Tabled}
+use Rattle.parser_items.specs.Count.{TablesCounted}
 use Rattle.parser_items.specs.Survey.{functionsOf, recordsFrom, recordsAfter}
 
-module _ {l : List ℕ} {functions constants : ℕ} (t : Tabled l functions constants) where
+module _ {l : List ℕ} {functions constants : ℕ} (t : TablesCounted l functions constants) where
   pub begins : recordsBegin l ≡ recordsAfter l functions constants
   begins = rw (← t .constants-are, ← t .functions-are)
 

@@ -13,13 +13,13 @@ pub record Ran (l : List ℕ) (k n from r : ℕ) : Type 0 where
   pub inside : from + n * r ≤ length l
 
 -- the functions and the constants
-pub record Tabled (l : List ℕ) (functions constants : ℕ) : Type 0 where
+pub record TablesCounted (l : List ℕ) (functions constants : ℕ) : Type 0 where
   pub functions-are : functions ≡ functionsListed l
   pub constants-are : constants ≡ constantsListed l
   pub inside : functionItemSize * functions + constantItemSize * constants ≤ length l
 
 -- the locations and the live-outs after the record item at `at`, and where they stop
-pub record Shaped (l : List ℕ) (at locations liveOuts stop : ℕ) : Type 0 where
+pub record RecordCounted (l : List ℕ) (at locations liveOuts stop : ℕ) : Type 0 where
   pub locations-are : locations ≡ listedLocations l at
   pub live-outs-are : liveOuts ≡ listedLiveOuts l at
   pub stops : stop ≡ at + recordItemSize + locationItemSize * locations + liveOutItemSize * liveOuts

@@ -11,7 +11,7 @@ use Rattle.stackmap.specs.Fields.{size, all, many}
 use Rattle.stackmap.specs.Section.{Function, Record, recordFields}
 use Rattle.listing.specs.Layout.{functionItemSize, constantItemSize, recordKind, recordItemSize}
 use Rattle.listing.specs.Listing.{stands, listedFunction, listedRecords, recordsStop, notTooMany}
-use Rattle.parser_items.specs.Count.{Tabled}
+use Rattle.parser_items.specs.Count.{TablesCounted}
 
 -- the bytes of a record with n locations and m live-outs, in a section of version 1 where `old` is true
 abbrev pub recordSize : Bool → ℕ → ℕ → ℕ
@@ -54,7 +54,7 @@ module _ (l : List ℕ) where
   -- what is known of a listing before its section is written: how many functions, constants and records, and the bytes of
   -- the records in the section
   pub record Planned (old : Bool) (functions constants records bytes : ℕ) : Type 0 where
-    pub tables : Tabled l functions constants
+    pub tables : TablesCounted l functions constants
     pub counted : length (recordsFrom (recordsAfter functions constants)) ≡ records
     pub sized : size (all (recordFields old) (recordsFrom (recordsAfter functions constants))) ≡ bytes
     pub few : records ≤ length l

@@ -3,7 +3,7 @@
 ghost use Prim.Native.Nat.{_≤_};
 ghost use lib.ListN.{length};
 ghost use Rattle.listing.specs.Layout.{listingMost};
-ghost use Rattle.parser_items.specs.Count.{Ran, Tabled};
+ghost use Rattle.parser_items.specs.Count.{Ran, TablesCounted};
 ghost use Rattle.parser_items.specs.Survey.{Passed, Measured, Ends};
 use crate::shape;
 use listing::numbers;
@@ -33,7 +33,7 @@ pub struct Tables {
 
 // The functions and the constants, with which a listing begins.
 pub fn listed_tables(l: &[u8]) -> Tables
-    ensures { λ r. ⌜ Tabled (now (l .entry)) (r .functions) (r .constants) ⌝ }
+    ensures { λ r. ⌜ TablesCounted (now (l .entry)) (r .functions) (r .constants) ⌝ }
 {
     let functions = items(l, numbers::FUNCTION_KIND, numbers::FUNCTION_ITEM_SIZE, 0);
     let constants = items(

@@ -4,7 +4,7 @@ ghost use mathlib.Core.Path.{_≡_};
 ghost use Prim.Native.Nat.{_+_, _≤_};
 ghost use lib.ListN.{length};
 ghost use Rattle.listing.specs.Layout.{recordItemSize, listingMost};
-ghost use Rattle.parser_items.specs.Count.{Shaped};
+ghost use Rattle.parser_items.specs.Count.{RecordCounted};
 ghost use Rattle.parser_items.specs.Survey.{recordSize};
 use crate::count;
 use listing::numbers;
@@ -20,7 +20,7 @@ pub struct Shape {
 // The locations and the live-outs after the record item at `at`.
 pub fn record_shape(l: &[u8], at: usize) -> Shape
     requires { ⌜ at + recordItemSize ≤ length (now l) ⌝ }
-    ensures { λ r. ⌜ Shaped (now (l .entry)) at (r .locations) (r .outs) (r .stop) ⌝ }
+    ensures { λ r. ⌜ RecordCounted (now (l .entry)) at (r .locations) (r .outs) (r .stop) ⌝ }
 {
     let first = at + numbers::RECORD_ITEM_SIZE;
     let locations = count::items(

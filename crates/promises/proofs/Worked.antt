@@ -26,7 +26,7 @@ use Rattle.relocate.specs.Statepoint.{registerOf, slotAddress, slotInside, slot
 use Rattle.stackmap.specs.Section.{asOffset}
 use Rattle.relocate.specs.Plan.{recordsOf, only, every, imageRight, extentRight, planPairs, planRecord, plan}
 use Rattle.relocate.specs.Relocation.{answer, moved}
-use Rattle.promises.specs.Worked.{got, header, sectionH, listingH, sectionOldH, listingOldH, image, table, WorkedTable}
+use Rattle.promises.specs.Worked.{got, headerWith, sectionH, listingH, sectionOldH, listingOldH, image, table, WorkedTable}
 
 pub worked : WorkedTable
 unfolding word bytes must chain bind pick shift bytesOf size all many functionFields constantFields locationFields liveOutFields
@@ -40,5 +40,5 @@ unfolding word bytes must chain bind pick shift bytesOf size all many functionFi
     Pointers.slotsClash Pointers.clash Pointers.newDerived Pointers.newContent atLowest first20 put first21 settled settle
     deoptCount constantHead pairedRest isStatepoint pairUp pairs isZero isNull sizeRight isSlot rightForm registerOf asOffset
     slotAddress slotInside slotAt inside flatten pointersOf pairOf recordsOf only every imageRight extentRight planPairs planRecord plan answer moved got
-    header sectionH listingH sectionOldH listingOldH image table
+    headerWith sectionH listingH sectionOldH listingOldH image table
 worked = refl

@@ -63,8 +63,8 @@ got (moveIn s old new im) =
     shifted (a .number) a (moved R im (frame (isOld s)))
 
 -- a header of version v with three counts
-unfoldable pub header : ℕ → ℕ → ℕ → ℕ → List ℕ
-header v functions constants records = v ∷ 0 ∷ 0 ∷ 0 ∷ [] ++ bytes 4 functions ++ bytes 4 constants ++ bytes 4 records
+unfoldable pub headerWith : ℕ → ℕ → ℕ → ℕ → List ℕ
+headerWith v functions constants records = v ∷ 0 ∷ 0 ∷ 0 ∷ [] ++ bytes 4 functions ++ bytes 4 constants ++ bytes 4 records
 
 abbrev pub zeroConstant : Location
 zeroConstant = record { kind = 4; size = 8; register = 0; offset = 0 }
@@ -167,25 +167,25 @@ table =
     {- B -}
     (check (replicate 15 0) ⇒ refused 1 0) ∷
     {- C -}
-    (check (header 3 0 0 0) ⇒ accepted 16) ∷
+    (check (headerWith 3 0 0 0) ⇒ accepted 16) ∷
     {- C -}
-    (listingOf (header 3 0 0 0) ⇒ gives 1 (0x06 ∷ [])) ∷
+    (listingOf (headerWith 3 0 0 0) ⇒ gives 1 (0x06 ∷ [])) ∷
     {- D -}
-    (check (header 2 0 0 0) ⇒ refused 2 0) ∷
+    (check (headerWith 2 0 0 0) ⇒ refused 2 0) ∷
     {- D with 1 -}
-    (check (header 1 0 0 0) ⇒ accepted 16) ∷
+    (check (headerWith 1 0 0 0) ⇒ accepted 16) ∷
     {- D with 1 -}
-    (listingOf (header 1 0 0 0) ⇒ gives 3 (0x07 ∷ 0x01 ∷ 0x06 ∷ [])) ∷
+    (listingOf (headerWith 1 0 0 0) ⇒ gives 3 (0x07 ∷ 0x01 ∷ 0x06 ∷ [])) ∷
     {- D with 1 -}
-    (sectionOf (0x07 ∷ 0x01 ∷ 0x06 ∷ []) ⇒ gives 16 (header 1 0 0 0)) ∷
+    (sectionOf (0x07 ∷ 0x01 ∷ 0x06 ∷ []) ⇒ gives 16 (headerWith 1 0 0 0)) ∷
     {- E -}
-    (check (header 3 0 0 0 ++ (0 ∷ [])) ⇒ refused 9 16) ∷
+    (check (headerWith 3 0 0 0 ++ (0 ∷ [])) ⇒ refused 9 16) ∷
     {- F -}
-    (check (header 3 0 0 1) ⇒ refused 5 12) ∷
+    (check (headerWith 3 0 0 1) ⇒ refused 5 12) ∷
     {- F in version 1 -}
-    (check (header 1 0 0 1) ⇒ refused 4 16) ∷
+    (check (headerWith 1 0 0 1) ⇒ refused 4 16) ∷
     {- G -}
-    (check (header 3 1 0 0) ⇒ refused 4 16) ∷
+    (check (headerWith 3 1 0 0) ⇒ refused 4 16) ∷
     {- H -}
     (check sectionH ⇒ accepted 152) ∷
     {- H -}

@@ -13,7 +13,7 @@ use Rattle.wire.proofs.Laws.{word-drop}
 use Rattle.stackmap.specs.Layout.{locationSize}
 use Rattle.stackmap.specs.Fields.{many}
 use Rattle.stackmap.specs.Section.{Location, numConstants, constantsAt, readConstant, readLocation, readLiveOut, numLocations, numLiveOuts, recordLength, readRecord, readSection}
-use Rattle.stackmap.specs.Shape.{Shaped}
+use Rattle.stackmap.specs.Shape.{RecordLayout}
 use Rattle.stackmap.proofs.Parts.{many-some, many-none, getD-some, count-live-outs}
 use Rattle.questions.specs.Questions.{constantOf}
 
@@ -93,7 +93,7 @@ module _ (old : Bool) (s : List ℕ) (first : ℕ) where
   live-out-here at = simp (word-drop, ← add-assoc)
 
   -- its layout, as the reader tells it
-  module _ {locations outs begin size : ℕ} (h : Shaped old (drop first s) locations outs begin size) where
+  module _ {locations outs begin size : ℕ} (h : RecordLayout old (drop first s) locations outs begin size) where
     outs-here : numLiveOuts old (drop first s) ≡ outs
     outs-here = sym (h .outs-are ∙ count-live-outs old (drop first s))
 

@@ -11,9 +11,9 @@ use lib.Dec.{eqb}
 use lib.ListN.{length}
 use Rattle.stackmap.specs.declared.Verdict.{Verdict}
 use Rattle.stackmap.specs.declared.Verdict.the-variants.{Valid, Refused}
-use Rattle.stackmap.specs.Section.{Function, Owner, Entry, address, numFunctions, isOld, readFunction, functionNumber, entries}
+use Rattle.stackmap.specs.Section.{Function, Owner, Entry, address, numFunctions, isOld, readFunction, entries}
 use Rattle.stackmap.specs.Check.{sectionCheck, Accepted}
-use Rattle.stackmap.specs.Walk.{functionAt}
+use Rattle.stackmap.specs.Walk.{functionAt, functionNumber}
 use Rattle.stackmap.proofs.Parts.{function-there, function-absent, function-number}
 use Rattle.stackmap.proofs.Numbers.{Numbered, section-numbered}
 use Rattle.stackmap.proofs.Forth.{accepted-length}

@@ -8,7 +8,7 @@ use native.Mathlib.Omega.{arith}
 use lib.ListN.{length, getD, take, drop, length-append, length-drop, take-append-drop, List·getD-append}
 use lib.Seq.{length-take-le, drop-at, getD-take}
 use Rattle.stackmap.specs.Fields.{Field, size, Fit, all}
-use Rattle.stackmap.specs.Section.{Location, Record, Section, functionFields, constantFields, locationFields, liveOutFields, recordHead, recordMiddle, recordEnd, recordFields, header, sectionFields, Encodable, Owner, recordOwners, Entry, address, entriesFrom, entriesOf}
+use Rattle.stackmap.specs.Section.{Location, Record, Section, functionFields, constantFields, locationFields, liveOutFields, recordHead, recordMiddle, recordEnd, recordFields, sectionHeader, sectionFields, Encodable, Owner, recordOwners, Entry, address, entriesFrom, entriesOf}
 use Rattle.stackmap.specs.Fault.{WellFormed}
 use Rattle.stackmap.proofs.WellFormed.{GoodEntry, good-valid, valid-good}
 use Rattle.stackmap.proofs.Fields.{size-append, fit-join, fit-first, fit-second, fit-each, each-fit}
@@ -225,7 +225,7 @@ module _ (t : Section) (rs′ : List Record) (each : EachReordered (t .records) 
   t′ = record { old = t .old; functions = t .functions; constants = t .constants; records = rs′ }
 
   abbrev H : List Field
-  H = header t
+  H = sectionHeader t
 
   abbrev F : List Field
   F = all (functionFields (t .old)) (t .functions)

@@ -13,7 +13,7 @@ use Rattle.stackmap.specs.Layout.{negativeFrom}
 use Rattle.stackmap.specs.Section.{Location, Record, numLocations}
 use Rattle.stackmap.proofs.Tests.{and-true}
 use Rattle.relocate.specs.Statepoint.{noLocation, deoptCount, pairsAt, constantHead, pairedRest, isStatepoint, Pair, pairUp, pairs}
-use Rattle.relocate.specs.Code.{recordOf, Stands, pairNumber, Paired}
+use Rattle.relocate.specs.Code.{recordOf, RecordInside, pairNumber, Paired}
 use Rattle.relocate.proofs.Records.{count-locations}
 
 -- what a statepoint tells
@@ -104,7 +104,7 @@ pair-at r p h =
     pair-up-at (drop (pairsAt r) (r .locations)) p h ∙ rw (getD-drop (pairsAt r) (r .locations) (2 * p) noLocation, getD-drop (pairsAt r) (r .locations) (2 * p + 1) noLocation, e)
 
 -- what stands there, by the counts in the section
-pub paired : (s : List ℕ) (at start count : ℕ) → Stands s at → isStatepoint (recordOf s at) ≡ true
+pub paired : (s : List ℕ) (at start count : ℕ) → RecordInside s at → isStatepoint (recordOf s at) ≡ true
     → start ≡ pairsAt (recordOf s at) → count ≡ (numLocations (drop at s) - start) / 2 → Paired s at start count
 paired s at start count h sp e c =
     let t = statepoint-tells (recordOf s at) sp in

@@ -15,21 +15,21 @@ use Rattle.stackmap.proofs.Steps.{times-most, location-least}
 use Rattle.questions.specs.declared.LocationAnswer.{LocationAnswer}
 use Rattle.questions.specs.Questions.{thisLocation}
 use Rattle.relocate.specs.Statepoint.{noLocation, locationAt}
-use Rattle.relocate.specs.Code.{recordOf, Stands, Paired}
+use Rattle.relocate.specs.Code.{recordOf, RecordInside, Paired}
 
 module _ (s : List ℕ) (at : ℕ) where
-  pub locations-inside : Stands s at → at + 16 + 8 * numLocations (drop at s) ≤ length s
+  pub locations-inside : RecordInside s at → at + 16 + 8 * numLocations (drop at s) ≤ length s
   unfolding recordLength
   locations-inside h =
       let i = h .inside in
       let t = times-most 8 (locationSize (isOld s)) (numLocations (drop at s)) (location-least (isOld s)) in
       omega arith
 
-  pub location-inside : Stands s at → (j : ℕ) → j < numLocations (drop at s) → at + 16 + 8 * j + 8 ≤ length s
+  pub location-inside : RecordInside s at → (j : ℕ) → j < numLocations (drop at s) → at + 16 + 8 * j + 8 ≤ length s
   location-inside h j l = let i = locations-inside h in omega arith
 
   -- the section's header is inside
-  pub header-there : Stands s at → 16 ≤ length s
+  pub header-there : RecordInside s at → 16 ≤ length s
   header-there h = let t = h .tables in omega arith
 
   pub count-locations : length (recordOf s at .locations) ≡ numLocations (drop at s)

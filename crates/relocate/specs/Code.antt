@@ -42,7 +42,7 @@ pub record Relocates (R : Restore) (im : List ℕ) (f : Frame) (r : Move) (after
   pub image-is : after ≡ moved R im f
 
 -- a record stands there: the tables are inside, and all of it is
-pub record Stands (s : List ℕ) (at : ℕ) : Type 0 where
+pub record RecordInside (s : List ℕ) (at : ℕ) : Type 0 where
   pub tables : recordsAt s ≤ length s
   pub inside : at + recordLength (isOld s) (drop at s) ≤ length s
 
@@ -55,7 +55,7 @@ pairNumber r p = pairFrom r (pairsAt r + 2 * p)
 
 -- its pairs begin at location number `start`, and are so many
 pub record Paired (s : List ℕ) (at start count : ℕ) : Type 0 where
-  pub stands : Stands s at
+  pub stands : RecordInside s at
   pub starts : start ≡ pairsAt (recordOf s at)
   pub counted : count ≡ length (pairs (recordOf s at))
   pub room : start + 2 * count ≤ numLocations (drop at s)

@@ -10,7 +10,7 @@ use Rattle.moves.specs.Window.{In}
 use Rattle.relocate.specs.declared.Frame.{Frame}
 use Rattle.relocate.specs.Restore.{Restore}
 use Rattle.relocate.specs.Statepoint.{pairs, pointersOf}
-use Rattle.relocate.specs.Relocation.{answer, moved, OneRecord, Lists, newContentAt}
+use Rattle.relocate.specs.Relocation.{answer, moved, OneRecord, ListedPair, newContentAt}
 
 -- Every refusal leaves the image untouched.
 abbrev pub Untouched : Type 0
@@ -32,18 +32,18 @@ distance R im b d = (word pointerSize im (d - R .first) + (2 ^ 64 - word pointer
 abbrev pub KeepsDistance : Type 0
 KeepsDistance =
     (R : Restore) (im : List ℕ) (f : Frame) → Bytes im → answer R im f .number ≡ 0
-    → (b d : ℕ) → Lists (R .section) f b d → Lists (R .section) f b b
+    → (b d : ℕ) → ListedPair (R .section) f b d → ListedPair (R .section) f b b
     → distance R (moved R im f) b d ≡ distance R im b d
 
 -- two images agree on the slots that a frame lists
 pub record AgreeOnSlots (R : Restore) (f : Frame) (im im′ : List ℕ) : Type 0 where
   pub same-length : length im ≡ length im′
-  pub on-base : (b d : ℕ) → Lists (R .section) f b d → (i : ℕ) → In b pointerSize (R .first + i) → getD im i 0 ≡ getD im′ i 0
-  pub on-derived : (b d : ℕ) → Lists (R .section) f b d → (i : ℕ) → In d pointerSize (R .first + i) → getD im i 0 ≡ getD im′ i 0
+  pub on-base : (b d : ℕ) → ListedPair (R .section) f b d → (i : ℕ) → In b pointerSize (R .first + i) → getD im i 0 ≡ getD im′ i 0
+  pub on-derived : (b d : ℕ) → ListedPair (R .section) f b d → (i : ℕ) → In d pointerSize (R .first + i) → getD im i 0 ≡ getD im′ i 0
 
 pub record Unaffected (R : Restore) (im im′ : List ℕ) (f : Frame) : Type 0 where
   pub same-answer : answer R im f ≡ answer R im′ f
-  pub same-content : answer R im f .number ≡ 0 → (b d : ℕ) → Lists (R .section) f b d → newContentAt R im b d ≡ newContentAt R im′ b d
+  pub same-content : answer R im f .number ≡ 0 → (b d : ℕ) → ListedPair (R .section) f b d → newContentAt R im b d ≡ newContentAt R im′ b d
 
 -- Image bytes outside the listed slots affect no answer and no new content, of accepted sections and of refused ones.
 abbrev pub OnlySlotsCount : Type 0

@@ -51,7 +51,7 @@ pub record InExtent (s : List ℕ) (f : Frame) (a : ℕ) : Type 0 where
 
 -- The frame's one record is a statepoint, and lists a pair that is not null and whose locations are slots: its base slot starts at the
 -- address b, and its derived slot at d.
-pub record Lists (s : List ℕ) (f : Frame) (b d : ℕ) : Type 0 where
+pub record ListedPair (s : List ℕ) (f : Frame) (b d : ℕ) : Type 0 where
   pub entry : Entry
   pub one : OneRecord s f entry
   pub statepoint : isStatepoint (entry .body) ≡ true

@@ -5,7 +5,8 @@ use mathlib.Core.List.{List, [], _∷_}
 use native.Mathlib.Omega.{arith}
 use lib.ListN.{length}
 use Rattle.wire.specs.Word.{Bytes}
-use Rattle.stackmap.specs.Section.{Function, numFunctions, constantsAt, functionNumber, Entry}
+use Rattle.stackmap.specs.Section.{Function, numFunctions, constantsAt, Entry}
+use Rattle.stackmap.specs.Walk.{functionNumber}
 use Rattle.stackmap.specs.Check.{Accepted}
 use Rattle.stackmap.proofs.Entries.{entry-body, entry-inside}
 use Rattle.questions.specs.declared.Found.{Found}
@@ -15,7 +16,7 @@ use Rattle.questions.proofs.Searched as searched
 use Rattle.moves.specs.Plan.{Plan, refuse}
 use Rattle.relocate.specs.declared.Frame.{Frame}
 use Rattle.relocate.specs.Plan.{recordsOf, only, stackSize}
-use Rattle.relocate.specs.Code.{recordOf, Stands}
+use Rattle.relocate.specs.Code.{recordOf, RecordInside}
 
 -- one record, or none, or more
 module _ (r : Found) (k : Entry → Plan) where
@@ -56,7 +57,7 @@ module _ (s : List ℕ) (f : Frame) (k : Accepted s) (w : Bytes s) (e : Entry) (
   unfolding recordsOf
   there = searched.sought-one s (f .function) (f .address) e one
 
-  pub stands : Stands s (e .first)
+  pub stands : RecordInside s (e .first)
   stands =
       let o = there in
       rw (o .first-is) (record { tables = tables-inside s (length s) k; inside = entry-inside s (length s) k w (o .entry) (o .member) .1 })
@@ -79,7 +80,7 @@ module _ (s : List ℕ) (f : Frame) (k : Accepted s) (w : Bytes s) (r : Found) (
   found : One r (λ x. refuse 0 0) (recordsOf s f)
   found = one-found r (λ x. refuse 0 0) (recordsOf s f) e z one
 
-  pub found-stands : Stands s (r .first)
+  pub found-stands : RecordInside s (r .first)
   found-stands = rw (found .first-is) (stands s f k w (found .entry) (found .alone))
 
   -- its function is one of the section's

@@ -9,7 +9,8 @@ use borrow.Author.Tests.{leb-true, le-leb, lt-leb, eq-eqb, ne-eqb}
 use lib.Dec.{eqb, leb}
 use lib.ListN.{length}
 use Rattle.wire.specs.Word.{Bytes}
-use Rattle.stackmap.specs.Section.{Record, Entry, isOld, functionNumber}
+use Rattle.stackmap.specs.Section.{Record, Entry, isOld}
+use Rattle.stackmap.specs.Walk.{functionNumber}
 use Rattle.stackmap.specs.Check.{Accepted}
 use Rattle.questions.specs.declared.Found.{Found}
 use Rattle.questions.specs.Kept.{searched, ofSection}

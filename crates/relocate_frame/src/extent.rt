@@ -8,22 +8,22 @@ const IMAGE_MOST: usize = 1048576;
 // A stack size that is not known.
 const STACK_SIZE_UNKNOWN: u64 = 18446744073709551615;
 
-// The test of refusal 13, of an image of `length` bytes from the address `first`.
-pub fn image_right(first: u64, length: usize) -> bool
-    ensures { λ r. ⌜ r ≡ imageRight first length ⌝ }
+// The test of refusal 13, of an image of `long` bytes from the address `first`.
+pub fn image_right(first: u64, long: usize) -> bool
+    ensures { λ r. ⌜ r ≡ imageRight first long ⌝ }
 {
-    if length > IMAGE_MOST {
+    if long > IMAGE_MOST {
         return false;
     }
-    if length as u64 > layout::ADDRESS_MOST - first {
+    if long as u64 > layout::ADDRESS_MOST - first {
         return false;
     }
     true
 }
 
 // The test of refusal 16, of an extent of `size` bytes from the stack pointer.
-pub fn extent_right(first: u64, length: usize, sp: u64, size: u64) -> bool
-    ensures { λ r. ⌜ r ≡ extentRight first length sp size ⌝ }
+pub fn extent_right(first: u64, long: usize, sp: u64, size: u64) -> bool
+    ensures { λ r. ⌜ r ≡ extentRight first long sp size ⌝ }
 {
     if size == STACK_SIZE_UNKNOWN {
         return false;
@@ -32,10 +32,10 @@ pub fn extent_right(first: u64, length: usize, sp: u64, size: u64) -> bool
         return false;
     }
     let gap = sp - first;
-    if gap > length as u64 {
+    if gap > long as u64 {
         return false;
     }
-    if size > length as u64 - gap {
+    if size > long as u64 - gap {
         return false;
     }
     true

@@ -14,7 +14,7 @@ ghost use Rattle.relocate.specs.Limits.{imageMost};
 ghost use Rattle.relocate.specs.Restore.{restore};
 ghost use Rattle.relocate.specs.Statepoint as spec;
 ghost use Rattle.relocate.specs.Plan.{recordsOf, imageRight, extentRight, only, planPairs, planRecord};
-ghost use Rattle.relocate.specs.Code.{recordOf, planEntry, Stands, Paired};
+ghost use Rattle.relocate.specs.Code.{recordOf, planEntry, RecordInside, Paired};
 use crate::extent;
 use moves::Move;
 use moves::PAIRS_MOST;
@@ -92,7 +92,7 @@ fn move_record(
     frame: Frame,
     write: bool,
 ) -> Move
-    requires { ⌜ Stands (now s) at × (imageRight first (length (now image)) ≡ true) × (tableRight (now olds) (now news) ≡ true) ⌝ }
+    requires { ⌜ RecordInside (now s) at × (imageRight first (length (now image)) ≡ true) × (tableRight (now olds) (now news) ≡ true) ⌝ }
     ensures { λ r. ⌜ Follows write r (now (image .exit)) (lookUp (now (olds .entry)) (now (news .entry))) (now (image .entry)) (planRecord (restore (now (s .entry)) (now (olds .entry)) (now (news .entry)) first) (length (now (image .entry))) frame size (recordOf (now (s .entry)) at)) ⌝ }
 {
     if statepoint::is_statepoint(s, at) {

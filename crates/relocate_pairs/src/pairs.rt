@@ -11,7 +11,7 @@ ghost use Rattle.moves.specs.Search.{lowest};
 ghost use Rattle.moves.specs.Arrays.{Filled};
 ghost use Rattle.relocate.specs.Limits.{imageMost};
 ghost use Rattle.relocate.specs.Statepoint.{locationAt, isNull, rightForm, slotAt, slotInside, inside};
-ghost use Rattle.relocate.specs.Code.{recordOf, poolOf, Stands, pairFrom, pairNumber, Paired, Lives};
+ghost use Rattle.relocate.specs.Code.{recordOf, poolOf, RecordInside, pairFrom, pairNumber, Paired, Lives};
 use crate::reader;
 use moves::PAIRS_MOST;
 use relocate::Frame;
@@ -22,7 +22,7 @@ use stackmap_tables::tables;
 
 // Whether both locations are constants equal to 0.
 fn is_null(s: &[u8], at: usize, j: usize) -> bool
-    requires { ⌜ Stands (now s) at × (j + 1 < numLocations (drop at (now s))) ⌝ }
+    requires { ⌜ RecordInside (now s) at × (j + 1 < numLocations (drop at (now s))) ⌝ }
     ensures { λ r. ⌜ r ≡ isNull (poolOf (now (s .entry))) (pairFrom (recordOf (now (s .entry)) at) j) ⌝ }
 {
     if slots::is_zero(reader::location(s, at, j)) {
@@ -33,7 +33,7 @@ fn is_null(s: &[u8], at: usize, j: usize) -> bool
 
 // Whether a pair is null, or both its locations are slots.
 fn right_form(machine: Machine, s: &[u8], at: usize, j: usize) -> bool
-    requires { ⌜ Stands (now s) at × (j + 1 < numLocations (drop at (now s))) ⌝ }
+    requires { ⌜ RecordInside (now s) at × (j + 1 < numLocations (drop at (now s))) ⌝ }
     ensures { λ r. ⌜ r ≡ rightForm machine (isOld (now (s .entry))) (poolOf (now (s .entry))) (pairFrom (recordOf (now (s .entry)) at) j) ⌝ }
 {
     if is_null(s, at, j) {
@@ -48,7 +48,7 @@ fn right_form(machine: Machine, s: &[u8], at: usize, j: usize) -> bool
 
 // Whether the slot of location j is wholly inside the extent.
 fn slot_inside(s: &[u8], at: usize, j: usize, frame: Frame, size: usize) -> bool
-    requires { ⌜ Stands (now s) at × (j < numLocations (drop at (now s))) × (size ≤ imageMost) ⌝ }
+    requires { ⌜ RecordInside (now s) at × (j < numLocations (drop at (now s))) × (size ≤ imageMost) ⌝ }
     ensures { λ r. ⌜ r ≡ slotInside frame size (locationAt (recordOf (now (s .entry)) at) j) ⌝ }
 {
     match slots::slot(frame, size, reader::location(s, at, j)) {
@@ -59,7 +59,7 @@ fn slot_inside(s: &[u8], at: usize, j: usize, frame: Frame, size: usize) -> bool
 
 // Whether a pair is null, or both its slots are inside.
 fn is_inside(s: &[u8], at: usize, j: usize, frame: Frame, size: usize) -> bool
-    requires { ⌜ Stands (now s) at × (j + 1 < numLocations (drop at (now s))) × (size ≤ imageMost) ⌝ }
+    requires { ⌜ RecordInside (now s) at × (j + 1 < numLocations (drop at (now s))) × (size ≤ imageMost) ⌝ }
     ensures { λ r. ⌜ r ≡ inside (poolOf (now (s .entry))) frame size (pairFrom (recordOf (now (s .entry)) at) j) ⌝ }
 {
     if is_null(s, at, j) {
@@ -123,7 +123,7 @@ pub fn live_pairs(s: &[u8], at: usize, start: usize, count: usize) -> [u8; PAIRS
 
 // Where the slot of location j starts, counted from the stack pointer, if it is inside.
 fn slot_at(s: &[u8], at: usize, j: usize, frame: Frame, size: usize) -> usize
-    requires { ⌜ Stands (now s) at × (j < numLocations (drop at (now s))) × (size ≤ imageMost) × (slotInside frame size (locationAt (recordOf (now s) at) j) ≡ true) ⌝ }
+    requires { ⌜ RecordInside (now s) at × (j < numLocations (drop at (now s))) × (size ≤ imageMost) × (slotInside frame size (locationAt (recordOf (now s) at) j) ≡ true) ⌝ }
     ensures { λ r. ⌜ r ≡ slotAt frame (locationAt (recordOf (now (s .entry)) at) j) ⌝ }
 {
     match slots::slot(frame, size, reader::location(s, at, j)) {
@@ -142,7 +142,7 @@ pub fn slots_of(
     size: usize,
     live: &[u8; PAIRS_MOST],
 ) -> [usize; PAIRS_MOST]
-    requires { ⌜ Stands (now s) at × (j + 2 * count < numLocations (drop at (now s)) + 2) × (count ≤ pairsMost) × (size ≤ imageMost)
+    requires { ⌜ RecordInside (now s) at × (j + 2 * count < numLocations (drop at (now s)) + 2) × (count ≤ pairsMost) × (size ≤ imageMost)
         × ((k : ℕ) → k < count → (getD (now live) k 0 ≡ 0 → ⊥) → slotInside frame size (locationAt (recordOf (now s) at) (j + 2 * k)) ≡ true) ⌝ }
     ensures { λ r. ⌜ Filled (λ k. slotAt frame (locationAt (recordOf (now (s .entry)) at) (j + 2 * k))) (now (live .entry)) r count ⌝ }
 {

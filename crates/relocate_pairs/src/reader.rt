@@ -6,13 +6,13 @@ ghost use lib.ListN.{drop};
 ghost use Rattle.stackmap.specs.Section.{numLocations};
 ghost use Rattle.questions.specs.Questions.{thisLocation};
 ghost use Rattle.relocate.specs.Statepoint.{locationAt};
-ghost use Rattle.relocate.specs.Code.{recordOf, poolOf, Stands};
+ghost use Rattle.relocate.specs.Code.{recordOf, poolOf, RecordInside};
 use questions::LocationAnswer;
 use questions_read::read;
 
 // The location `number` of the record at `at`.
 pub fn location(s: &[u8], at: usize, number: usize) -> LocationAnswer
-    requires { ⌜ Stands (now s) at × (number < numLocations (drop at (now s))) ⌝ }
+    requires { ⌜ RecordInside (now s) at × (number < numLocations (drop at (now s))) ⌝ }
     ensures { λ r. ⌜ r ≡ thisLocation (poolOf (now (s .entry))) (locationAt (recordOf (now (s .entry)) at) number) ⌝ }
 {
     read::location_in(s, at, number as u64)

@@ -7,7 +7,7 @@ ghost use lib.ListN.{length, drop};
 ghost use Rattle.stackmap.specs.Section.{numLocations};
 ghost use Rattle.relocate.specs.Limits.{headLocations};
 ghost use Rattle.relocate.specs.Statepoint.{constantHead, pairedRest, isStatepoint};
-ghost use Rattle.relocate.specs.Code.{recordOf, Stands, Paired};
+ghost use Rattle.relocate.specs.Code.{recordOf, RecordInside, Paired};
 use crate::reader;
 use stackmap::layout;
 use stackmap_tables::shape;
@@ -19,7 +19,7 @@ const DEOPT_AT: usize = 2;
 
 // Whether the first three locations have kind 4.
 fn constant_head(s: &[u8], at: usize) -> bool
-    requires { ⌜ Stands (now s) at × (headLocations ≤ numLocations (drop at (now s))) ⌝ }
+    requires { ⌜ RecordInside (now s) at × (headLocations ≤ numLocations (drop at (now s))) ⌝ }
     ensures { λ r. ⌜ r ≡ constantHead (recordOf (now (s .entry)) at) ⌝ }
 {
     let a = reader::location(s, at, 0);
@@ -36,7 +36,7 @@ fn constant_head(s: &[u8], at: usize) -> bool
 
 // Whether the deopt count leaves whole pairs, and there are no live-outs; the record has `count` locations and `outs` live-outs.
 fn paired_rest(s: &[u8], at: usize, count: usize, outs: usize) -> bool
-    requires { ⌜ Stands (now s) at × (headLocations ≤ count) × (count ≡ length (recordOf (now s) at .locations)) × (outs ≡ length (recordOf (now s) at .liveOuts)) ⌝ }
+    requires { ⌜ RecordInside (now s) at × (headLocations ≤ count) × (count ≡ length (recordOf (now s) at .locations)) × (outs ≡ length (recordOf (now s) at .liveOuts)) ⌝ }
     ensures { λ r. ⌜ r ≡ pairedRest (recordOf (now (s .entry)) at) ⌝ }
 {
     let d = reader::location(s, at, DEOPT_AT);
@@ -55,7 +55,7 @@ fn paired_rest(s: &[u8], at: usize, count: usize, outs: usize) -> bool
 }
 
 pub fn is_statepoint(s: &[u8], at: usize) -> bool
-    requires { ⌜ Stands (now s) at ⌝ }
+    requires { ⌜ RecordInside (now s) at ⌝ }
     ensures { λ r. ⌜ r ≡ isStatepoint (recordOf (now (s .entry)) at) ⌝ }
 {
     let shape = shape::shape_at(s, at);
@@ -75,7 +75,7 @@ pub struct Pairs {
 }
 
 pub fn pairs_of(s: &[u8], at: usize) -> Pairs
-    requires { ⌜ Stands (now s) at × (isStatepoint (recordOf (now s) at) ≡ true) ⌝ }
+    requires { ⌜ RecordInside (now s) at × (isStatepoint (recordOf (now s) at) ≡ true) ⌝ }
     ensures { λ r. ⌜ Paired (now (s .entry)) at (r .start) (r .count) ⌝ }
 {
     let shape = shape::shape_at(s, at);

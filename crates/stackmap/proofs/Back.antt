@@ -15,7 +15,7 @@ use Rattle.stackmap.specs.declared.Verdict.the-variants.{Valid, Refused}
 use Rattle.stackmap.specs.Layout.{versionNumber, functionSize, locationSize, locationsPadding}
 use Rattle.stackmap.specs.Verdict.{must, chain, bind, shift}
 use Rattle.stackmap.specs.Fields.{Field, size, all}
-use Rattle.stackmap.specs.Section.{Function, Record, Section, functionFields, constantFields, locationFields, liveOutFields, recordHead, recordMiddle, recordEnd, recordFields, header, sectionFields, encodeSection, Encodable, readFunction, readConstant, readLocation, readLiveOut, recordLength, readRecord, readRecords, readFunctions, isOld, readSection, Owner, nobody, owners, recordOwners, counted, Entry, address, entriesFrom, entriesOf}
+use Rattle.stackmap.specs.Section.{Function, Record, Section, functionFields, constantFields, locationFields, liveOutFields, recordHead, recordMiddle, recordEnd, recordFields, sectionHeader, sectionFields, encodeSection, Encodable, readFunction, readConstant, readLocation, readLiveOut, recordLength, readRecord, readRecords, readFunctions, isOld, readSection, Owner, nobody, owners, recordOwners, counted, Entry, address, entriesFrom, entriesOf}
 use Rattle.stackmap.specs.Record.{recordInside, recordBytes, recordCheck}
 use Rattle.stackmap.specs.Check.{versionRight, countsRight, headerCheck, tablesCheck, recordsCheck, walkCheck, sectionCheck}
 use Rattle.stackmap.specs.Fault.{entryFault, entriesFault, sectionFault}
@@ -237,7 +237,7 @@ module _ (t : Section) where
   nc = length (t .constants)
 
   abbrev H : List Field
-  H = header t
+  H = sectionHeader t
 
   abbrev F : List Field
   F = all (functionFields (t .old)) (t .functions)
@@ -264,7 +264,7 @@ module _ (t : Section) where
     unfolding encodeSection
     has = fields-back s 0 0 (sectionFields t) [] fit (rw append-nil)
 
-    record Whats : Type 0 where
+    record FieldsThere : Type 0 where
       version : word 1 s 0 ≡ versionNumber (t .old)
       reserved : word 3 s 1 ≡ 0
       functions-num : word 4 s 4 ≡ nf
@@ -274,9 +274,9 @@ module _ (t : Section) where
       constants-in : Has s (16 + functionSize (t .old) * nf) K
       records-in : Has s (16 + functionSize (t .old) * nf + 8 * nc) R
 
-    whats : Whats
+    fields-there : FieldsThere
     unfolding sectionFields size
-    whats =
+    fields-there =
         let k₁ = split s 0 (16 + functionSize (t .old) * nf + 8 * nc) (H ++ F ++ K) R (simp size-append (omega (arith, tables))) has in
         let k₂ = split s 0 (16 + functionSize (t .old) * nf) (H ++ F) K (simp size-append (omega (arith, tables))) (k₁ .0) in
         let k₃ = split s 0 16 H F refl (k₂ .0) in
@@ -292,12 +292,12 @@ module _ (t : Section) where
         }
 
     old-is : isOld (encodeSection t) ≡ t .old
-    old-is = ap (λ (b : ℕ). eqb b 1) (sym (byte-word s 0) ∙ whats .version) ∙ old-read (t .old)
+    old-is = ap (λ (b : ℕ). eqb b 1) (sym (byte-word s 0) ∙ fields-there .version) ∙ old-read (t .old)
 
     functions-read : readFunctions (encodeSection t) ≡ map (written (t .old)) (t .functions)
     unfolding readFunctions
     functions-read =
-        let w = whats in
+        let w = fields-there in
         rw (old-is, w .functions-num)
         (many-read (functionFields (t .old)) (readFunction (t .old)) (functionSize (t .old)) (function-size (t .old)) s (written (t .old)) (function-back (t .old) s) (t .functions) 16 (w .functions-in))
 
@@ -305,7 +305,7 @@ module _ (t : Section) where
     pub read-back : (t .old ≡ true → (f : Function) → List·Memᴰ f (t .functions) → f .count ≡ 0) → readSection (encodeSection t) ≡ t
     unfolding readSection
     read-back none =
-        let w = whats in
+        let w = fields-there in
         rw (
           functions-read,
           written-same (t .old) (t .functions) none,
@@ -321,7 +321,7 @@ module _ (t : Section) where
         → recordsCheck (t .old) (recordOwners (t .old) (length (t .records)) (t .functions)) s nc (16 + functionSize (t .old) * nf + 8 * nc) ≡ entriesFault (t .old) nc (entriesOf t) (size (sectionFields t))
     unfolding entriesOf
     walk e =
-        let w = whats in
+        let w = fields-there in
         records-walk (t .old) s nc (size (sectionFields t)) (omega (arith, encoded-length)) (recordOwners (t .old) (length (t .records)) (t .functions)) 0
         (16 + functionSize (t .old) * nf + 8 * nc) (t .records) (owners-enough (t .old) (length (t .records)) (t .functions) e) (w .records-in) (sym section-size)
 
@@ -329,7 +329,7 @@ module _ (t : Section) where
     pub check-back : sectionCheck (encodeSection t) ≡ sectionFault t
     unfolding sectionCheck headerCheck tablesCheck walkCheck sectionFault chain must
     check-back =
-        let w = whats in
+        let w = fields-there in
         let v : getD s 0 0 ≡ versionNumber (t .old) = sym (byte-word s 0) ∙ w .version in
         let r : versionRight (getD s 0 0) ≡ true = rw v (version-right (t .old)) in
         let z = section-size in

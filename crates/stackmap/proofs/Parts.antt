@@ -10,8 +10,8 @@ use lib.ListN.{length, getD, getElem?}
 use Rattle.wire.specs.Word.{word}
 use Rattle.stackmap.specs.Layout.{functionSize, locationSize}
 use Rattle.stackmap.specs.Fields.{many}
-use Rattle.stackmap.specs.Section.{numFunctions, isOld, readFunction, readFunctions, readSection, noFunction, functionNumber, readLocation, readLiveOut, numLocations, numLiveOuts, liveOutsAt, readRecord}
-use Rattle.stackmap.specs.Walk.{functionAt}
+use Rattle.stackmap.specs.Section.{numFunctions, isOld, readFunction, readFunctions, readSection, noFunction, readLocation, readLiveOut, numLocations, numLiveOuts, liveOutsAt, readRecord}
+use Rattle.stackmap.specs.Walk.{functionAt, functionNumber}
 use Rattle.stackmap.proofs.Fields.{length-many}
 
 -- the j-th of n items of one size

@@ -145,12 +145,12 @@ counts-held true fs n h e = absurd (true≢false e)
 counts-held false fs n h e = eqb-true _ _ h
 
 -- where the records begin, and what the walk over them relies on
-pub record Tabled (s : List ℕ) (e : ℕ) : Type 0 where
+pub record BeforeRecords (s : List ℕ) (e : ℕ) : Type 0 where
   pub begins : e ≡ recordsAt s
   pub inside : recordsAt s ≤ length s
   pub walkable : Walkable s
 
-pub tables-held : (s : List ℕ) (e : ℕ) → tablesCheck s ≡ Valid e → Tabled s e
+pub tables-held : (s : List ℕ) (e : ℕ) → tablesCheck s ≡ Valid e → BeforeRecords s e
 unfolding tablesCheck
 tables-held s e h =
     let h₁ = must-rest _ _ _ _ _ h in
@@ -163,7 +163,7 @@ tables-held s e h =
     }
 
 -- all before the records is valid
-pub begin-held : (s : List ℕ) (e : ℕ) → chain (headerCheck s) (tablesCheck s) ≡ Valid e → Tabled s e
+pub begin-held : (s : List ℕ) (e : ℕ) → chain (headerCheck s) (tablesCheck s) ≡ Valid e → BeforeRecords s e
 begin-held s e h = tables-held s e (chain-rest _ _ _ h)
 
 -- what comes before the records, and the records

@@ -86,14 +86,14 @@ recordFields old r =
     recordHead r ++ all (locationFields old) (r .locations) ++ recordMiddle old r ++ all liveOutFields (r .liveOuts) ++ recordEnd r
 
 -- version (one byte), three zero bytes, then NumFunctions, NumConstants, NumRecords (4 bytes each)
-abbrev pub header : Section → List Field
-header t =
+abbrev pub sectionHeader : Section → List Field
+sectionHeader t =
     (1 of versionNumber (t .old)) ∷ (3 of 0)
     ∷ (4 of length (t .functions)) ∷ (4 of length (t .constants)) ∷ (4 of length (t .records)) ∷ []
 
 unfoldable pub sectionFields : Section → List Field
 sectionFields t =
-    header t ++ all (functionFields (t .old)) (t .functions) ++ all constantFields (t .constants)
+    sectionHeader t ++ all (functionFields (t .old)) (t .functions) ++ all constantFields (t .constants)
     ++ all (recordFields (t .old)) (t .records)
 
 unfoldable pub encodeSection : Section → List ℕ
@@ -185,12 +185,9 @@ readSection s =
       records = readRecords (isOld s) (numRecords s) s (recordsAt s);
     }
 
--- function number i; past the last one, what is read is 0
+-- what is read past the last function
 abbrev pub noFunction : Function
 noFunction = record { address = 0; stackSize = 0; count = 0 }
-
-unfoldable pub functionNumber : List ℕ → ℕ → Function
-functionNumber s i = getD (readSection s .functions) i noFunction
 
 -- Records belong to functions in order, as many as each record count says. Version 1 does not say which function owns a record.
 

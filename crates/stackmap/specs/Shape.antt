@@ -7,7 +7,7 @@ use mathlib.Core.List.{List}
 use lib.ListN.{length}
 use Rattle.stackmap.specs.Section.{liveOutsAt, recordLength, readRecord}
 
-pub record Shaped (old : Bool) (s : List ℕ) (locations outs begin size : ℕ) : Type 0 where
+pub record RecordLayout (old : Bool) (s : List ℕ) (locations outs begin size : ℕ) : Type 0 where
   -- how many locations and live-outs it has
   pub locations-are : locations ≡ length (readRecord old s .locations)
   pub outs-are : outs ≡ length (readRecord old s .liveOuts)

@@ -4,11 +4,11 @@ use Prim.Native.Nat.{ℕ, _+_, _*_, _-_, _≤_, _<_}
 use mathlib.Core.Path.{_≡_}
 use mathlib.Core.Bool.{Bool, true, false}
 use mathlib.Core.List.{List, [], _++_}
-use lib.ListN.{length, drop, replicate}
+use lib.ListN.{length, drop, replicate, getD}
 use Rattle.stackmap.specs.declared.Turn.{Turn}
 use Rattle.stackmap.specs.Layout.{headerSize, functionSize}
 use Rattle.stackmap.specs.Fields.{many}
-use Rattle.stackmap.specs.Section.{numFunctions, numRecords, isOld, constantsAt, readFunction, readFunctions, readRecord, Owner, nobody, owners, counted, Entry}
+use Rattle.stackmap.specs.Section.{numFunctions, numRecords, isOld, constantsAt, readFunction, readFunctions, readRecord, Owner, nobody, owners, counted, Entry, Function, readSection, noFunction}
 
 -- the first byte of function number i
 abbrev pub functionAt : Bool → ℕ → ℕ
@@ -48,3 +48,7 @@ pub record Turning (s : List ℕ) (next left : ℕ) : Type 0 where
 pub record Walkable (s : List ℕ) : Type 0 where
   pub inside : constantsAt s ≤ length s
   pub adds-up : isOld s ≡ false → counted (readFunctions s) ≡ numRecords s
+
+-- function number i
+unfoldable pub functionNumber : List ℕ → ℕ → Function
+functionNumber s i = getD (readSection s .functions) i noFunction

@@ -5,7 +5,7 @@ ghost use Prim.Native.Nat.{_+_, _≤_};
 ghost use lib.ListN.{length, drop};
 ghost use Rattle.stackmap.specs.Layout.{headerSize};
 ghost use Rattle.stackmap.specs.Section.{isOld, recordLength};
-ghost use Rattle.stackmap.specs.Shape.{Shaped};
+ghost use Rattle.stackmap.specs.Shape.{RecordLayout};
 use crate::tables;
 use stackmap::layout;
 
@@ -22,7 +22,7 @@ pub struct Shape {
 // The record at the start of `s`.
 pub fn record_shape(s: &[u8], old: bool) -> Shape
     requires { ⌜ recordLength old (now s) ≤ length (now s) ⌝ }
-    ensures { λ r. ⌜ Shaped old (now (s .entry)) (r .locations) (r .outs) (r .begin) (r .size) ⌝ }
+    ensures { λ r. ⌜ RecordLayout old (now (s .entry)) (r .locations) (r .outs) (r .begin) (r .size) ⌝ }
 {
     let locations = wire::u16_at(s, layout::NUM_LOCATIONS_AT) as usize;
     let end = layout::RECORD_HEAD_SIZE
@@ -41,7 +41,7 @@ pub fn record_shape(s: &[u8], old: bool) -> Shape
 // The record at the place `at` of a section.
 pub fn shape_at(s: &[u8], at: usize) -> Shape
     requires { ⌜ (headerSize ≤ length (now s)) × (at + recordLength (isOld (now s)) (drop at (now s)) ≤ length (now s)) ⌝ }
-    ensures { λ r. ⌜ Shaped (isOld (now (s .entry))) (drop at (now (s .entry))) (r .locations) (r .outs) (r .begin) (r .size) ⌝ }
+    ensures { λ r. ⌜ RecordLayout (isOld (now (s .entry))) (drop at (now (s .entry))) (r .locations) (r .outs) (r .begin) (r .size) ⌝ }
 {
     let old = tables::is_old(s);
     record_shape(&s[at..], old)

@@ -7,7 +7,8 @@ ghost use lib.ListN.{length};
 ghost use lib.Dec.{eqb};
 ghost use Rattle.stackmap.specs.Layout.{headerSize, functionSize};
 ghost use Rattle.stackmap.specs.Fields.{many};
-ghost use Rattle.stackmap.specs.Section.{numFunctions, isOld, constantsAt, readFunction, functionNumber, counted};
+ghost use Rattle.stackmap.specs.Section.{numFunctions, isOld, constantsAt, readFunction, counted};
+ghost use Rattle.stackmap.specs.Walk.{functionNumber};
 ghost use Rattle.stackmap.specs.Verdict.{chain};
 ghost use Rattle.stackmap.specs.Check.{versionRight, headerCheck, tablesCheck};
 use stackmap::Verdict;
@@ -24,7 +25,7 @@ fn version_right(version: u8) -> bool
     version == layout::OLD_VERSION
 }
 
-fn header(s: &[u8]) -> Verdict
+fn check_header(s: &[u8]) -> Verdict
     ensures { λ r. ⌜ r ≡ headerCheck (now (s .entry)) ⌝ }
 {
     if s.len() < layout::HEADER_SIZE {
@@ -103,7 +104,7 @@ fn tables(s: &[u8]) -> Verdict
 pub fn begin(s: &[u8]) -> Verdict
     ensures { λ r. ⌜ r ≡ chain (headerCheck (now (s .entry))) (tablesCheck (now (s .entry))) ⌝ }
 {
-    if let Verdict::Refused(n, p) = header(s) {
+    if let Verdict::Refused(n, p) = check_header(s) {
         return Verdict::Refused(n, p);
     }
     tables(s)

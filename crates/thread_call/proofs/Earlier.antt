@@ -8,7 +8,8 @@ use borrow.Author.Tests.{lt-ltb, le-ltb, leb-true, ne-eqb}
 use lib.Dec.{ltb, leb}
 use lib.ListN.{length}
 use Rattle.wire.specs.Word.{Bytes}
-use Rattle.stackmap.specs.Section.{numFunctions, constantsAt, functionNumber}
+use Rattle.stackmap.specs.Section.{numFunctions, constantsAt}
+use Rattle.stackmap.specs.Walk.{functionNumber}
 use Rattle.stackmap.specs.Check.{Accepted}
 use Rattle.questions.specs.declared.Found.{Found}
 use Rattle.questions.specs.Questions.{firstOf}

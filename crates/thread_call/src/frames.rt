@@ -17,7 +17,7 @@ use thread_search::search;
 use thread_search::search::HITS_LENGTH;
 
 // The frame at the position k: moved, or only judged.
-fn one(
+fn settle_frame(
     s: &[u8],
     image: &mut [u8],
     first: u64,
@@ -58,7 +58,7 @@ pub fn judge(
     let mut sum: usize = 0;
     let mut k: usize = 0;
     while k < count {
-        let m = one(
+        let m = settle_frame(
             s,
             image,
             first,
@@ -101,7 +101,7 @@ pub fn move_all(
 {
     let mut next: usize = 0;
     while next < count {
-        one(
+        settle_frame(
             s,
             image,
             first,

@@ -1,6 +1,6 @@
 -- What crosses the C boundary: the definitions' own answers, field by field.
 use Prim.Native.Nat.{ℕ}
-use Rattle.flat_find.specs.declared.Found.{Found}
+use Rattle.flat_find.specs.declared.MatchAnswer.{MatchAnswer}
 use Rattle.flat_read.specs.declared.ConstantAnswer.{ConstantAnswer}
 use Rattle.flat_read.specs.declared.FrameAnswer.{FrameAnswer}
 use Rattle.flat_read.specs.declared.RegisterAnswer.{RegisterAnswer}
@@ -19,7 +19,7 @@ use Rattle.treskibben.specs.declared.flat_sections.LiveOut.{LiveOut}
 abbrev pub checked : ℕ → Answer
 checked n = record { number = n; place = 0; value = 0 }
 
-abbrev pub matched : Found → Match
+abbrev pub matched : MatchAnswer → Match
 matched f = record { number = f .number; place = f .place; frame = f .frame; index = f .index }
 
 abbrev pub constantOf : ConstantAnswer → Answer

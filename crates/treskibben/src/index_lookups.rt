@@ -3,7 +3,7 @@ ghost use mathlib.Core.Path.{_≡_};
 ghost use Rattle.index.specs.Index.{byIndex, allByIndex};
 ghost use Rattle.relocate.specs.Restore.{restore};
 ghost use Rattle.thread_index.specs.ByIndex.{threadByIndexAnswer, threadByIndexImage};
-ghost use Rattle.treskibben_answers.specs.Answer.{foundAt, moveAnswer};
+ghost use Rattle.treskibben_answers.specs.Answer.{findAnswerOf, moveAnswer};
 ghost use Rattle.treskibben.specs.AddressIndex.{listed};
 
 // The question by address through an index: the section's refusal, 27 on version 1, 29 unless the list is the section's index, 10 exactly if
@@ -13,8 +13,8 @@ pub extern "C" fn treskibben_find_by_index(
     section: &[u8],
     index: &[u64],
     address: u64,
-) -> treskibben_answers::Found
-    ensures { λ r. ⌜ r ≡ foundAt (byIndex (now (section .entry)) (now (index .entry)) address) ⌝ }
+) -> treskibben_answers::FindAnswer
+    ensures { λ r. ⌜ r ≡ findAnswerOf (byIndex (now (section .entry)) (now (index .entry)) address) ⌝ }
 {
     treskibben_answers::search_answer(index_find::find_by_index(section, index, address))
 }

@@ -6,7 +6,7 @@ ghost use Rattle.listing.specs.Listing.{toListing, toSection};
 ghost use Rattle.relocate.specs.Restore.{restore};
 ghost use Rattle.relocate.specs.Relocation;
 ghost use Rattle.thread.specs.Thread.{threadAnswer, threadImage};
-ghost use Rattle.treskibben_answers.specs.Answer.{answer, converted, moveAnswer, frameOf, foundAt, standsAt, locationOf, liveOutOf};
+ghost use Rattle.treskibben_answers.specs.Answer.{answer, converted, moveAnswer, frameOf, findAnswerOf, recordPlaceOf, locationOf, liveOutOf};
 ghost use Rattle.treskibben_answers.specs.Version.{version};
 use treskibben_answers as answers;
 
@@ -40,8 +40,8 @@ pub extern "C" fn treskibben_check(section: &[u8]) -> answers::Answer
 
 // The question by address: the section's refusal, 27 on version 1, 10 exactly if no record has the address, or the first that has.
 #[no_mangle]
-pub extern "C" fn treskibben_find(section: &[u8], address: u64) -> answers::Found
-    ensures { λ r. ⌜ r ≡ foundAt (byAddress (now (section .entry)) address) ⌝ }
+pub extern "C" fn treskibben_find(section: &[u8], address: u64) -> answers::FindAnswer
+    ensures { λ r. ⌜ r ≡ findAnswerOf (byAddress (now (section .entry)) address) ⌝ }
 {
     answers::search_answer(questions_find::find::find(section, address))
 }
@@ -53,16 +53,16 @@ pub extern "C" fn treskibben_find_in_function(
     section: &[u8],
     function: u64,
     offset: u64,
-) -> answers::Found
-    ensures { λ r. ⌜ r ≡ foundAt (byFunction (now (section .entry)) function offset) ⌝ }
+) -> answers::FindAnswer
+    ensures { λ r. ⌜ r ≡ findAnswerOf (byFunction (now (section .entry)) function offset) ⌝ }
 {
     answers::search_answer(questions_find::find::find_in_function(section, function, offset))
 }
 
 // The question by record number: the section's refusal, 10 if there is no such record, or where it stands.
 #[no_mangle]
-pub extern "C" fn treskibben_record(section: &[u8], record: u64) -> answers::Stands
-    ensures { λ r. ⌜ r ≡ standsAt (recordPlace (now (section .entry)) «record») ⌝ }
+pub extern "C" fn treskibben_record(section: &[u8], record: u64) -> answers::RecordPlace
+    ensures { λ r. ⌜ r ≡ recordPlaceOf (recordPlace (now (section .entry)) «record») ⌝ }
 {
     answers::record_answer(questions_locate::locate(section, record))
 }

@@ -12,8 +12,8 @@ use Rattle.relocate.specs.declared.Frame.{Frame}
 use Rattle.relocate.specs.declared.Machine.the-variants.{Amd64}
 use Rattle.treskibben_answers.specs.declared.Frame
 use Rattle.treskibben_answers.specs.declared.Answer.{Answer}
-use Rattle.treskibben_answers.specs.declared.Found
-use Rattle.treskibben_answers.specs.declared.Stands.{Stands}
+use Rattle.treskibben_answers.specs.declared.FindAnswer
+use Rattle.treskibben_answers.specs.declared.RecordPlace.{RecordPlace}
 use Rattle.treskibben_answers.specs.declared.Location.{Location}
 use Rattle.treskibben_answers.specs.declared.LiveOut.{LiveOut}
 
@@ -34,11 +34,11 @@ frameOf f = record { machine = Amd64; address = f .address; function = f .functi
 
 -- The answers of the questions, field by field.
 
-abbrev pub foundAt : Found → Found.Found
-foundAt f = record { number = f .number; place = f .place; index = f .index; function = f .function; sharing = f .sharing }
+abbrev pub findAnswerOf : Found → FindAnswer.FindAnswer
+findAnswerOf f = record { number = f .number; place = f .place; index = f .index; function = f .function; sharing = f .sharing }
 
-abbrev pub standsAt : Located → Stands
-standsAt l = record { number = l .number; place = l .place; first = l .first; length = l .size }
+abbrev pub recordPlaceOf : Located → RecordPlace
+recordPlaceOf l = record { number = l .number; place = l .place; first = l .first; length = l .size }
 
 -- the offset crosses as its 32 bits, which are those of an int32_t
 abbrev pub locationOf : SignedLocation → Location

@@ -1,6 +1,6 @@
 // What crosses the C boundary: the structs, and the answers of the layers below turned into them, field by field.
 ghost use mathlib.Core.Path.{_≡_};
-ghost use Rattle.treskibben_answers.specs.Answer.{answer, moveAnswer, frameOf, foundAt, standsAt, locationOf, liveOutOf};
+ghost use Rattle.treskibben_answers.specs.Answer.{answer, moveAnswer, frameOf, findAnswerOf, recordPlaceOf, locationOf, liveOutOf};
 ghost use Rattle.questions.specs.Questions.{signed};
 ghost use Rattle.treskibben_answers.specs.Version.{version};
 use stackmap::Verdict;
@@ -41,7 +41,7 @@ pub fn check_answer(v: Verdict) -> Answer
 // By address, or by function and offset: the first record's number, its function's number, and how many records share the address or
 // the offset.
 #[repr(C)]
-pub struct Found {
+pub struct FindAnswer {
     pub number: u64,
     pub place: u64,
     pub index: u64,
@@ -49,10 +49,10 @@ pub struct Found {
     pub sharing: u64,
 }
 
-pub fn search_answer(f: questions::Found) -> Found
-    ensures { λ r. ⌜ r ≡ foundAt f ⌝ }
+pub fn search_answer(f: questions::Found) -> FindAnswer
+    ensures { λ r. ⌜ r ≡ findAnswerOf f ⌝ }
 {
-    Found {
+    FindAnswer {
         number: f.number as u64,
         place: f.place as u64,
         index: f.index as u64,
@@ -63,17 +63,17 @@ pub fn search_answer(f: questions::Found) -> Found
 
 // By record number: the record's first byte in the section and its length.
 #[repr(C)]
-pub struct Stands {
+pub struct RecordPlace {
     pub number: u64,
     pub place: u64,
     pub first: u64,
     pub length: u64,
 }
 
-pub fn record_answer(l: questions::Located) -> Stands
-    ensures { λ r. ⌜ r ≡ standsAt l ⌝ }
+pub fn record_answer(l: questions::Located) -> RecordPlace
+    ensures { λ r. ⌜ r ≡ recordPlaceOf l ⌝ }
 {
-    Stands {
+    RecordPlace {
         number: l.number as u64,
         place: l.place as u64,
         first: l.first as u64,

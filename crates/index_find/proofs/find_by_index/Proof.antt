@@ -22,12 +22,14 @@ returns : tie.Need-returns
 unfolding byIndex
 returns c =
     let a = c .before .before .before .before .before .before .before .args in
-    c .refused .ensures ∙ sym (section-refused (a .s .now) (a .address) (c .before .before .before .before .check .result .found) (c .before .before .before .before .check .ensures .0) notFound _ (sym (c .before .before .of-section .ensures) ∙ c .before .if1 .taken))
+    c .refused .ensures ∙ sym (section-refused (a .s .now) (a .address) (c .before .before .before .before .check .result .found) (c .before .before .before .before .check .ensures .0) notFound _
+    (sym (c .before .before .of-section .ensures) ∙ c .before .if1 .taken))
 
 is-old-requires : tie.Need-is-old-requires
 is-old-requires c κs =
     let a = c .before .before .before .before .before .before .args in
-    let k = tables-inside (a .s .now) (length (a .s .now)) (section-accepted (a .s .now) (a .address) (c .before .before .before .check .result .found) (c .before .before .before .check .ensures .0) (sym (c .before .of-section .ensures) ∙ c .if1 .left)) in
+    let k = tables-inside (a .s .now) (length (a .s .now)) (section-accepted (a .s .now) (a .address) (c .before .before .before .check .result .found) (c .before .before .before .check .ensures .0)
+    (sym (c .before .of-section .ensures) ∙ c .if1 .left)) in
     omega arith
 
 refused-requires-2 : tie.Need-refused-requires-2
@@ -37,7 +39,8 @@ returns-2 : tie.Need-returns-2
 unfolding byIndex
 returns-2 c =
     let a = c .before .before .before .before .before .before .before .before .before .args in
-    let h = section-accepted (a .s .now) (a .address) (c .before .before .before .before .before .before .check .result .found) (c .before .before .before .before .before .before .check .ensures .0) (sym (c .before .before .before .before .of-section .ensures) ∙ c .before .before .before .if1 .left) in
+    let h = section-accepted (a .s .now) (a .address) (c .before .before .before .before .before .before .check .result .found) (c .before .before .before .before .before .before .check .ensures .0)
+    (sym (c .before .before .before .before .of-section .ensures) ∙ c .before .before .before .if1 .left) in
     c .refused2 .ensures ∙ sym (asked notFound _ (a .s .now) h ∙ rw (sym (c .before .before .is-old .ensures) ∙ c .before .if2 .taken))
 
 returns-3 : tie.Need-returns-3

@@ -46,7 +46,8 @@ loop-less : tie.Need-loop-less Inv-loop μ-loop
 loop-less c = omega arith
 
 loop-again : tie.Need-loop-again Inv-loop μ-loop
-loop-again c = writing-on (five (c .before .before .before .before .look-up .result)) (c .before .before .before .before .before .before .before .loop .inv) (omega arith) (c .before .before .before .before .look-up .ensures) (c .before .before .put .ensures)
+loop-again c = writing-on (five (c .before .before .before .before .look-up .result)) (c .before .before .before .before .before .before .before .loop .inv) (omega arith) (c .before .before .before .before .look-up .ensures)
+    (c .before .before .put .ensures)
 
 same-length : tie.Need-same-length Inv-loop μ-loop
 same-length c = c .before .loop .inv .long

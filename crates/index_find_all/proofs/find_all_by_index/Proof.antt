@@ -23,7 +23,8 @@ returns : tie.Need-returns
 unfolding allByIndex
 returns c =
     let a = c .before .before .before .before .before .before .before .before .before .args in
-    listed (section-refused (a .s .now) 0 (c .before .before .before .before .check .result .found) (c .before .before .before .before .check .ensures .0) (notListed (a .answers .now)) _ (sym (c .before .before .of-section .ensures) ∙ c .before .if1 .taken))
+    listed (section-refused (a .s .now) 0 (c .before .before .before .before .check .result .found) (c .before .before .before .before .check .ensures .0) (notListed (a .answers .now)) _
+    (sym (c .before .before .of-section .ensures) ∙ c .before .if1 .taken))
     (record { number = c .refused .ensures .0; place = c .refused .ensures .1; written = c .refused .ensures .2; output = refl })
 
 is-old-requires : tie.Need-is-old-requires
@@ -39,14 +40,16 @@ returns-2 : tie.Need-returns-2
 unfolding allByIndex
 returns-2 c =
     let a = c .before .before .before .before .before .before .before .before .before .before .before .args in
-    let h = section-accepted (a .s .now) 0 (c .before .before .before .before .before .before .check .result .found) (c .before .before .before .before .before .before .check .ensures .0) (sym (c .before .before .before .before .of-section .ensures) ∙ c .before .before .before .if1 .left) in
+    let h = section-accepted (a .s .now) 0 (c .before .before .before .before .before .before .check .result .found) (c .before .before .before .before .before .before .check .ensures .0)
+    (sym (c .before .before .before .before .of-section .ensures) ∙ c .before .before .before .if1 .left) in
     listed (asked (notListed (a .answers .now)) _ (a .s .now) h ∙ rw (sym (c .before .before .is-old .ensures) ∙ c .before .if2 .taken))
     (record { number = c .refused2 .ensures .0; place = c .refused2 .ensures .1; written = c .refused2 .ensures .2; output = refl })
 
 answered-requires : tie.Need-answered-requires
 answered-requires c κs =
     let a = c .before .before .before .before .before .before .before .before .before .before .before .before .args in
-    let h = section-accepted (a .s .now) 0 (c .before .before .before .before .before .before .before .check .result .found) (c .before .before .before .before .before .before .before .check .ensures .0) (sym (c .before .before .before .before .before .of-section .ensures) ∙ c .before .before .before .before .if1 .left) in
+    let h = section-accepted (a .s .now) 0 (c .before .before .before .before .before .before .before .check .result .found) (c .before .before .before .before .before .before .before .check .ensures .0)
+    (sym (c .before .before .before .before .before .of-section .ensures) ∙ c .before .before .before .before .if1 .left) in
     let o = sym (c .before .before .before .is-old .ensures) ∙ c .before .before .if2 .left in
     (h, o, same-one (a .index .now) (indexOf (a .s .now)) (sym (c .before .before .before .before .before .before .before .check .ensures .1 h o) ∙ c .before .if3 .taken))
 
@@ -57,7 +60,9 @@ returns-3 : tie.Need-returns-3
 unfolding allByIndex
 returns-3 c =
     let a = c .before .before .before .before .before .before .before .before .before .before .before .before .before .before .before .args in
-    let h = section-accepted (a .s .now) 0 (c .before .before .before .before .before .before .before .before .before .before .check .result .found) (c .before .before .before .before .before .before .before .before .before .before .check .ensures .0) (sym (c .before .before .before .before .before .before .before .before .of-section .ensures) ∙ c .before .before .before .before .before .before .before .if1 .left) in
+    let h = section-accepted (a .s .now) 0 (c .before .before .before .before .before .before .before .before .before .before .check .result .found)
+    (c .before .before .before .before .before .before .before .before .before .before .check .ensures .0)
+    (sym (c .before .before .before .before .before .before .before .before .of-section .ensures) ∙ c .before .before .before .before .before .before .before .if1 .left) in
     let o = sym (c .before .before .before .before .before .before .is-old .ensures) ∙ c .before .before .before .before .before .if2 .left in
     let r = sym (c .before .before .before .before .before .before .before .before .before .before .check .ensures .1 h o) ∙ c .before .before .before .before .if3 .taken in
     listed (asked (notListed (a .answers .now)) _ (a .s .now) h ∙ rw (o, r)) (c .before .before .answered .ensures)
@@ -69,7 +74,8 @@ returns-4 : tie.Need-returns-4
 unfolding allByIndex
 returns-4 c =
     let a = c .before .before .before .before .before .before .before .before .before .before .before .before .args in
-    let h = section-accepted (a .s .now) 0 (c .before .before .before .before .before .before .before .check .result .found) (c .before .before .before .before .before .before .before .check .ensures .0) (sym (c .before .before .before .before .before .of-section .ensures) ∙ c .before .before .before .before .if1 .left) in
+    let h = section-accepted (a .s .now) 0 (c .before .before .before .before .before .before .before .check .result .found) (c .before .before .before .before .before .before .before .check .ensures .0)
+    (sym (c .before .before .before .before .before .of-section .ensures) ∙ c .before .before .before .before .if1 .left) in
     let o = sym (c .before .before .before .is-old .ensures) ∙ c .before .before .if2 .left in
     let r = sym (c .before .before .before .before .before .before .before .check .ensures .1 h o) ∙ c .before .if3 .left in
     listed (asked (notListed (a .answers .now)) _ (a .s .now) h ∙ rw (o, r))

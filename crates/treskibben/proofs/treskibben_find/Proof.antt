@@ -1,5 +1,5 @@
 use mathlib.Core.Path.{ap, _∙_}
-use Rattle.treskibben_answers.specs.Answer.{foundAt}
+use Rattle.treskibben_answers.specs.Answer.{findAnswerOf}
 use borrow.Author.Needs.{needs}
 use Rattle.treskibben.proofs.treskibben_find.Statement.{statement}
 use Rattle.treskibben.proofs.treskibben_find.Tie as tie
@@ -11,7 +11,7 @@ search-answer-requires : tie.Need-search-answer-requires
 search-answer-requires c κs = search needs
 
 returns : tie.Need-returns
-returns c = c .search-answer .ensures ∙ ap foundAt (c .before .find .ensures)
+returns c = c .search-answer .ensures ∙ ap findAnswerOf (c .before .find .ensures)
 
 pub treskibben-find-spec : {M : Type 1} → statement M
 treskibben-find-spec = tie.close (tie.spec find-requires search-answer-requires returns)

@@ -1,5 +1,5 @@
 use mathlib.Core.Path.{ap, _∙_}
-use Rattle.treskibben_answers.specs.Answer.{foundAt}
+use Rattle.treskibben_answers.specs.Answer.{findAnswerOf}
 use borrow.Author.Needs.{needs}
 use Rattle.treskibben.proofs.treskibben_find_in_function.Statement.{statement}
 use Rattle.treskibben.proofs.treskibben_find_in_function.Tie as tie
@@ -11,7 +11,7 @@ search-answer-requires : tie.Need-search-answer-requires
 search-answer-requires c κs = search needs
 
 returns : tie.Need-returns
-returns c = c .search-answer .ensures ∙ ap foundAt (c .before .find-in-function .ensures)
+returns c = c .search-answer .ensures ∙ ap findAnswerOf (c .before .find-in-function .ensures)
 
 pub treskibben-find-in-function-spec : {M : Type 1} → statement M
 treskibben-find-in-function-spec = tie.close (tie.spec find-in-function-requires search-answer-requires returns)

@@ -1,5 +1,5 @@
 use mathlib.Core.Path.{ap, _∙_}
-use Rattle.treskibben_answers.specs.Answer.{standsAt}
+use Rattle.treskibben_answers.specs.Answer.{recordPlaceOf}
 use borrow.Author.Needs.{needs}
 use Rattle.treskibben.proofs.treskibben_record.Statement.{statement}
 use Rattle.treskibben.proofs.treskibben_record.Tie as tie
@@ -11,7 +11,7 @@ record-answer-requires : tie.Need-record-answer-requires
 record-answer-requires c κs = search needs
 
 returns : tie.Need-returns
-returns c = c .record-answer .ensures ∙ ap standsAt (c .before .locate .ensures .0)
+returns c = c .record-answer .ensures ∙ ap recordPlaceOf (c .before .locate .ensures .0)
 
 pub treskibben-record-spec : {M : Type 1} → statement M
 treskibben-record-spec = tie.close (tie.spec locate-requires record-answer-requires returns)

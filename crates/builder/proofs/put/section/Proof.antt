@@ -35,8 +35,8 @@ mul-to c = search needs
 add-to : tie.Need-add-to
 add-to c = let e = scaled c in search needs
 
-header-requires : tie.Need-header-requires
-header-requires c κs =
+put-header-requires : tie.Need-put-header-requires
+put-header-requires c κs =
     let p = c .before .before .before .before .pre .0 in
     let i = p .tables .inside in
     let n = p .few in
@@ -64,7 +64,7 @@ returns c =
       c .before .before .records .ensures,
       c .before .before .before .before .before .before .constants .ensures,
       c .before .before .before .before .before .before .before .before .before .before .functions .ensures,
-      c .before .before .before .before .before .before .before .before .before .before .before .before .before .before .header .ensures,
+      c .before .before .before .before .before .before .before .before .before .before .before .before .before .before .put-header .ensures,
       c .before .before .before .before .before .before .before .before .before .before .before .before .before .before .before .before .function-size .ensures .0,
     )
     (section-put (a .plan .old) (p .tables) (p .counted) (a .out .now))
@@ -81,7 +81,7 @@ section-spec =
     add-next
     mul-to
     add-to
-    header-requires
+    put-header-requires
     functions-requires
     constants-requires
     records-requires

@@ -1,6 +1,6 @@
 use mathlib.Core.Path.{_≡_, sym, ap, _∙_}
 use mathlib.Core.Logic.{⊎-elim}
-use Rattle.moves.specs.declared.Found.{Found}
+use Rattle.moves.specs.declared.NewStart.{NewStart}
 use Rattle.moves.specs.Table.{lookUp}
 use Rattle.moves.specs.Pointers.{orZero}
 use Rattle.moves.specs.Arrays.{asOption}
@@ -29,8 +29,8 @@ returns c =
     let a = c .before .before .before .before .before .before .args in
     let e : orZero (lookUp (a .olds .now) (a .news .now) (a .base)) ≡ c .before .before .match .to =
     ⊎-elim
-    (λ w. sym (ap orZero (c .before .before .before .look-up .ensures)) ∙ ap (λ (f : Found). orZero (asOption f)) (w .1 .given .1) ∙ sym (w .3))
-    (λ w. sym (ap orZero (c .before .before .before .look-up .ensures)) ∙ ap (λ (f : Found). orZero (asOption f)) (w .1 .given .1) ∙ sym (w .2))
+    (λ w. sym (ap orZero (c .before .before .before .look-up .ensures)) ∙ ap (λ (f : NewStart). orZero (asOption f)) (w .1 .given .1) ∙ sym (w .3))
+    (λ w. sym (ap orZero (c .before .before .before .look-up .ensures)) ∙ ap (λ (f : NewStart). orZero (asOption f)) (w .1 .given .1) ∙ sym (w .2))
     (c .before .before .match .came) in
     moved-is _ (a .derived) (a .base) (c .before .wrapping-sub-u64 .result) _ _ (c .before .before .before .before .before .before .fits .base .fits) e (c .before .wrapping-sub-u64 .ensures) (c .wrapping-add-u64 .ensures)
 

@@ -1,11 +1,11 @@
 use Rattle.listing.specs.Listing.{listedFunction}
-use Rattle.parser.specs.Walk.{ownerBy}
+use Rattle.parser.specs.Walk.{listedOwner}
 use native.Mathlib.Omega.{arith}
 use Rattle.parser.proofs.fault.owner_address.Statement.{statement}
 use Rattle.parser.proofs.fault.owner_address.Tie as tie
 
 returns : tie.Need-returns
-unfolding ownerBy
+unfolding listedOwner
 returns c = rw (c .if1 .taken)
 
 mul-u64-at : tie.Need-mul-u64-at
@@ -18,7 +18,7 @@ u64-at-requires : tie.Need-u64-at-requires
 u64-at-requires c κs = let h = c .before .before .pre (c .if1 .left) in omega arith
 
 returns-2 : tie.Need-returns-2
-unfolding ownerBy listedFunction
+unfolding listedOwner listedFunction
 returns-2 c = rw (c .before .if1 .left, c .u64-at .ensures)
 
 pub owner-address-spec : {M : Type 1} → statement M

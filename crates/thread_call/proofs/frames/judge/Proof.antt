@@ -23,8 +23,8 @@ loop-holds c =
     let a = q .args in
     (judging-start (restore (a .s .now) (a .olds .now) (a .news .now) (a .first)) (a .image .now) (a .frames .now) (a .count) (acceptedMove (pairsIn (restore (a .s .now) (a .olds .now) (a .news .now) (a .first)) (a .image .now) (framesFrom (a .frames .now) (a .count) 0))), refl)
 
-one-requires : tie.Need-one-requires Inv-loop μ-loop
-one-requires c κs =
+settle-frame-requires : tie.Need-settle-frame-requires Inv-loop μ-loop
+settle-frame-requires c κs =
     let q = c .before .before .before .before .before .before .before .before in
     (rw (c .before .before .loop .inv .1) (q .pre), c .before .loop-test .taken)
 
@@ -33,21 +33,21 @@ refused-requires c κs = search needs
 
 same-length : tie.Need-same-length Inv-loop μ-loop
 same-length c =
-    c .before .before .before .before .before .one .kept .1 .0 ∙ ap length (c .before .before .before .before .before .before .before .before .loop .inv .1)
+    c .before .before .before .before .before .settle-frame .kept .1 .0 ∙ ap length (c .before .before .before .before .before .before .before .before .loop .inv .1)
 
 returns : tie.Need-returns Inv-loop μ-loop
 returns c =
     let q = c .before .before .before .before .before .before .before .before .before .before .before .before .before .before in
     let a = q .args in
     let i = c .before .before .before .before .before .before .before .before .loop .inv .1 in
-    (c .refused .ensures ∙ judging-stop (restore (a .s .now) (a .olds .now) (a .news .now) (a .first)) (a .image .now) (a .frames .now) (a .count) (acceptedMove (pairsIn (restore (a .s .now) (a .olds .now) (a .news .now) (a .first)) (a .image .now) (framesFrom (a .frames .now) (a .count) 0))) (c .before .before .before .before .before .before .before .before .loop .inv .0) (c .before .before .before .before .before .before .before .loop-test .taken) (c .before .before .before .before .before .one .result) (rw i at (c .before .before .before .before .before .one .ensures .0)) (c .before .if1 .taken), c .before .before .before .before .before .one .ensures .1 ∙ i)
+    (c .refused .ensures ∙ judging-stop (restore (a .s .now) (a .olds .now) (a .news .now) (a .first)) (a .image .now) (a .frames .now) (a .count) (acceptedMove (pairsIn (restore (a .s .now) (a .olds .now) (a .news .now) (a .first)) (a .image .now) (framesFrom (a .frames .now) (a .count) 0))) (c .before .before .before .before .before .before .before .before .loop .inv .0) (c .before .before .before .before .before .before .before .loop-test .taken) (c .before .before .before .before .before .settle-frame .result) (rw i at (c .before .before .before .before .before .settle-frame .ensures .0)) (c .before .if1 .taken), c .before .before .before .before .before .settle-frame .ensures .1 ∙ i)
 
 add-sum : tie.Need-add-sum Inv-loop μ-loop
 add-sum c =
     let q = c .before .before .before .before .before .before .before .before .before .before .before .before .before .before in
     let a = q .args in
     let i = c .before .before .before .before .before .before .before .before .loop .inv .1 in
-    let w = judging-few (restore (a .s .now) (a .olds .now) (a .news .now) (a .first)) (a .image .now) (a .frames .now) (a .count) (acceptedMove (pairsIn (restore (a .s .now) (a .olds .now) (a .news .now) (a .first)) (a .image .now) (framesFrom (a .frames .now) (a .count) 0))) (c .before .before .before .before .before .before .before .before .loop .inv .0) (c .before .before .before .before .before .before .before .loop-test .taken) (c .before .before .before .before .before .one .result) (rw i at (c .before .before .before .before .before .one .ensures .0)) in
+    let w = judging-few (restore (a .s .now) (a .olds .now) (a .news .now) (a .first)) (a .image .now) (a .frames .now) (a .count) (acceptedMove (pairsIn (restore (a .s .now) (a .olds .now) (a .news .now) (a .first)) (a .image .now) (framesFrom (a .frames .now) (a .count) 0))) (c .before .before .before .before .before .before .before .before .loop .inv .0) (c .before .before .before .before .before .before .before .loop-test .taken) (c .before .before .before .before .before .settle-frame .result) (rw i at (c .before .before .before .before .before .settle-frame .ensures .0)) in
     omega (arith, w, c .before .before .before .before .before .before .before .before .loop .inv .0 .few, c .before .before .before .before .before .before .before .before .loop .inv .0 .most, q .pre .looked .most)
 
 add-k : tie.Need-add-k Inv-loop μ-loop
@@ -64,7 +64,7 @@ loop-again c =
     let q = c .before .before .before .before .before .before .before .before .before .before .before .before .before .before in
     let a = q .args in
     let i = c .before .before .before .before .before .before .before .before .loop .inv .1 in
-    (judging-on (restore (a .s .now) (a .olds .now) (a .news .now) (a .first)) (a .image .now) (a .frames .now) (a .count) (acceptedMove (pairsIn (restore (a .s .now) (a .olds .now) (a .news .now) (a .first)) (a .image .now) (framesFrom (a .frames .now) (a .count) 0))) (c .before .before .before .before .before .before .before .before .loop .inv .0) (c .before .before .before .before .before .before .before .loop-test .taken) (c .before .before .before .before .before .one .result) (rw i at (c .before .before .before .before .before .one .ensures .0)) (c .before .if1 .left), c .before .before .before .before .before .one .ensures .1 ∙ i)
+    (judging-on (restore (a .s .now) (a .olds .now) (a .news .now) (a .first)) (a .image .now) (a .frames .now) (a .count) (acceptedMove (pairsIn (restore (a .s .now) (a .olds .now) (a .news .now) (a .first)) (a .image .now) (framesFrom (a .frames .now) (a .count) 0))) (c .before .before .before .before .before .before .before .before .loop .inv .0) (c .before .before .before .before .before .before .before .loop-test .taken) (c .before .before .before .before .before .settle-frame .result) (rw i at (c .before .before .before .before .before .settle-frame .ensures .0)) (c .before .if1 .left), c .before .before .before .before .before .settle-frame .ensures .1 ∙ i)
 
 same-length-2 : tie.Need-same-length-2 Inv-loop μ-loop
 same-length-2 c = rw (c .before .loop .inv .1)
@@ -83,7 +83,7 @@ judge-spec =
     Inv-loop
     μ-loop
     loop-holds
-    one-requires
+    settle-frame-requires
     refused-requires
     same-length
     returns

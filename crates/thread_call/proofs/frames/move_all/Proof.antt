@@ -18,8 +18,8 @@ loop-holds c =
     let a = q .args in
     moving-start (restore (a .s .now) (a .olds .now) (a .news .now) (a .first)) (a .image .now) (a .frames .now) (a .count)
 
-one-requires : tie.Need-one-requires Inv-loop μ-loop
-one-requires c κs =
+settle-frame-requires : tie.Need-settle-frame-requires Inv-loop μ-loop
+settle-frame-requires c κs =
     let q = c .before .before .before .before .before .before .before .before in
     (rw (c .before .before .loop .inv .long) (q .pre), c .before .loop-test .taken)
 
@@ -36,7 +36,7 @@ loop-again : tie.Need-loop-again Inv-loop μ-loop
 loop-again c =
     let q = c .before .before .before .before .before .before .before .before .before .before .before in
     let a = q .args in
-    moving-on (restore (a .s .now) (a .olds .now) (a .news .now) (a .first)) (a .image .now) (a .frames .now) (a .count) (c .before .before .before .before .before .loop .inv) (c .before .before .before .before .loop-test .taken) (c .before .before .one .ensures .1) (c .before .before .one .kept .1 .0)
+    moving-on (restore (a .s .now) (a .olds .now) (a .news .now) (a .first)) (a .image .now) (a .frames .now) (a .count) (c .before .before .before .before .before .loop .inv) (c .before .before .before .before .loop-test .taken) (c .before .before .settle-frame .ensures .1) (c .before .before .settle-frame .kept .1 .0)
 
 same-length : tie.Need-same-length Inv-loop μ-loop
 same-length c = c .before .loop .inv .long
@@ -54,7 +54,7 @@ move-all-spec =
     Inv-loop
     μ-loop
     loop-holds
-    one-requires
+    settle-frame-requires
     add-next
     loop-less
     loop-again

@@ -1,5 +1,5 @@
 use mathlib.Core.Path.{ap, _∙_}
-use Rattle.treskibben_answers.specs.Answer.{foundAt}
+use Rattle.treskibben_answers.specs.Answer.{findAnswerOf}
 use borrow.Author.Needs.{needs}
 use Rattle.treskibben.proofs.index_lookups.treskibben_find_by_index.Statement.{statement}
 use Rattle.treskibben.proofs.index_lookups.treskibben_find_by_index.Tie as tie
@@ -11,7 +11,7 @@ search-answer-requires : tie.Need-search-answer-requires
 search-answer-requires c κs = search needs
 
 returns : tie.Need-returns
-returns c = c .search-answer .ensures ∙ ap foundAt (c .before .find-by-index .ensures)
+returns c = c .search-answer .ensures ∙ ap findAnswerOf (c .before .find-by-index .ensures)
 
 pub treskibben-find-by-index-spec : {M : Type 1} → statement M
 treskibben-find-by-index-spec = tie.close (tie.spec find-by-index-requires search-answer-requires returns)

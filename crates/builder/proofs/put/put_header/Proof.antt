@@ -1,7 +1,7 @@
 use Rattle.builder.proofs.SectionPut.{header-put}
 use borrow.Author.Needs.{needs}
-use Rattle.builder.proofs.put.header.Statement.{statement}
-use Rattle.builder.proofs.put.header.Tie as tie
+use Rattle.builder.proofs.put.put_header.Statement.{statement}
+use Rattle.builder.proofs.put.put_header.Tie as tie
 
 version-word-requires : tie.Need-version-word-requires
 version-word-requires c κs = search needs
@@ -42,8 +42,8 @@ returns c =
     )
     (header-put (a .plan .old) (a .plan .functions) (a .plan .constants) (a .plan .records) (a .out .now))
 
-pub header-spec : {M : Type 1} → statement M
-header-spec =
+pub put-header-spec : {M : Type 1} → statement M
+put-header-spec =
     tie.close
     (tie.spec
     version-word-requires

@@ -2,8 +2,8 @@ use native.Mathlib.Omega.{arith}
 use Rattle.relocate.specs.Restore.{restore}
 use Rattle.thread_call.proofs.Judging.{one-moved}
 use borrow.Author.Needs.{needs}
-use Rattle.thread_call.proofs.frames.one.Statement.{statement}
-use Rattle.thread_call.proofs.frames.one.Tie as tie
+use Rattle.thread_call.proofs.frames.settle_frame.Statement.{statement}
+use Rattle.thread_call.proofs.frames.settle_frame.Tie as tie
 
 frame-at-requires : tie.Need-frame-at-requires
 frame-at-requires c κs =
@@ -26,8 +26,8 @@ returns c =
     rw (← c .before .before .before .before .before .frame-at .ensures)
     (one-moved (restore (s .args .s .now) (s .args .olds .now) (s .args .news .now) (s .args .first)) (s .args .image .now) (c .before .before .before .before .before .frame-at .result) (s .pre .0 .looked .section-right) (s .pre .0 .image-right) (s .pre .0 .table-right) (s .args .write) _ _ (c .before .before .move-found .ensures))
 
-pub one-spec : {M : Type 1} → statement M
-one-spec =
+pub settle-frame-spec : {M : Type 1} → statement M
+settle-frame-spec =
     tie.close
     (tie.spec
     frame-at-requires

@@ -3,8 +3,8 @@ use Rattle.stackmap.specs.Check.{headerCheck}
 use Rattle.stackmap.specs.Verdict.{must}
 use Rattle.stackmap.proofs.Tests.{tests}
 use borrow.Author.Needs.{needs}
-use Rattle.stackmap_tables.proofs.tables.header.Statement.{statement}
-use Rattle.stackmap_tables.proofs.tables.header.Tie as tie
+use Rattle.stackmap_tables.proofs.tables.check_header.Statement.{statement}
+use Rattle.stackmap_tables.proofs.tables.check_header.Tie as tie
 
 returns : tie.Need-returns
 unfolding headerCheck must
@@ -31,8 +31,8 @@ returns-4 : tie.Need-returns-4
 unfolding headerCheck must
 returns-4 c = rw (sym (c .before .version-right .ensures) ∙ c .if3 .left) (search tests)
 
-pub header-spec : {M : Type 1} → statement M
-header-spec =
+pub check-header-spec : {M : Type 1} → statement M
+check-header-spec =
     tie.close
     (tie.spec
     returns
