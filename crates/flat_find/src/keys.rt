@@ -8,7 +8,7 @@ ghost use Rattle.flat.specs.Places.{framesAt, recordsAt};
 ghost use Rattle.flat_check.specs.Check.{Accepted};
 ghost use Rattle.flat_find.specs.Find.{inFrame, firstOf};
 ghost use Rattle.flat_find.specs.Keys.{keysMost, Filled, Keyed};
-use crate::Found;
+use crate::MatchAnswer;
 use flat::layout;
 use flat::offsets;
 
@@ -64,7 +64,7 @@ pub fn in_frame(
     n: usize,
     keys: &[u64],
     count: usize,
-) -> Found
+) -> MatchAnswer
     requires { ⌜ (sectionLeast ≤ length (now s)) × (framesAt (now s) + frameSize * i + frameSize ≤ length (now s)) × (recordsAt (now s) + recordSize * (k + n) ≤ length (now s))
         × (count ≤ length (now keys)) × (count ≤ keysMost) × Keyed (now s) (now keys) count ⌝ }
     ensures { λ r. ⌜ r ≡ firstOf (inFrame (now (s .entry)) address i k n) ⌝ }
