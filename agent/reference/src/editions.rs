@@ -9,8 +9,8 @@
 //! settings that can't be, 32 where the new number would be over 2^32 - 1, 30
 //! where all places are taken. [`Store::retire`] and [`Store::read`] give 31
 //! for an edition that is unknown or retired: 0 and numbers over 2^32 - 1 are
-//! never known. Every place is 0. A refused call leaves the store as it was,
-//! the greatest number included.
+//! never known. All these are at place 0. A refused call leaves the store as it
+//! was, the greatest number included.
 //!
 //! Which place an edition takes can't be seen from outside. The same calls are
 //! answered from a plain list of events in [`crate::history`].

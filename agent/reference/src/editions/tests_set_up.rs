@@ -2,7 +2,7 @@
 
 use super::tests::counting;
 use super::*;
-use crate::fixtures::refusal;
+use crate::fixtures::{refusal, Random};
 
 fn edition(number: u64) -> Edition {
     let settings = counting(1 + number % 256);
@@ -49,6 +49,39 @@ fn a_full_store_has_its_greatest() {
     assert!(set_up(65, 2..=65).is_some());
     assert!(set_up(65, 1..=63).is_some());
     assert!(set_up(64, 1..=64).is_some());
+}
+
+/// Makes each number up to the greatest and retires it at once where it isn't
+/// to be live. None where a place is missing.
+fn by_calls(greatest: u64, live: &[Edition]) -> Option<Store> {
+    let mut store = Store::empty();
+    for number in 1..=greatest {
+        let own = live.iter().find(|own| own.number == number);
+        let settings = own.map_or(counting(1), |own| own.settings);
+        assert_eq!(store.make(settings).ok()?, number);
+        if own.is_none() {
+            store.retire(number).unwrap();
+        }
+    }
+    Some(store)
+}
+
+/// A store can be set up exactly where calls leave it.
+#[test]
+fn what_is_set_up_is_what_calls_leave() {
+    let mut random = Random(9);
+    let mut met = [0; 2];
+    for nth in 0..4_000 {
+        let greatest = nth % 80;
+        let often = 1 + random.below(40);
+        let numbers = (1..=greatest).filter(|_| random.below(often) > 0);
+        let live: Vec<Edition> = numbers.map(edition).collect();
+        let (store, left) = (Store::set_up(greatest, &live), by_calls(greatest, &live));
+        let seen = |store: &Store| (store.greatest(), store.editions());
+        assert_eq!(store.as_ref().map(seen), left.as_ref().map(seen));
+        met[usize::from(store.is_some())] += 1;
+    }
+    assert!(met.iter().all(|met| *met >= 400), "{met:?}");
 }
 
 #[test]
