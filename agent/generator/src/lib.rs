@@ -1,5 +1,5 @@
 //! Random stack map sections, listings and address indexes for tests and benchmarks, of versions 1 and
-//! 3, and flat sections: whole ones, and damaged ones.
+//! 3, and flat sections: whole ones, and damaged ones. Also sequences of calls on a store of editions.
 //!
 //! Everything is made from a seed, so that a run can be had again. The encoder is this package's
 //! own: where it says what a section must be answered, that is one more opinion beside those of
@@ -10,6 +10,7 @@ pub mod arranged;
 pub mod asked;
 pub mod damage;
 pub mod edges;
+pub mod editions;
 pub mod flat;
 pub mod frames;
 pub mod indexes;

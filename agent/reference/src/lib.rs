@@ -5,7 +5,8 @@
 //! questions on them, also through an address index, turns them into listings
 //! and back, relocates the pointers of one stopped frame or of a whole thread,
 //! and holds what the small program writes. It also reads and looks up the flat proposal's sections, which have
-//! a layout of their own ([`flat`]).
+//! a layout of their own ([`flat`]), and keeps settings by edition ([`editions`], and [`history`] for
+//! the same calls answered from a list of events).
 //!
 //! Every function answers every input: with a result, or with a [`Refusal`]
 //! that has a fixed number and place. A refused call changes no byte of what
@@ -15,7 +16,9 @@
 #![deny(missing_docs)]
 
 mod bytes;
+pub mod editions;
 pub mod flat;
+pub mod history;
 pub mod index;
 pub mod listing;
 pub mod program;
@@ -40,7 +43,8 @@ pub use thread::{thread, thread_by_index};
 /// the place that line names.
 #[derive(Clone, Copy, Debug, PartialEq, Eq)]
 pub struct Refusal {
-    /// The refusal's number, 1 to 29 or, of a flat section, 36 to 41.
+    /// The refusal's number, 1 to 29; of a call on editions 30 to 32 or 51; of
+    /// a flat section 36 to 41.
     pub number: u64,
     /// The refusal's place: a byte, a pair, a frame's position in a list, or 0
     /// where its line has none.
