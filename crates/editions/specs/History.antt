@@ -7,7 +7,8 @@ use lib.Dec.{eqb, leb, ltb}
 use lib.ListN.{length}
 use Rattle.editions.specs.declared.Settings.{Settings}
 use Rattle.editions.specs.declared.Edition.{Edition}
-use Rattle.editions.specs.Store.{settingsRight, places, numberMost, Call, make, retire, read, Reply, made, retired, has, Result, need, found}
+use Rattle.editions.specs.Store.{settingsRight, places, numberMost, Result, need, found}
+use Rattle.editions.specs.Store.{Call, make, retire, read, Reply, made, retired, has}
 
 pub data Event : Type 0 where
   was-made : Edition → Event

@@ -23,7 +23,8 @@ numberMost = 2 ^ 32 - 1
 -- else 51: a count from 1 to 256, a known machine, of each version whether it is allowed (0 or 1), and one of them is
 unfoldable pub settingsRight : Settings → Bool
 settingsRight s =
-    leb 1 (s .most) && leb (s .most) 256 && leb (s .machine) 1 && leb (s .version1) 1 && leb (s .version3) 1 && leb 1 (s .version1 + s .version3)
+    leb 1 (s .most) && leb (s .most) 256 && leb (s .machine) 1
+    && leb (s .version1) 1 && leb (s .version3) 1 && leb 1 (s .version1 + s .version3)
 
 -- Calls and answers.
 
