@@ -11,7 +11,7 @@ returns c = rw (ne-eqb (c .before .before .args .place .number) (c .before .befo
 
 returns-2 : tie.Need-returns-2
 unfolding holds
-returns-2 c = rw (eq-eqb (c .before .before .before .before .args .place .number) (c .before .before .before .before .args .number) (c .before .before .if1 .left), lt-leb 1 (c .before .before .before .before .args .place .number) (c .if2 .taken))
+returns-2 c = rw (eq-eqb (c .before .before .before .before .args .place .number) (c .before .before .before .before .args .number) (c .before .before .if1 .left), lt-leb 1 (c .before .before .before .before .args .place .number) (omega arith))
 
 returns-3 : tie.Need-returns-3
 unfolding holds
@@ -19,7 +19,7 @@ returns-3 c =
     rw (
       eq-eqb (c .before .before .before .before .before .before .args .place .number) (c .before .before .before .before .before .before .args .number) (c .before .before .before .before .if1 .left),
       le-leb 1 (c .before .before .before .before .before .before .args .place .number) (omega arith),
-      lt-leb (c .before .before .before .before .before .before .args .place .number) numberMost (c .if3 .taken),
+      lt-leb (c .before .before .before .before .before .before .args .place .number) numberMost (omega arith),
     )
 
 settings-right-requires : tie.Need-settings-right-requires

@@ -20,7 +20,7 @@ returns-2 c =
     rw (
       ← c .before .before .before .settings-right .ensures,
       not-false (c .before .before .before .settings-right .result) (c .before .before .if1 .left),
-      le-ltb (c .before .before .before .before .args .store .greatest) numberMost (c .if2 .taken),
+      le-ltb (c .before .before .before .before .args .store .greatest) numberMost (omega arith),
     )
 
 free-place-requires : tie.Need-free-place-requires

@@ -7,11 +7,11 @@ use Rattle.editions_store.proofs.settings_right.Tie as tie
 
 returns : tie.Need-returns
 unfolding settingsRight
-returns c = rw (lt-leb 1 (c .before .before .args .s .most) (c .if1 .taken))
+returns c = rw (lt-leb 1 (c .before .before .args .s .most) (omega arith))
 
 returns-2 : tie.Need-returns-2
 unfolding settingsRight
-returns-2 c = rw (le-leb 1 (c .before .before .before .before .args .s .most) (omega arith), lt-leb (c .before .before .before .before .args .s .most) 256 (c .if2 .taken))
+returns-2 c = rw (le-leb 1 (c .before .before .before .before .args .s .most) (omega arith), lt-leb (c .before .before .before .before .args .s .most) 256 (omega arith))
 
 returns-3 : tie.Need-returns-3
 unfolding settingsRight
@@ -19,7 +19,7 @@ returns-3 c =
     rw (
       le-leb 1 (c .before .before .before .before .before .before .args .s .most) (omega arith),
       le-leb (c .before .before .before .before .before .before .args .s .most) 256 (omega arith),
-      lt-leb (c .before .before .before .before .before .before .args .s .machine) 1 (c .if3 .taken),
+      lt-leb (c .before .before .before .before .before .before .args .s .machine) 1 (omega arith),
     )
 
 returns-4 : tie.Need-returns-4
@@ -29,7 +29,7 @@ returns-4 c =
       le-leb 1 (c .before .before .before .before .before .before .before .before .args .s .most) (omega arith),
       le-leb (c .before .before .before .before .before .before .before .before .args .s .most) 256 (omega arith),
       le-leb (c .before .before .before .before .before .before .before .before .args .s .machine) 1 (omega arith),
-      lt-leb (c .before .before .before .before .before .before .before .before .args .s .version1) 1 (c .if4 .taken),
+      lt-leb (c .before .before .before .before .before .before .before .before .args .s .version1) 1 (omega arith),
     )
 
 returns-5 : tie.Need-returns-5
@@ -40,7 +40,7 @@ returns-5 c =
       le-leb (c .before .before .before .before .before .before .before .before .before .before .args .s .most) 256 (omega arith),
       le-leb (c .before .before .before .before .before .before .before .before .before .before .args .s .machine) 1 (omega arith),
       le-leb (c .before .before .before .before .before .before .before .before .before .before .args .s .version1) 1 (omega arith),
-      lt-leb (c .before .before .before .before .before .before .before .before .before .before .args .s .version3) 1 (c .if5 .taken),
+      lt-leb (c .before .before .before .before .before .before .before .before .before .before .args .s .version3) 1 (omega arith),
     )
 
 add-result : tie.Need-add-result
