@@ -12,7 +12,7 @@ use lib.ListN.{length}
 use Rattle.editions.specs.declared.Settings.{Settings}
 use Rattle.editions.specs.declared.Edition.{Edition}
 use Rattle.editions.specs.declared.Store.{Store}
-use Rattle.editions.specs.Store.{settingsRight, places, numberMost, look, room, kept, without, Call, make, retire, read, made, retired, has, Result, need, found, makeIn, retireIn, readIn, call, empty, answers}
+use Rattle.editions.specs.Store.{settingsRight, places, numberMost, look, room, kept, without, Call, make, retire, read, Result, makeIn, retireIn, readIn, call, empty, answers}
 use Rattle.editions.specs.History.{Event, was-made, was-retired, greatestUsed, live, find, makeAfter, after, plain}
 use Rattle.editions.specs.Laws.{AsHistory}
 use Rattle.editions.proofs.Orders.{perm-length, Apart, num, apart-perm, find-perm, but-perm, but-mem, but-apart}
@@ -75,33 +75,37 @@ record Alike (a : Result Store) (b : Result (List Event)) : Type 0 where
   pub replies : a .reply ≡ b .reply
   pub lefts : Same (a .left) (b .left)
 
-alike-make : (st : Store) (h : List Event) (s : Settings) → Same st h → Alike (makeIn st s) (makeAfter h s)
+alike-tests : (st : Store) (h : List Event) (s : Settings) → Same st h → (a b c : Bool)
+    → settingsRight s ≡ a → ltb (st .greatest) numberMost ≡ b → room (st .slots) ≡ c → Alike (makeIn st s) (makeAfter h s)
 unfolding makeIn makeAfter
-alike-make st h s r = go (settingsRight s) refl (ltb (st .greatest) numberMost) refl (room (st .slots)) refl
-  where
-    go : (a : Bool) → settingsRight s ≡ a → (b : Bool) → ltb (st .greatest) numberMost ≡ b → (c : Bool) → room (st .slots) ≡ c
-        → Alike (need a 51 st (need b 32 st (need c 30 st (record { reply = made (st .greatest + 1); left = record { greatest = st .greatest + 1; slots = kept (record { number = st .greatest + 1; settings = s }) (st .slots) } }))))
-        (need a 51 h (need (ltb (greatestUsed h) numberMost) 32 h (need (ltb (length (live h)) places) 30 h (record { reply = made (greatestUsed h + 1); left = was-made (record { number = greatestUsed h + 1; settings = s }) ∷ h }))))
-    go false ea b eb c ec = record { replies = refl; lefts = r }
-    go true ea false eb c ec = rw (rw (r .greatest-is) at eb) (record { replies = refl; lefts = r })
-    go true ea true eb false ec = rw (rw (r .greatest-is) at eb, sym (rooms st h r) ∙ ec) (record { replies = refl; lefts = r })
-    go true ea true eb true ec =
-        rw (rw (r .greatest-is) at eb, sym (rooms st h r) ∙ ec)
-        (record { replies = rw (r .greatest-is); lefts = same-made st h s r ea (rw (r .greatest-is) at eb) ec })
+alike-tests st h s r false b c ea eb ec = rw ea (record { replies = refl; lefts = r })
+alike-tests st h s r true false c ea eb ec = rw (ea, eb, rw (r .greatest-is) at eb) (record { replies = refl; lefts = r })
+alike-tests st h s r true true false ea eb ec =
+    rw (ea, eb, rw (r .greatest-is) at eb, ec, sym (rooms st h r) ∙ ec) (record { replies = refl; lefts = r })
+alike-tests st h s r true true true ea eb ec =
+    rw (ea, eb, rw (r .greatest-is) at eb, ec, sym (rooms st h r) ∙ ec)
+    (record { replies = rw (r .greatest-is); lefts = same-made st h s r ea (rw (r .greatest-is) at eb) ec })
+
+alike-make : (st : Store) (h : List Event) (s : Settings) → Same st h → Alike (makeIn st s) (makeAfter h s)
+alike-make st h s r = alike-tests st h s r (settingsRight s) (ltb (st .greatest) numberMost) (room (st .slots)) refl refl refl
+
+alike-retire : (st : Store) (h : List Event) (e : ℕ) → Same st h → (o : Option Settings) → find e (live h) ≡ o
+    → Alike (retireIn st e) (after h (retire e))
+unfolding retireIn after
+alike-retire st h e r none eo = rw (looks st h r e, eo) (record { replies = refl; lefts = r })
+alike-retire st h e r (some s) eo = rw (looks st h r e, eo) (record { replies = refl; lefts = same-retired st h e r })
+
+alike-read : (st : Store) (h : List Event) (e : ℕ) → Same st h → (o : Option Settings) → find e (live h) ≡ o
+    → Alike (readIn st e) (after h (read e))
+unfolding readIn after
+alike-read st h e r none eo = rw (looks st h r e, eo) (record { replies = refl; lefts = r })
+alike-read st h e r (some s) eo = rw (looks st h r e, eo) (record { replies = refl; lefts = r })
 
 alike : (st : Store) (h : List Event) (c : Call) → Same st h → Alike (call st c) (after h c)
-unfolding retireIn readIn after
+unfolding after
 alike st h (make s) r = alike-make st h s r
-alike st h (retire e) r = rw (looks st h r e) (go (find e (live h)))
-  where
-    go : (o : Option Settings) → Alike (found o st (λ s. record { reply = retired; left = record { greatest = st .greatest; slots = without e (st .slots) } })) (found o h (λ s. record { reply = retired; left = was-retired e ∷ h }))
-    go none = record { replies = refl; lefts = r }
-    go (some s) = record { replies = refl; lefts = same-retired st h e r }
-alike st h (read e) r = rw (looks st h r e) (go (find e (live h)))
-  where
-    go : (o : Option Settings) → Alike (found o st (λ s. record { reply = has s; left = st })) (found o h (λ s. record { reply = has s; left = h }))
-    go none = record { replies = refl; lefts = r }
-    go (some s) = record { replies = refl; lefts = r }
+alike st h (retire e) r = alike-retire st h e r (find e (live h)) refl
+alike st h (read e) r = alike-read st h e r (find e (live h)) refl
 
 all-alike : (cs : List Call) (st : Store) (h : List Event) → Same st h → answers st cs ≡ plain h cs
 unfolding answers plain
