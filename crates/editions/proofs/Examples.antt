@@ -4,7 +4,8 @@ use mathlib.Core.Path.{_≡_, refl}
 use mathlib.Core.List.{List, [], _∷_}
 use Rattle.editions.specs.declared.Settings.{Settings}
 use Rattle.editions.specs.declared.Edition.{Edition}
-use Rattle.editions.specs.Store.{settingsRight, make, retire, read, refused, made, retired, has, free, holds, look, without, room, kept, makeIn, retireIn, readIn, answers}
+use Rattle.editions.specs.Calls.{settingsRight, make, retire, read, refused, made, retired, has}
+use Rattle.editions.specs.Store.{free, holds, look, without, room, kept, makeIn, retireIn, readIn, answers}
 use Rattle.editions.specs.History.{Event, was-made, greatestUsed, butNot, live, find, makeAfter, after, plain}
 
 abbrev both : Settings

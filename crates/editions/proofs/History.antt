@@ -12,7 +12,8 @@ use lib.ListN.{length}
 use Rattle.editions.specs.declared.Settings.{Settings}
 use Rattle.editions.specs.declared.Edition.{Edition}
 use Rattle.editions.specs.declared.Store.{Store}
-use Rattle.editions.specs.Store.{settingsRight, places, numberMost, look, room, kept, without, Call, make, retire, read, Result, makeIn, retireIn, readIn, call, empty, answers}
+use Rattle.editions.specs.Calls.{settingsRight, liveMost, numberMost, Call, make, retire, read, Result}
+use Rattle.editions.specs.Store.{look, room, kept, without, makeIn, retireIn, readIn, call, empty, answers}
 use Rattle.editions.specs.History.{Event, was-made, was-retired, greatestUsed, live, find, makeAfter, after, plain}
 use Rattle.editions.specs.Laws.{AsHistory}
 use Rattle.editions.proofs.Orders.{perm-length, Apart, num, apart-perm, find-perm, but-perm, but-mem, but-apart}
@@ -21,7 +22,7 @@ use Rattle.editions.proofs.Places.{taken, Sound, look-taken, room-is, k
 -- No place is damaged, the taken ones are the live editions in some order, no two of these have one number, and none is above the greatest.
 record Same (st : Store) (h : List Event) : Type 0 where
   pub greatest-is : st .greatest ≡ greatestUsed h
-  pub size : length (st .slots) ≡ places
+  pub size : length (st .slots) ≡ liveMost
   pub sound : Sound (st .slots)
   pub order : List·Permᴰ (taken (st .slots)) (live h)
   pub apart : Apart (live h)
@@ -34,7 +35,7 @@ in-taken st h r e = find-perm e (r .order) (apart-perm (Permᴰ·symm (r .order)
 looks : (st : Store) (h : List Event) → Same st h → (e : ℕ) → look e (st .slots) ≡ find e (live h)
 looks st h r e = look-taken e (st .slots) (r .sound) ∙ in-taken st h r e
 
-rooms : (st : Store) (h : List Event) → Same st h → room (st .slots) ≡ ltb (length (live h)) places
+rooms : (st : Store) (h : List Event) → Same st h → room (st .slots) ≡ ltb (length (live h)) liveMost
 rooms st h r = room-is (st .slots) ∙ rw (perm-length (r .order), r .size)
 
 -- the new number is the greatest
@@ -116,4 +117,4 @@ pub as-history : AsHistory
 unfolding live greatestUsed empty
 as-history cs =
     all-alike cs empty []
-    (record { greatest-is = refl; size = refl; sound = none-damaged places; order = rw (none-taken places) List·Permᴰ·nil; apart = tt; low = λ x m. absurd (List·Memᴰ·not-nil m) })
+    (record { greatest-is = refl; size = refl; sound = none-damaged liveMost; order = rw (none-taken liveMost) List·Permᴰ·nil; apart = tt; low = λ x m. absurd (List·Memᴰ·not-nil m) })

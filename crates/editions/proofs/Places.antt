@@ -10,7 +10,8 @@ use borrow.Author.Tests.{eq-eqb, ne-eqb, lt-ltb, le-leb}
 use lib.Dec.{eqb, ltb, leb, leb·suc-suc}
 use lib.ListN.{length, replicate}
 use Rattle.editions.specs.declared.Edition.{Edition}
-use Rattle.editions.specs.Store.{settingsRight, numberMost, free, holds, look, without, room, kept}
+use Rattle.editions.specs.Calls.{settingsRight, numberMost}
+use Rattle.editions.specs.Store.{free, holds, look, without, room, kept}
 use Rattle.editions.specs.History.{butNot, find}
 
 abbrev pub taken : List Edition → List Edition

@@ -7,9 +7,10 @@ use lib.Dec.{eqb, leb, ltb}
 use lib.ListN.{length}
 use Rattle.editions.specs.declared.Settings.{Settings}
 use Rattle.editions.specs.declared.Edition.{Edition}
-use Rattle.editions.specs.Store.{settingsRight, places, numberMost, Result, need, found}
-use Rattle.editions.specs.Store.{Call, make, retire, read, Reply, made, retired, has}
+use Rattle.editions.specs.Calls.{settingsRight, liveMost, numberMost, Result, need, found}
+use Rattle.editions.specs.Calls.{Call, make, retire, read, Reply, made, retired, has}
 
+-- an edition was made, or the one with that number was retired
 pub data Event : Type 0 where
   was-made : Edition → Event
   was-retired : ℕ → Event
@@ -23,6 +24,7 @@ greatestUsed [] = 0
 greatestUsed (was-made x ∷ h) = greater (x .number) (greatestUsed h)
 greatestUsed (was-retired e ∷ h) = greatestUsed h
 
+-- all but those with that number
 unfoldable pub butNot : ℕ → List Edition → List Edition
 butNot e [] = []
 butNot e (x ∷ xs) = cond (eqb (x .number) e) (butNot e xs) (x ∷ butNot e xs)
@@ -33,6 +35,7 @@ live [] = []
 live (was-made x ∷ h) = x ∷ live h
 live (was-retired e ∷ h) = butNot e (live h)
 
+-- the settings of the edition with that number, if it is among these
 unfoldable pub find : ℕ → List Edition → Option Settings
 find e [] = none
 find e (x ∷ xs) = cond (eqb (x .number) e) (some (x .settings)) (find e xs)
@@ -41,7 +44,7 @@ find e (x ∷ xs) = cond (eqb (x .number) e) (some (x .settings)) (find e xs)
 unfoldable pub makeAfter : List Event → Settings → Result (List Event)
 makeAfter h s =
     need (settingsRight s) 51 h
-    (need (ltb (greatestUsed h) numberMost) 32 h (need (ltb (length (live h)) places) 30 h
+    (need (ltb (greatestUsed h) numberMost) 32 h (need (ltb (length (live h)) liveMost) 30 h
     (record { reply = made (greatestUsed h + 1); left = was-made (record { number = greatestUsed h + 1; settings = s }) ∷ h })))
 
 -- 31 where it was never made, or was retired

@@ -1,7 +1,5 @@
--- The store of editions, document 02, request 9: the greatest number ever used and 64 places. A place whose number is 0 is free.
--- To believe: what a call on a store answers and leaves (here), what it answers after a plain history (History), and that any calls from
--- an empty store answer alike (Laws).
-use Prim.Native.Nat.{ℕ, _+_, _-_, _^_}
+-- The store of editions: the greatest number ever used and 64 places. A place whose number is 0 is free.
+use Prim.Native.Nat.{ℕ, _+_}
 use mathlib.Core.Bool.{Bool, false, cond, _&&_, _||_}
 use mathlib.Core.Option.{Option, none, some}
 use mathlib.Core.List.{List, [], _∷_}
@@ -13,50 +11,8 @@ use Rattle.editions.specs.declared.Store.{Store}
 use Rattle.editions.specs.declared.Made.{Made}
 use Rattle.editions.specs.declared.Retired.{Retired}
 use Rattle.editions.specs.declared.Read.{Read}
-
-abbrev pub places : ℕ
-places = 64
-
-abbrev pub numberMost : ℕ
-numberMost = 2 ^ 32 - 1
-
--- else 51: a count from 1 to 256, a known machine, of each version whether it is allowed (0 or 1), and one of them is
-unfoldable pub settingsRight : Settings → Bool
-settingsRight s =
-    leb 1 (s .most) && leb (s .most) 256 && leb (s .machine) 1
-    && leb (s .version1) 1 && leb (s .version3) 1 && leb 1 (s .version1 + s .version3)
-
--- Calls and answers.
-
-pub data Call : Type 0 where
-  make : Settings → Call
-  retire : ℕ → Call
-  read : ℕ → Call
-
-pub data Reply : Type 0 where
-  refused : ℕ → Reply
-  made : ℕ → Reply
-  retired : Reply
-  has : Settings → Reply
-
--- an answer, and what is left: a store, or a history
-pub record Result (S : Type 0) : Type 0 where
-  pub reply : Reply
-  pub left : S
-
--- a refused call leaves all as it was
-abbrev pub refuse : {S : Type 0} → ℕ → S → Result S
-refuse n st = record { reply = refused n; left = st }
-
-abbrev pub need : {S : Type 0} → Bool → ℕ → S → Result S → Result S
-need t n st r = cond t r (refuse n st)
-
--- 31 where no edition was found
-abbrev pub found : {S : Type 0} → Option Settings → S → (Settings → Result S) → Result S
-found none st r = refuse 31 st
-found (some s) st r = r s
-
--- The places.
+use Rattle.editions.specs.Calls.{liveMost, numberMost, settingsRight, Result, need, found}
+use Rattle.editions.specs.Calls.{Call, make, retire, read, Reply, refused, made, retired, has}
 
 abbrev pub nothing : Settings
 nothing = record { most = 0; machine = 0; version1 = 0; version3 = 0 }
@@ -113,7 +69,7 @@ call st (retire e) = retireIn st e
 call st (read e) = readIn st e
 
 unfoldable pub empty : Store
-empty = record { greatest = 0; slots = replicate places free }
+empty = record { greatest = 0; slots = replicate liveMost free }
 
 -- the answers to calls, each on the store that the last one left
 unfoldable pub answers : Store → List Call → List Reply

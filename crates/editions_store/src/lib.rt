@@ -1,7 +1,8 @@
 // Settings by edition, document 02, request 9: a store is handed in and comes back by value, and every content of it gets an answer.
 ghost use mathlib.Core.Path.{_≡_};
 ghost use lib.ListN.{length};
-ghost use Rattle.editions.specs.Store.{settingsRight, nothing, free, holds, without, empty};
+ghost use Rattle.editions.specs.Calls.{settingsRight};
+ghost use Rattle.editions.specs.Store.{nothing, free, holds, without, empty};
 ghost use Rattle.editions.specs.Store.{makeIn, retireIn, readIn, madeAnswer, retiredAnswer, readAnswer};
 ghost use Rattle.editions_store.specs.Places.{isFree, first, clear};
 use editions::Edition;

@@ -1,6 +1,7 @@
 use native.Mathlib.Omega.{arith}
 use borrow.Author.Tests.{lt-leb, le-leb, eq-eqb, ne-eqb}
-use Rattle.editions.specs.Store.{holds, numberMost}
+use Rattle.editions.specs.Calls.{numberMost}
+use Rattle.editions.specs.Store.{holds}
 use borrow.Author.Needs.{needs}
 use Rattle.editions_store.proofs.holds.Statement.{statement}
 use Rattle.editions_store.proofs.holds.Tie as tie

@@ -1,7 +1,8 @@
 use Prim.Native.Nat.{_+_}
 use native.Mathlib.Omega.{arith}
 use borrow.Author.Tests.{not-true, not-false, lt-ltb, le-ltb}
-use Rattle.editions.specs.Store.{numberMost, makeIn}
+use Rattle.editions.specs.Calls.{numberMost}
+use Rattle.editions.specs.Store.{makeIn}
 use Rattle.editions_store.proofs.Places.{has-room, no-room, kept-first}
 use borrow.Author.Needs.{needs}
 use Rattle.editions_store.proofs.make.Statement.{statement}

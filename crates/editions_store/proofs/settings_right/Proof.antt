@@ -1,6 +1,6 @@
 use native.Mathlib.Omega.{arith}
 use borrow.Author.Tests.{lt-leb, le-leb}
-use Rattle.editions.specs.Store.{settingsRight}
+use Rattle.editions.specs.Calls.{settingsRight}
 use borrow.Author.Needs.{needs}
 use Rattle.editions_store.proofs.settings_right.Statement.{statement}
 use Rattle.editions_store.proofs.settings_right.Tie as tie
