@@ -1,0 +1,4 @@
+pub mod Calls
+pub mod Store
+pub mod History
+pub mod Laws
