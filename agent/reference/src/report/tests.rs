@@ -91,7 +91,10 @@ fn every_kind_is_counted_in_its_own_place() {
     let kinds = [1u8, 2, 2, 3, 3, 3, 4, 4, 4, 4, 5, 5, 5, 5, 5];
     let locations: Vec<_> = kinds.map(|kind| location(kind, 8, 7, 1)).into();
     let plain = record(0, locations.clone(), vec![]);
-    assert_eq!(of_records(&[plain.clone()]), (1, 0, 0, [1, 2, 3, 4, 5]));
+    assert_eq!(
+        of_records(std::slice::from_ref(&plain)),
+        (1, 0, 0, [1, 2, 3, 4, 5])
+    );
     let with_live_outs = record(4, locations.clone(), vec![live_out(7, 8); 3]);
     let mut deopt = vec![small(0), small(0), small(15)];
     deopt.extend(locations);
