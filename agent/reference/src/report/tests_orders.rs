@@ -143,6 +143,11 @@ fn the_position_and_the_totals_before_34_depend_on_the_order() {
     assert_eq!(positions, [1, 1, 2, 2, 2, 2]);
 }
 
+/// The totals that a list of sections leaves.
+fn totals_of(before: Totals, sections: &[Vec<u8>]) -> Totals {
+    report(before, sections.iter().map(Vec::as_slice)).totals
+}
+
 /// The totals of two parts, added, are those of the whole, wherever it is
 /// parted; and a report that goes on from the first part's is too.
 #[test]
@@ -152,12 +157,12 @@ fn parts_add_up_to_the_whole() {
     let mut parts = 0;
     for _ in 0..500 {
         let sections = sections(&mut random);
-        let of = |before, part: &[Vec<u8>]| report(before, part.iter().map(Vec::as_slice)).totals;
-        let whole = of(none, &sections);
+        let whole = totals_of(none, &sections);
         for at in 0..=sections.len() {
             let (first, last) = sections.split_at(at);
-            assert_eq!(of(none, first).and(of(none, last)), Some(whole));
-            assert_eq!(of(of(none, first), last), whole);
+            let half = totals_of(none, first);
+            assert_eq!(half.and(totals_of(none, last)), Some(whole));
+            assert_eq!(totals_of(half, last), whole);
             parts += 1;
         }
     }
