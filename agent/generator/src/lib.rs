@@ -1,5 +1,6 @@
 //! Random stack map sections, listings and address indexes for tests and benchmarks, of versions 1 and
-//! 3, and flat sections: whole ones, and damaged ones. Also sequences of calls on a store of editions.
+//! 3, and flat sections: whole ones, and damaged ones. Also sequences of calls on a store of editions, and
+//! reports over lists of sections.
 //!
 //! Everything is made from a seed, so that a run can be had again. The encoder is this package's
 //! own: where it says what a section must be answered, that is one more opinion beside those of
@@ -19,6 +20,7 @@ pub mod layout;
 pub mod listings;
 pub mod older;
 pub mod questions;
+pub mod reports;
 pub mod rng;
 pub mod valid;
 

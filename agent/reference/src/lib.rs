@@ -6,7 +6,7 @@
 //! and back, relocates the pointers of one stopped frame or of a whole thread,
 //! and holds what the small program writes. It also reads and looks up the flat proposal's sections, which have
 //! a layout of their own ([`flat`]), and keeps settings by edition ([`editions`], and [`history`] for
-//! the same calls answered from a list of events).
+//! the same calls answered from a list of events). [`report`] adds up what many sections hold.
 //!
 //! Every function answers every input: with a result, or with a [`Refusal`]
 //! that has a fixed number and place. A refused call changes no byte of what
@@ -24,6 +24,7 @@ pub mod listing;
 pub mod program;
 pub mod questions;
 pub mod relocate;
+pub mod report;
 pub mod section;
 pub mod thread;
 
@@ -44,10 +45,10 @@ pub use thread::{thread, thread_by_index};
 #[derive(Clone, Copy, Debug, PartialEq, Eq)]
 pub struct Refusal {
     /// The refusal's number, 1 to 29; of a call on editions 30 to 32 or 51; of
-    /// a flat section 36 to 41.
+    /// a report 34; of a flat section 36 to 41.
     pub number: u64,
-    /// The refusal's place: a byte, a pair, a frame's position in a list, or 0
-    /// where its line has none.
+    /// The refusal's place: a byte, a pair, a frame's or a section's position
+    /// in a list, or 0 where its line has none.
     pub place: u64,
 }
 

@@ -24,7 +24,8 @@ pub fn run(input: &[u8]) -> Vec<u8> {
     }
 }
 
-fn line(refusal: Refusal) -> Vec<u8> {
+/// The line that names a refusal.
+pub(crate) fn line(refusal: Refusal) -> Vec<u8> {
     format!("refused {} at {}\n", refusal.number, refusal.place).into_bytes()
 }
 

@@ -33,7 +33,7 @@ pub const MAX_IMAGE: usize = 1_048_576;
 pub const MAX_MOVES: usize = 65_536;
 
 /// The stack size that means not known.
-const UNKNOWN: u64 = u64::MAX;
+pub(crate) const UNKNOWN: u64 = u64::MAX;
 
 /// A stopped frame: where it stands and what its two registers hold.
 #[derive(Clone, Copy, Debug, PartialEq, Eq)]
@@ -185,7 +185,7 @@ fn only_record(section: &Section, is: impl Fn(&Record) -> bool) -> Result<&Recor
 }
 
 /// The pairs of a statepoint, base first; none if the record isn't one.
-fn statepoint_pairs(record: &Record) -> Option<&[[Location; 2]]> {
+pub(crate) fn statepoint_pairs(record: &Record) -> Option<&[[Location; 2]]> {
     let (constants, rest) = record.locations.split_first_chunk::<3>()?;
     if !constants.iter().all(|location| location.kind == 4) || !record.live_outs.is_empty() {
         return None;
