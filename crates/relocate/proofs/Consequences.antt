@@ -25,7 +25,7 @@ use Rattle.relocate.specs.declared.Frame.{Frame}
 use Rattle.relocate.specs.Restore.{Restore}
 use Rattle.relocate.specs.Statepoint.{pairs, pointersOf}
 use Rattle.relocate.specs.Plan.{plan, stackSize}
-use Rattle.relocate.specs.Relocation.{answer, moved, OneRecord, ListedPair, newContentAt}
+use Rattle.relocate.specs.Relocation.{answer, moved, OneRecord, ListedPointer, newContentAt}
 use Rattle.relocate.specs.Consequences.{Untouched, Counts, KeepsDistance, AgreeOnSlots, OnlySlotsCount}
 use Rattle.relocate.proofs.Planned.{Planned, planned, window-pair, window-lists, from-slots, one-address}
 use Rattle.relocate.proofs.Demand.{demand3, accepts, plan-refused, accepted-section}
@@ -72,7 +72,7 @@ counts =
 
 -- the new content of a derived slot, as a number in the new image
 new-word : (R : Restore) (im : List ℕ) (f : Frame) → answer R im f .number ≡ 0
-    → (b d : ℕ) → ListedPair (R .section) f b d → R .first ≤ d → word 8 (moved R im f) (d - R .first) ≡ newContentAt R im b d
+    → (b d : ℕ) → ListedPointer (R .section) f b d → R .first ≤ d → word 8 (moved R im f) (d - R .first) ≡ newContentAt R im b d
 unfolding newContent newDerived
 new-word R im f a b d l low =
     let h = demand3 R im (f ∷ []) ((λ g m. absurd (List·Memᴰ·not-nil m)), tt) in
@@ -84,7 +84,7 @@ new-word R im f a b d l low =
 
 -- the slots of an accepted frame stand in the image
 slots-low : (R : Restore) (im : List ℕ) (f : Frame) → answer R im f .number ≡ 0
-    → (b d : ℕ) → ListedPair (R .section) f b d → (R .first ≤ b) × (R .first ≤ d)
+    → (b d : ℕ) → ListedPointer (R .section) f b d → (R .first ≤ b) × (R .first ≤ d)
 slots-low R im f h b d l =
     let k = accepted-section R im f h in
     let a = accepts R (length (R .section)) k im f h in
@@ -138,7 +138,7 @@ module _ (R : Restore) (im im′ : List ℕ) (f : Frame) (g : AgreeOnSlots R f i
       go (Valid e) k = plan-agrees e k P refl
       go (Refused n p) k = rw (plan-refused R (length im) f n p k)
 
-  same-content : answer R im f .number ≡ 0 → (b d : ℕ) → ListedPair (R .section) f b d
+  same-content : answer R im f .number ≡ 0 → (b d : ℕ) → ListedPointer (R .section) f b d
       → newContentAt R im b d ≡ newContentAt R im′ b d
   unfolding newContent
   same-content a b d l =

@@ -26,7 +26,7 @@ use Rattle.questions.specs.Questions.{ask}
 use Rattle.relocate.specs.Restore.{Restore}
 use Rattle.relocate.specs.Statepoint.{isStatepoint, Pair, pairs, isNull, isSlot, rightForm, slotAddress, slotInside, slotAt, inside, pointersOf}
 use Rattle.relocate.specs.Plan.{recordsOf, only, every, stackSize, imageRight, extentRight, planPairs, planRecord, plan}
-use Rattle.relocate.specs.Relocation.{ListedPair}
+use Rattle.relocate.specs.Relocation.{ListedPointer}
 
 -- the refusal numbers of a plan are above 0
 abbrev pub Above : Plan → Type 0
@@ -213,7 +213,7 @@ module _ (R : Restore) (n : ℕ) (f : Frame) where
 
   -- and is listed
   pub window-lists : (e : ℕ) → sectionCheck (R .section) ≡ Valid e → (off size : ℕ) (ws : List (List Pointer)) (q : Planned off size ws)
-      → (b d : ℕ) → List·Memᴰ (slots b d) (flatten ws) → ListedPair (R .section) f (f .sp + b) (f .sp + d)
+      → (b d : ℕ) → List·Memᴰ (slots b d) (flatten ws) → ListedPointer (R .section) f (f .sp + b) (f .sp + d)
   window-lists e k off size ws q b d m =
       let v = window-pair e k off size ws q b d m in
       let t = form-slots (f .machine) (isOld (R .section)) pool (v .0) (q .forms (v .0) (v .1)) (v .2 .not-null) in

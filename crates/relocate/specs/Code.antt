@@ -4,7 +4,7 @@ use Prim.Native.Nat.{ℕ, _+_, _*_, _-_, _≤_, _<_}
 use mathlib.Core.Path.{_≡_}
 use mathlib.Core.Bool.{Bool, cond, _&&_, _||_}
 use mathlib.Core.Option.{Option, none, some}
-use mathlib.Core.List.{List}
+use mathlib.Core.List.{List, map}
 use lib.Dec.{eqb, leb}
 use lib.ListN.{length, getD, drop}
 use Rattle.stackmap.specs.Layout.{kindConstIndex}
@@ -12,8 +12,9 @@ use Rattle.stackmap.specs.Section.{Location, Record, Entry, isOld, recordsAt, n
 use Rattle.questions.specs.declared.LocationAnswer.{LocationAnswer}
 use Rattle.moves.specs.declared.Move.{Move}
 use Rattle.moves.specs.Limits.{pointerSize}
-use Rattle.moves.specs.Pointers.{Pointer, null, slots, orZero}
+use Rattle.moves.specs.Pointers.{Pointer, orZero}
 use Rattle.relocate.specs.declared.Frame.{Frame}
+use Rattle.relocate.specs.declared.Machine.{Machine}
 use Rattle.relocate.specs.declared.Spot.{Spot}
 use Rattle.relocate.specs.declared.Spot.the-variants.{At, Outside}
 use Rattle.moves.specs.Plan.{Plan}
@@ -21,7 +22,7 @@ use Rattle.relocate.specs.Limits.{kindConstant}
 use Rattle.relocate.specs.Restore.{Restore}
 use Rattle.relocate.specs.Plan.{stackSize, planRecord}
 use Rattle.relocate.specs.Relocation.{answer, moved}
-use Rattle.relocate.specs.Statepoint.{locationAt, pairsAt, Pair, pairs, isNull, plusOffset, wholly, slotAt, slotInside}
+use Rattle.relocate.specs.Statepoint.{locationAt, pairsAt, Pair, pairs, isSlot, sameSize, plusOffset, wholly, slotAt, slotsInside, pointersOf}
 use Rattle.stackmap.specs.Section.{asOffset}
 
 -- The record at a place of the section, and the section's constants.
@@ -74,22 +75,29 @@ abbrev pub spotOf : Spot → Option ℕ
 spotOf (At p) = some p
 spotOf Outside = none
 
-unfoldable pub slotIn : Frame → ℕ → Location → Option ℕ
-slotIn f n l = cond (slotInside f n l) (some (slotAt f l)) none
+unfoldable pub slotIn : Bool → Frame → ℕ → Location → Option ℕ
+slotIn old f n l = cond (slotsInside old f n l) (some (slotAt f l)) none
 
--- the same by numbers: the register, the stack pointer and the offset's 32 bits
-unfoldable pub positionIn : ℕ → ℕ → ℕ → ℕ → Option ℕ
-positionIn register sp offset n =
+-- the same by numbers: the register, the stack pointer, the offset's 32 bits, the slots
+unfoldable pub positionIn : ℕ → ℕ → ℕ → ℕ → ℕ → Option ℕ
+positionIn register sp offset k n =
     let a = plusOffset register (asOffset offset) in
-    cond (wholly sp n a) (some (orZero a - sp)) none
+    cond (wholly sp n k a) (some (orZero a - sp)) none
 
-unfoldable pub placeIn : ℕ → ℕ → Option ℕ
-placeIn p n = cond (leb (p + pointerSize) n) (some p) none
+unfoldable pub placeIn : ℕ → ℕ → ℕ → Option ℕ
+placeIn p k n = cond (leb (p + pointerSize * k) n) (some p) none
 
--- the one pointer of a pair
-unfoldable pub pointerOf : List ℕ → Frame → Pair → Pointer
-pointerOf pool f p = cond (isNull pool p) null (slots (slotAt f (p .base)) (slotAt f (p .derived)))
+-- what the two locations of a pair say, as the reader answers them
+abbrev pub pairSaid : LocationAnswer → LocationAnswer → Pair
+pairSaid b d = record { base = locationOf b; derived = locationOf d }
 
--- live is 0 exactly at the null pairs, of the first n
-pub record Lives (pool : List ℕ) (r : Record) (live : List ℕ) (n : ℕ) : Type 0 where
-  pub at : (k : ℕ) → k < n → eqb (getD live k 0) 0 ≡ isNull pool (pairNumber r k)
+unfoldable pub nullSaid : LocationAnswer → LocationAnswer → Bool
+nullSaid b d = zeroSaid b && zeroSaid d
+
+unfoldable pub formSaid : Machine → Bool → LocationAnswer → LocationAnswer → Bool
+formSaid m old b d =
+    nullSaid b d || (isSlot m old (locationOf b) && (isSlot m old (locationOf d) && sameSize old (pairSaid b d)))
+
+-- the pointers of a record's pairs, pair by pair
+abbrev pub pointersBy : List ℕ → Frame → Record → List (List Pointer)
+pointersBy s f r = map (pointersOf (isOld s) (poolOf s) f) (pairs r)
