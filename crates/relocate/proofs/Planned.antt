@@ -91,7 +91,7 @@ module _ {off size : ℕ} {ws : List (List Pointer)} where
 
 -- The slots of a pair that is not null, and inside.
 
-slot-inside : (old : Bool) (f : Frame) (n : ℕ) (l : Location) → slotsInside old f n l ≡ true
+pub slot-inside : (old : Bool) (f : Frame) (n : ℕ) (l : Location) → slotsInside old f n l ≡ true
     → (slotAddress f l ≡ some (f .sp + slotAt f l)) × (slotAt f l + 8 * pointersIn old (l .size) ≤ n)
 unfolding slotsInside slotAt
 slot-inside old f n l h = go (slotAddress f l) refl
@@ -109,7 +109,7 @@ slot-inside old f n l h = go (slotAddress f l) refl
         rw e (ap some (omega arith), omega arith)
 
 -- both locations of a pair of the right form hold as many pointers
-same-count : (old : Bool) (p : Pair) → sameSize old p ≡ true → pointersIn old (p .derived .size) ≡ pointersIn old (p .base .size)
+pub same-count : (old : Bool) (p : Pair) → sameSize old p ≡ true → pointersIn old (p .derived .size) ≡ pointersIn old (p .base .size)
 unfolding sameSize pointersIn
 same-count true p h = refl
 same-count false p h = let e : p .base .size ≡ p .derived .size = eqb-true _ _ h in rw e

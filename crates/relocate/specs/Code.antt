@@ -1,28 +1,28 @@
 -- For the code alone: nothing here has to be believed.
 -- What the code's steps rely on, and what their values mean.
-use Prim.Native.Nat.{ℕ, _+_, _*_, _-_, _≤_, _<_}
+use Prim.Native.Nat.{ℕ, zero, suc, _+_, _*_, _-_, _≤_, _<_}
 use mathlib.Core.Path.{_≡_}
 use mathlib.Core.Bool.{Bool, cond, _&&_, _||_}
 use mathlib.Core.Option.{Option, none, some}
-use mathlib.Core.List.{List, map}
+use mathlib.Core.List.{List, [], _∷_, map}
 use lib.Dec.{eqb, leb}
 use lib.ListN.{length, getD, drop}
 use Rattle.stackmap.specs.Layout.{kindConstIndex}
 use Rattle.stackmap.specs.Section.{Location, Record, Entry, isOld, recordsAt, numLocations, recordLength, readRecord, readSection}
 use Rattle.questions.specs.declared.LocationAnswer.{LocationAnswer}
 use Rattle.moves.specs.declared.Move.{Move}
-use Rattle.moves.specs.Limits.{pointerSize}
-use Rattle.moves.specs.Pointers.{Pointer, orZero}
+use Rattle.moves.specs.Limits.{pointerSize, pairsMost}
+use Rattle.moves.specs.Pointers.{Pointer, null, orZero}
 use Rattle.relocate.specs.declared.Frame.{Frame}
 use Rattle.relocate.specs.declared.Machine.{Machine}
 use Rattle.relocate.specs.declared.Spot.{Spot}
 use Rattle.relocate.specs.declared.Spot.the-variants.{At, Outside}
 use Rattle.moves.specs.Plan.{Plan}
-use Rattle.relocate.specs.Limits.{kindConstant}
+use Rattle.relocate.specs.Limits.{imageMost, kindConstant}
 use Rattle.relocate.specs.Restore.{Restore}
 use Rattle.relocate.specs.Plan.{stackSize, planRecord}
 use Rattle.relocate.specs.Relocation.{answer, moved}
-use Rattle.relocate.specs.Statepoint.{locationAt, pairsAt, Pair, pairs, isSlot, sameSize, plusOffset, wholly, slotAt, slotsInside, pointersOf}
+use Rattle.relocate.specs.Statepoint.{locationAt, pairsAt, Pair, pairs, isNull, pointersIn, isSlot, sameSize, plusOffset, wholly, slotAt, slotsInside, pointersFrom, pointersOf}
 use Rattle.stackmap.specs.Section.{asOffset}
 
 -- The record at a place of the section, and the section's constants.
@@ -99,5 +99,30 @@ formSaid m old b d =
     nullSaid b d || (isSlot m old (locationOf b) && (isSlot m old (locationOf d) && sameSize old (pairSaid b d)))
 
 -- the pointers of a record's pairs, pair by pair
-abbrev pub pointersBy : List ℕ → Frame → Record → List (List Pointer)
-pointersBy s f r = map (pointersOf (isOld s) (poolOf s) f) (pairs r)
+abbrev pub pointersBy : Bool → List ℕ → Frame → Record → List (List Pointer)
+pointersBy old pool f r = map (pointersOf old pool f) (pairs r)
+
+-- how many pointers a pair is, and all pairs are
+unfoldable pub countOf : Bool → List ℕ → Pair → ℕ
+countOf old pool p = cond (isNull pool p) 1 (pointersIn old (p .base .size))
+
+abbrev pub totalOf : (Pair → ℕ) → List Pair → ℕ
+totalOf g [] = 0
+totalOf g (p ∷ ps) = g p + totalOf g ps
+
+-- the arrays that a move takes have room for all pointers that it may have
+pub record Room (live bases derived : List ℕ) : Type 0 where
+  pub live-room : length live ≡ pairsMost
+  pub bases-room : length bases ≡ pairsMost
+  pub derived-room : length derived ≡ pairsMost
+
+-- a pair as so many pointers from two slots on; none is the null pointer
+abbrev pub runOf : ℕ → ℕ → ℕ → List Pointer
+runOf zero b d = null ∷ []
+runOf (suc k) b d = pointersFrom (suc k) b d
+
+-- so it is, and its slots are in an image
+pub record Looked (old : Bool) (pool : List ℕ) (f : Frame) (p : Pair) (k b d : ℕ) : Type 0 where
+  pub pointers-are : runOf k b d ≡ pointersOf old pool f p
+  pub base-fits : b + pointerSize * k ≤ imageMost
+  pub derived-fits : d + pointerSize * k ≤ imageMost
