@@ -17,12 +17,12 @@ use Rattle.relocate.specs.declared.Frame.{Frame}
 use Rattle.relocate.specs.declared.Machine.{Machine}
 use Rattle.relocate.specs.declared.Spot.{Spot}
 use Rattle.relocate.specs.declared.Spot.the-variants.{At, Outside}
-use Rattle.moves.specs.Plan.{Plan}
+use Rattle.moves.specs.Plan.{Plan, window}
 use Rattle.relocate.specs.Limits.{imageMost, kindConstant}
 use Rattle.relocate.specs.Restore.{Restore}
-use Rattle.relocate.specs.Plan.{stackSize, planRecord}
+use Rattle.relocate.specs.Plan.{every, stackSize, planRecord}
 use Rattle.relocate.specs.Relocation.{answer, moved}
-use Rattle.relocate.specs.Statepoint.{locationAt, pairsAt, Pair, pairs, isNull, pointersIn, isSlot, sameSize, plusOffset, wholly, slotAt, slotsInside, pointersFrom, pointersOf}
+use Rattle.relocate.specs.Statepoint.{locationAt, pairsAt, Pair, pairs, isNull, pointersIn, isSlot, sameSize, plusOffset, wholly, slotAt, slotsInside, inside, pointersFrom, pointersOf}
 use Rattle.stackmap.specs.Section.{asOffset}
 
 -- The record at a place of the section, and the section's constants.
@@ -36,6 +36,13 @@ poolOf s = readSection s .constants
 -- the plan of a frame whose one entry is e
 abbrev pub planEntry : Restore → ℕ → Frame → Entry → Plan
 planEntry R n f e = planRecord R n f (stackSize e) (e .body)
+
+-- the plan of pairs that are right in form and not too many: 19, then the window
+unfoldable pub planSlots : Restore → Frame → ℕ → List Pair → Plan
+planSlots R f size ps =
+    let old = isOld (R .section) in
+    let pool = poolOf (R .section) in
+    every (inside old pool f size) 19 0 ps (window (f .sp - R .first) size (map (pointersOf old pool f) ps))
 
 -- an answer, and the image that is left, are those of a move
 pub record Relocates (R : Restore) (im : List ℕ) (f : Frame) (r : Move) (after : List ℕ) : Type 0 where
