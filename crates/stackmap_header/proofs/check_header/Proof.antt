@@ -3,8 +3,8 @@ use Rattle.stackmap.specs.Check.{headerCheck}
 use Rattle.stackmap.specs.Verdict.{must}
 use Rattle.stackmap.proofs.Tests.{tests}
 use borrow.Author.Needs.{needs}
-use Rattle.stackmap_tables.proofs.tables.check_header.Statement.{statement}
-use Rattle.stackmap_tables.proofs.tables.check_header.Tie as tie
+use Rattle.stackmap_header.proofs.check_header.Statement.{statement}
+use Rattle.stackmap_header.proofs.check_header.Tie as tie
 
 returns : tie.Need-returns
 unfolding headerCheck must

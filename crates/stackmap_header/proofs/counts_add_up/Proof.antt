@@ -6,8 +6,8 @@ use lib.ListN.{length}
 use Rattle.stackmap.specs.Fields.{many}
 use Rattle.stackmap.specs.Section.{readFunction, counted}
 use Rattle.stackmap.proofs.Steps.{Adding, add-over, add-on, add-end}
-use Rattle.stackmap_tables.proofs.tables.counts_add_up.Statement.{statement}
-use Rattle.stackmap_tables.proofs.tables.counts_add_up.Tie as tie
+use Rattle.stackmap_header.proofs.counts_add_up.Statement.{statement}
+use Rattle.stackmap_header.proofs.counts_add_up.Tie as tie
 
 abbrev Inv-loop : tie.InvT-loop
 Inv-loop s functions total f₀ left₀ rest₀ f left rest = (f + 24 * left ≤ length s) × Adding (readFunction false) 24 s (counted (many (readFunction false) 24 functions s 16)) total f left rest
