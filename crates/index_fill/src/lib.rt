@@ -31,13 +31,14 @@ fn refused(number: u8, place: usize) -> Written
 
 // The index: the rows in section order, sorted only if they are not in order already.
 fn put_index(s: &[u8], index: &mut [u64], records: usize)
-    requires { ⌜ Accepted (now s) × (isOld (now s) ≡ false) × (records ≡ numRecords (now s)) × (records < 4294967296) × (2 * records ≤ length (now index)) ⌝ }
+    requires { ⌜ Accepted (now s) × (isOld (now s) ≡ false) × (records ≡ numRecords (now s))
+        × (records < 4294967296) × (2 * records ≤ length (now index)) ⌝ }
     ensures { λ r. ⌜ now (index .exit) ≡ indexOf (now (s .entry)) ++ drop (2 * records) (now (index .entry)) ⌝ }
 {
     if index_rows::put_rows(s, index) {
         return;
     }
-    sorted_pairs::sort(index, records);
+    sorted_shell::sort(index, records);
 }
 
 // The index of a section in the lent list, and how many of its entries were written; or the section's refusal, 27 on version 1, 24 if the
