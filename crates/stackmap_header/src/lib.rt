@@ -11,7 +11,6 @@ ghost use Rattle.stackmap.specs.Section.{readFunction, counted};
 ghost use Rattle.stackmap.specs.Check.{versionRight, headerCheck};
 use stackmap::Verdict;
 use stackmap::layout;
-use stackmap_record::record;
 
 // The test of refusal 2.
 fn version_right(version: u8) -> bool
@@ -34,7 +33,7 @@ pub fn check_header(s: &[u8]) -> Verdict
         return Verdict::Refused(1, 0);
     }
     if version_right(s[0]) {
-        return record::zero_bytes(s, 1, 3);
+        return stackmap_parts::zero_bytes(s, 1, 3);
     }
     Verdict::Refused(2, 0)
 }

@@ -7,8 +7,8 @@ use Rattle.stackmap.specs.Layout.{locationSize}
 use Rattle.stackmap.specs.Record.{locations}
 use Rattle.stackmap.specs.Verdict.{chain}
 use Rattle.stackmap.proofs.Steps.{mul-step, locations-step}
-use Rattle.stackmap_record.proofs.record.each_location.Statement.{statement}
-use Rattle.stackmap_record.proofs.record.each_location.Tie as tie
+use Rattle.stackmap_parts.proofs.each_location.Statement.{statement}
+use Rattle.stackmap_parts.proofs.each_location.Tie as tie
 
 abbrev Inv-loop : tie.InvT-loop
 Inv-loop s old at count constants step p₀ left₀ p left = (p + locationSize old * left ≤ length s) × (locations old count s constants at ≡ locations old left s constants p)
@@ -43,7 +43,11 @@ enum-told : tie.Need-enum-told Inv-loop μ-loop
 enum-told c = search needs
 
 add-p : tie.Need-add-p Inv-loop μ-loop
-add-p c = let h = mul-step (locationSize (c .before .before .before .before .before .before .before .args .old)) (c .before .before .before .before .loop .left) (omega arith) in omega (arith, c .before .before .before .before .before .location-size .ensures .0)
+add-p c = let h = mul-step (locationSize (c .before .before .before .before .before .before .before .args .old))
+    (c .before .before .before .before .loop .left) (omega arith) in omega (
+      arith,
+      c .before .before .before .before .before .location-size .ensures .0,
+    )
 
 sub-left : tie.Need-sub-left Inv-loop μ-loop
 sub-left c = search needs

@@ -3,8 +3,8 @@ use native.Mathlib.Omega.{arith}
 use borrow.Author.Tests.{lt-leb, le-leb}
 use Rattle.stackmap.specs.Record.{addressRight}
 use borrow.Author.Needs.{needs}
-use Rattle.stackmap_record.proofs.record.address_right.Statement.{statement}
-use Rattle.stackmap_record.proofs.record.address_right.Tie as tie
+use Rattle.stackmap_parts.proofs.address_right.Statement.{statement}
+use Rattle.stackmap_parts.proofs.address_right.Tie as tie
 
 returns : tie.Need-returns
 unfolding addressRight

@@ -4,8 +4,8 @@ use Rattle.stackmap.specs.Verdict.{must}
 use Rattle.stackmap.proofs.Tests.{tests}
 use Rattle.stackmap.proofs.Steps.{location-least}
 use borrow.Author.Needs.{needs}
-use Rattle.stackmap_record.proofs.record.location.Statement.{statement}
-use Rattle.stackmap_record.proofs.record.location.Tie as tie
+use Rattle.stackmap_parts.proofs.location.Statement.{statement}
+use Rattle.stackmap_parts.proofs.location.Tie as tie
 
 shared-slice-read-kind : tie.Need-shared-slice-read-kind
 shared-slice-read-kind c = let h = location-least (c .before .before .args .old) in search needs

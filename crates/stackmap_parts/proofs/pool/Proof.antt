@@ -2,8 +2,8 @@ use Rattle.stackmap.specs.Record.{poolCheck}
 use Rattle.stackmap.specs.Verdict.{must, pick}
 use Rattle.stackmap.proofs.Tests.{tests}
 use borrow.Author.Needs.{needs}
-use Rattle.stackmap_record.proofs.record.pool.Statement.{statement}
-use Rattle.stackmap_record.proofs.record.pool.Tie as tie
+use Rattle.stackmap_parts.proofs.pool.Statement.{statement}
+use Rattle.stackmap_parts.proofs.pool.Tie as tie
 
 returns : tie.Need-returns
 unfolding poolCheck must pick
