@@ -3,12 +3,12 @@ use Prim.Native.Nat.{_-_, _≤_}
 use mathlib.Core.Path.{_≡_, refl}
 use native.Mathlib.Omega.{arith}
 use lib.ListN.{length}
-use Rattle.flat_find.specs.Keys.{Filled}
-use Rattle.flat_find.proofs.Filling.{fill-start, fill-on}
-use Rattle.flat_find.proofs.keys.fill.Statement.{statement}
-use Rattle.flat_find.proofs.keys.fill.Tie as tie
-use Rattle.flat_find.proofs.keys.fill.Reads as reads
-use Rattle.flat_find.proofs.keys.fill.Lts as lts
+use Rattle.flat_keys.specs.Keys.{Filled}
+use Rattle.flat_keys.proofs.Filling.{fill-start, fill-on}
+use Rattle.flat_keys.proofs.fill.Statement.{statement}
+use Rattle.flat_keys.proofs.fill.Tie as tie
+use Rattle.flat_keys.proofs.fill.Reads as reads
+use Rattle.flat_keys.proofs.fill.Lts as lts
 use Rattle.flat.proofs.offsets.offset.Reads as offset-reads
 use Rattle.wire.proofs.u32_at.Reads as u32-at-reads
 
@@ -72,8 +72,12 @@ loop-less c = search needs
 
 -- src/keys.rt:28:5
 loop-again : tie.Need-loop-again Inv-loop μ-loop
-loop-again c =
-    (search (needs, c .before .before .loop .inv .0), omega arith, fill-on _ _ _ _ _ (c .before .before .loop .inv .2) (omega (arith, c .before .before .loop .inv .0)) (c .before .before .before .offset .ensures .0) (c .u32-at .ensures) (omega arith))
+loop-again c = (
+  search (needs, c .before .before .loop .inv .0),
+  omega arith,
+  fill-on _ _ _ _ _ (c .before .before .loop .inv .2)
+      (omega (arith, c .before .before .loop .inv .0)) (c .before .before .before .offset .ensures .0) (c .u32-at .ensures) (omega arith),
+)
 
 -- src/keys.rt:22:1
 same-length : tie.Need-same-length Inv-loop μ-loop
