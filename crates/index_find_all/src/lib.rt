@@ -31,7 +31,8 @@ fn refused(number: u8, place: usize) -> Written
 // 24 if the list of answers is too short, else all answers.
 fn answered(s: &[u8], index: &[u64], addresses: &[u64], answers: &mut [u64]) -> Written
     requires { ⌜ Accepted (now s) × (isOld (now s) ≡ false) × (now index ≡ indexOf (now s)) ⌝ }
-    ensures { λ r. ⌜ Answers r (now (answers .exit)) (putNumbers (answersOf (entries (now (s .entry))) (now (addresses .entry))) (now (answers .entry))) ⌝ }
+    ensures { λ r. ⌜ Answers r (now (answers .exit))
+        (putNumbers (answersOf (entries (now (s .entry))) (now (addresses .entry))) (now (answers .entry))) ⌝ }
 {
     if answers.len() / 5 < addresses.len() {
         return refused(LIST_SHORT, 0);
@@ -48,7 +49,8 @@ fn answered(s: &[u8], index: &[u64], addresses: &[u64], answers: &mut [u64]) -> 
 // For each address five numbers: what the lookup through the index answers. 27 on version 1; 29 unless the list is the section's index; 24
 // if the list of answers is too short.
 pub fn find_all_by_index(s: &[u8], index: &[u64], addresses: &[u64], answers: &mut [u64]) -> Written
-    ensures { λ r. ⌜ Answers r (now (answers .exit)) (allByIndex (now (s .entry)) (now (index .entry)) (now (addresses .entry)) (now (answers .entry))) ⌝ }
+    ensures { λ r. ⌜ Answers r (now (answers .exit))
+        (allByIndex (now (s .entry)) (now (index .entry)) (now (addresses .entry)) (now (answers .entry))) ⌝ }
 {
     let checked = index_check::check(s, index, 0);
     let found = checked.found;

@@ -22,8 +22,8 @@ pub struct Looked {
     pub sharing: u64,
 }
 
-// How many pairs are not above the address, where `low` are below it. In most cases none or one has it, and the next two pairs tell so; else
-// by a second halving.
+// How many pairs are not above the address, where `low` are below it. In most cases none or one has it, and the next two pairs tell so;
+// else by a second halving.
 fn past(s: &[u8], index: &[u64], n: usize, address: u64, low: usize) -> usize
     requires { ⌜ Indexed (now s) (now index) n × LowerBy (rankAt (now index)) n (address * 18446744073709551616 + 0) low ⌝ }
     ensures { λ r. ⌜ LowerBy (rankAt (now (index .entry))) n (address * 18446744073709551616 + 18446744073709551615) r ⌝ }

@@ -46,7 +46,8 @@ fn first_record(s: &[u8]) -> usize
 
 // The address of the record at `at`, of function number `function`.
 fn address_at(s: &[u8], function: usize, at: usize) -> u64
-    requires { ⌜ (isOld (now s) ≡ false) × (constantsAt (now s) ≤ length (now s)) × (function < numFunctions (now s)) × (at + 16 ≤ length (now s)) × (address (entryAt (now s) 0 function at) < 2 ^ 64) ⌝ }
+    requires { ⌜ (isOld (now s) ≡ false) × (constantsAt (now s) ≤ length (now s)) × (function < numFunctions (now s))
+        × (at + 16 ≤ length (now s)) × (address (entryAt (now s) 0 function at) < 2 ^ 64) ⌝ }
     ensures { λ r. ⌜ r ≡ address (entryAt (now (s .entry)) 0 function at) ⌝ }
 {
     let start = walk::owner_address(s, false, function);
@@ -57,7 +58,8 @@ fn address_at(s: &[u8], function: usize, at: usize) -> u64
 // which needs no check.
 pub fn put_rows(s: &[u8], index: &mut [u64]) -> bool
     requires { ⌜ Accepted (now s) × (isOld (now s) ≡ false) × (2 * numRecords (now s) ≤ length (now index)) ⌝ }
-    ensures { λ r. ⌜ (now (index .exit) ≡ inPlace (now (s .entry)) (now (index .entry))) × (r ≡ true → Stepped (now (index .exit)) 1 (numRecords (now (s .entry)))) ⌝ }
+    ensures { λ r. ⌜ (now (index .exit) ≡ inPlace (now (s .entry)) (now (index .entry)))
+        × (r ≡ true → Stepped (now (index .exit)) 1 (numRecords (now (s .entry)))) ⌝ }
 {
     let mut remaining = wire::u32_at(s, layout::NUM_RECORDS_AT);
     let mut p = first_record(s);

@@ -24,19 +24,38 @@ extent-requires c κs = let q = c .before .before .before .before in (q .pre .0,
 
 shares-requires : tie.Need-shares-requires Inv-loop μ-loop
 shares-requires c κs =
-    let q = c .before .before .before .before .before .before .before in (c .before .before .before .before .loop .inv .in-order, omega (arith, c .before .before .before .before .loop .inv .fewer, c .before .before .before .before .loop .inv .most, q .pre .0 .most))
+    let q = c .before .before .before .before .before .before .before
+    in (
+      c .before .before .before .before .loop .inv .in-order,
+      omega (
+        arith,
+        c .before .before .before .before .loop .inv .fewer,
+        c .before .before .before .before .loop .inv .most,
+        q .pre .0 .most,
+      ),
+    )
 
 returns : tie.Need-returns Inv-loop μ-loop
 returns c =
     let q = c .before .before .before .before .before .before .before .before .before in
-    let a = q .args in
-    (omega (arith, c .before .before .before .before .before .before .loop .inv .most), keeping-stop (a .s .now) (a .frames .now) (a .count) (c .before .before .before .before .before .before .loop .inv) (c .before .before .before .before .before .loop-test .taken) (c .before .before .before .before .extent .result .start) (c .before .before .before .before .extent .result .end) (c .before .before .before .before .extent .ensures .0) (c .before .before .before .before .extent .ensures .1) (sym (c .before .shares .ensures) ∙ c .if1 .taken))
+    let a = q .args in (
+      omega (arith, c .before .before .before .before .before .before .loop .inv .most),
+      keeping-stop (a .s .now) (a .frames .now) (a .count)
+          (c .before .before .before .before .before .before .loop .inv) (c .before .before .before .before .before .loop-test .taken)
+          (c .before .before .before .before .extent .result .start) (c .before .before .before .before .extent .result .end)
+          (c .before .before .before .before .extent .ensures .0) (c .before .before .before .before .extent .ensures .1)
+          (sym (c .before .shares .ensures) ∙ c .if1 .taken),
+    )
 
 keep-requires : tie.Need-keep-requires Inv-loop μ-loop
 keep-requires c κs =
     let q = c .before .before .before .before .before .before .before .before .before .before .before .before in
-    let a = q .args in
-    (c .before .before .before .before .before .before .before .before .before .loop .inv .in-order, omega (arith, c .before .before .before .before .before .before .before .before .before .loop .inv .fewer, q .pre .0 .most), c .before .before .if2 .taken, sym (c .before .before .before .before .shares .ensures) ∙ c .before .before .before .if1 .left)
+    let a = q .args in (
+      c .before .before .before .before .before .before .before .before .before .loop .inv .in-order,
+      omega (arith, c .before .before .before .before .before .before .before .before .before .loop .inv .fewer, q .pre .0 .most),
+      c .before .before .if2 .taken,
+      sym (c .before .before .before .before .shares .ensures) ∙ c .before .before .before .if1 .left,
+    )
 
 add-kept : tie.Need-add-kept Inv-loop μ-loop
 add-kept c =
@@ -59,8 +78,16 @@ loop-again c =
     let a = q .args in
     let no = sym (c .before .before .shares .ensures) ∙ c .before .if1 .left in
     ⊎-elim
-    (λ w. rw (w .4, w .5, w .6) (keeping-kept (a .s .now) (a .frames .now) (a .count) (c .before .before .before .before .before .before .before .loop .inv) (c .before .before .before .before .before .before .loop-test .taken) (c .before .before .before .before .before .extent .result .start) (c .before .before .before .before .before .extent .result .end) (c .before .before .before .before .before .extent .ensures .0) (c .before .before .before .before .before .extent .ensures .1) _ _ no (w .3 .ensures .0) (w .3 .ensures .1)))
-    (λ w. rw (w .1, w .2, w .3) (keeping-empty (a .s .now) (a .frames .now) (a .count) (c .before .before .before .before .before .before .before .loop .inv) (c .before .before .before .before .before .before .loop-test .taken) (c .before .before .before .before .before .extent .result .start) (c .before .before .before .before .before .extent .result .end) (c .before .before .before .before .before .extent .ensures .0) (c .before .before .before .before .before .extent .ensures .1) no (w .0 .left)))
+    (λ w. rw (w .4, w .5, w .6) (keeping-kept (a .s .now) (a .frames .now) (a .count)
+    (c .before .before .before .before .before .before .before .loop .inv) (c .before .before .before .before .before .before .loop-test .taken)
+    (c .before .before .before .before .before .extent .result .start) (c .before .before .before .before .before .extent .result .end)
+    (c .before .before .before .before .before .extent .ensures .0) (c .before .before .before .before .before .extent .ensures .1) _ _ no
+    (w .3 .ensures .0) (w .3 .ensures .1)))
+    (λ w. rw (w .1, w .2, w .3) (keeping-empty (a .s .now) (a .frames .now) (a .count)
+    (c .before .before .before .before .before .before .before .loop .inv) (c .before .before .before .before .before .before .loop-test .taken)
+    (c .before .before .before .before .before .extent .result .start) (c .before .before .before .before .before .extent .result .end)
+    (c .before .before .before .before .before .extent .ensures .0) (c .before .before .before .before .before .extent .ensures .1) no
+    (w .0 .left)))
     (c .if2 .came)
 
 returns-2 : tie.Need-returns-2 Inv-loop μ-loop
