@@ -9,7 +9,7 @@ use lib.Dec.{ltb}
 use lib.ListN.{length, getD, drop}
 use Rattle.wire.specs.Word.{Bytes, word, bytes}
 use Rattle.wire.proofs.Laws.{word-reads}
-use Rattle.flat_check.specs.Check.{along, clear}
+use Rattle.flat.specs.Places.{along, clear}
 use Rattle.flat_check.proofs.Accept.{along-told}
 use Rattle.flat_data.specs.Data.{Frame, Register, Record, Location, LiveOut, readConstant, readFrame, readRegister, readRecord}
 use Rattle.flat_data.specs.Data.{readLocation, readLiveOut, many, constantBytes, frameBytes, registerBytes, recordBytes}

@@ -12,7 +12,8 @@ use Rattle.flat.specs.Places.{constantsAt, framesAt, registersAt, recordsAt, lo
 use Rattle.flat.specs.Places.{numRecords, numLocations, numLiveOuts}
 use Rattle.flat.proofs.Steps.{and-true}
 use Rattle.flat.proofs.Arrays.{Right, right-told, Arranged, arranged}
-use Rattle.flat_check.specs.Check.{clear, registersEnd, recordsEnd, reservedClear, Accepted}
+use Rattle.flat.specs.Places.{clear}
+use Rattle.flat_check.specs.Check.{registersEnd, recordsEnd, reservedClear, Accepted}
 use Rattle.flat_check.proofs.Chain.{Told, accepted-told}
 use Rattle.flat_data.specs.Data.{readConstant, readFrame, readRegister, readRecord, readLocation, readLiveOut, many, readSection}
 use Rattle.flat_data.specs.Data.{constantBytes, frameBytes, registerBytes, recordBytes, locationBytes, liveOutBytes, all, framesStart}

@@ -1,7 +1,7 @@
 use borrow.Author.Tests.{le-leb, lt-leb}
 use borrow.Author.Needs.{needs}
-use Rattle.flat_check.proofs.ranges.record_inside.Statement.{statement}
-use Rattle.flat_check.proofs.ranges.record_inside.Tie as tie
+use Rattle.flat_along.proofs.record_inside.Statement.{statement}
+use Rattle.flat_along.proofs.record_inside.Tie as tie
 
 add-range-end : tie.Need-add-range-end
 add-range-end c = search needs

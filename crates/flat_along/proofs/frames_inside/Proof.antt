@@ -5,9 +5,9 @@ use Prim.Native.Nat.{_+_, _*_, _-_}
 use mathlib.Core.Path.{sym}
 use Rattle.flat.specs.Steps.{Testing}
 use Rattle.flat.proofs.Steps.{test-start, test-on, test-stop, test-end}
-use Rattle.flat_check.specs.Check.{along, frameInside}
-use Rattle.flat_check.proofs.ranges.frames_inside.Statement.{statement}
-use Rattle.flat_check.proofs.ranges.frames_inside.Tie as tie
+use Rattle.flat.specs.Places.{along, frameInside}
+use Rattle.flat_along.proofs.frames_inside.Statement.{statement}
+use Rattle.flat_along.proofs.frames_inside.Tie as tie
 
 abbrev Inv-loop : tie.InvT-loop
 Inv-loop s frames n records i₀ i = Testing (λ k. frameInside s records (frames + 28 * k)) n i

@@ -5,9 +5,9 @@ use Prim.Native.Nat.{_+_, _*_, _-_}
 use mathlib.Core.Path.{sym, _∙_}
 use Rattle.flat.specs.Steps.{Testing}
 use Rattle.flat.proofs.Steps.{test-start, test-on, test-stop, test-end}
-use Rattle.flat_check.specs.Check.{along, recordInside}
-use Rattle.flat_check.proofs.ranges.records_inside.Statement.{statement}
-use Rattle.flat_check.proofs.ranges.records_inside.Tie as tie
+use Rattle.flat.specs.Places.{along, recordInside}
+use Rattle.flat_along.proofs.records_inside.Statement.{statement}
+use Rattle.flat_along.proofs.records_inside.Tie as tie
 
 abbrev Inv-loop : tie.InvT-loop
 Inv-loop s records n locations outs i₀ i = Testing (λ k. recordInside s locations outs (records + 22 * k)) n i

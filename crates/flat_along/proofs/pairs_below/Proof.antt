@@ -3,9 +3,9 @@ use native.Mathlib.Omega.{arith}
 use Prim.Native.Nat.{_-_}
 use Rattle.flat.specs.Steps.{Testing}
 use Rattle.flat.proofs.Steps.{stride, test-start}
-use Rattle.flat_check.proofs.Below.{pairBelow, first-over, second-over, pair-on, pair-end}
-use Rattle.flat_check.proofs.reserved.pairs_below.Statement.{statement}
-use Rattle.flat_check.proofs.reserved.pairs_below.Tie as tie
+use Rattle.flat_along.proofs.Below.{pairBelow, first-over, second-over, pair-on, pair-end}
+use Rattle.flat_along.proofs.pairs_below.Statement.{statement}
+use Rattle.flat_along.proofs.pairs_below.Tie as tie
 
 abbrev Inv-loop : tie.InvT-loop
 Inv-loop s low high at step n i₀ i = Testing (pairBelow s low high at step) n i

@@ -5,9 +5,9 @@ use lib.Dec.{ltb}
 use lib.ListN.{getD}
 use Rattle.flat.specs.Steps.{Testing}
 use Rattle.flat.proofs.Steps.{test-start}
-use Rattle.flat_check.proofs.Below.{fours-inside, fours-on}
-use Rattle.flat_check.proofs.reserved.fours_below.Statement.{statement}
-use Rattle.flat_check.proofs.reserved.fours_below.Tie as tie
+use Rattle.flat_along.proofs.Below.{fours-inside, fours-on}
+use Rattle.flat_along.proofs.fours_below.Statement.{statement}
+use Rattle.flat_along.proofs.fours_below.Tie as tie
 
 abbrev Inv-loop : tie.InvT-loop
 Inv-loop s limit at step n i₀ i = Testing (λ k. ltb (getD s (at + step * k) 0) limit) n i

@@ -1,7 +1,7 @@
-use Rattle.flat_check.proofs.Below.{four-below}
+use Rattle.flat_along.proofs.Below.{four-below}
 use borrow.Author.Needs.{needs}
-use Rattle.flat_check.proofs.reserved.four.Statement.{statement}
-use Rattle.flat_check.proofs.reserved.four.Tie as tie
+use Rattle.flat_along.proofs.four.Statement.{statement}
+use Rattle.flat_along.proofs.four.Tie as tie
 
 shared-slice-read-result : tie.Need-shared-slice-read-result
 shared-slice-read-result c = search needs

@@ -5,11 +5,11 @@ use Prim.Native.Nat.{_+_, _*_, _-_}
 use mathlib.Core.Path.{sym}
 use Rattle.flat.specs.Steps.{Testing}
 use Rattle.flat.proofs.Steps.{stride, test-on, test-stop, test-end}
-use Rattle.flat_check.specs.Check.{along}
+use Rattle.flat.specs.Places.{along}
 use lib.Dec.{ltb}
 use lib.ListN.{getD}
-use Rattle.flat_check.proofs.reserved.each_below.Statement.{statement}
-use Rattle.flat_check.proofs.reserved.each_below.Tie as tie
+use Rattle.flat_along.proofs.each_below.Statement.{statement}
+use Rattle.flat_along.proofs.each_below.Tie as tie
 
 abbrev Inv-loop : tie.InvT-loop
 Inv-loop s limit at step n i₀ i = Testing (λ k. ltb (getD s (at + step * k) 0) limit) n i

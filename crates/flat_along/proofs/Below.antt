@@ -1,5 +1,5 @@
 -- Two bytes of each item tested in one pass.
-use Prim.Native.Nat.{ℕ, _+_, _*_, _-_, _≤_, _<_}
+use Prim.Native.Nat.{ℕ, _+_, _*_, _≤_, _<_}
 use mathlib.Core.Path.{_≡_, refl, sym, _∙_}
 use mathlib.Core.Bool.{Bool, true, false, _&&_}
 use mathlib.Core.List.{List}
@@ -8,11 +8,10 @@ use borrow.Author.Tests.{lt-ltb, le-ltb}
 use lib.Dec.{ltb}
 use lib.Bits.{bitOr, or-add-and, and-le-l, and-le-r}
 use lib.ListN.{getD}
-use Rattle.flat_check.specs.Fours.{FourBelow}
-use Rattle.flat.specs.Places.{framesAt, numFrames}
+use Rattle.flat_along.specs.Fours.{FourBelow}
 use Rattle.flat.specs.Steps.{Testing}
 use Rattle.flat.proofs.Steps.{stride, test-on, test-stop, test-end, test-four, every-both}
-use Rattle.flat_check.specs.Check.{along, clear, framesClear}
+use Rattle.flat.specs.Places.{along, clear}
 
 -- both bytes of the item k are below their limits
 unfoldable pub pairBelow : List ℕ → ℕ → ℕ → ℕ → ℕ → ℕ → Bool
@@ -45,10 +44,6 @@ module _ (s : List ℕ) (low high at step n i : ℕ) (t : Testing (pairBelow s l
   pub pair-end : n ≤ i → true ≡ (clear s low at step n && clear s high (at + 1) step n)
   unfolding along pairBelow
   pair-end l = sym (every-both (λ k. ltb (getD s (at + step * k) 0) low) (λ k. ltb (getD s (at + 1 + step * k) 0) high) 0 n ∙ test-end _ n i t l)
-
--- the two flag bytes of the frames
-pub frames-flags : (s : List ℕ) (r : Bool) → r ≡ (clear s 16 (framesAt s + 16) 28 (numFrames s) && clear s 1 (framesAt s + 16 + 1) 28 (numFrames s)) → r ≡ framesClear s
-frames-flags s r e = let z : framesAt s + 16 + 1 ≡ framesAt s + 17 = omega arith in rw z at e
 
 -- Four bytes together.
 
