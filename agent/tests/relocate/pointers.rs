@@ -43,7 +43,7 @@ fn sizes_at_their_limits() {
         let mut scene = of_pairs(&[(1, [0, 0]), (1, [8, 16])], 300);
         let pair = &mut scene.section.records[0].locations[5..];
         (pair[0].size, pair[1].size) = (base, derived);
-        let right = base == derived && base % 8 == 0 && (8..=2_048).contains(&base);
+        let right = base == derived && base.is_multiple_of(8) && (8..=2_048).contains(&base);
         let number = match right {
             false => 18,
             true if 1 + base / 8 > 256 => 17,
@@ -68,7 +68,7 @@ fn every_size_of_a_slot() {
             (pair[which].size, pair[1 - which].size) = (size, other);
             let fits = match version {
                 Version::One => [0, 8].contains(&size) && [0, 8].contains(&other),
-                Version::Three => size == other && size % 8 == 0 && size > 0,
+                Version::Three => size == other && size.is_multiple_of(8) && size > 0,
             };
             let outcome = expect(&scene, if fits { 0 } else { 18 });
             let pointers = match version {

@@ -163,7 +163,7 @@ const WIDE: [Shape; 24] = [
     ("20 in a pair by itself", |scene, number| {
         let own = |pair: &plain::Slots| {
             let apart = pair.first().map_or(0, |[one, two]| one.abs_diff(*two));
-            pair.len() > 1 && apart % 8 != 0 && apart < 8 * pair.len() as u128
+            pair.len() > 1 && !apart.is_multiple_of(8) && apart < 8 * pair.len() as u128
         };
         number == 20 && plain::slots(scene, 0).iter().any(own)
     }),
@@ -233,7 +233,7 @@ fn only_last(scene: &Scene, fault: impl Fn(&Scene, &[i128; 2]) -> bool) -> bool 
 
 /// Whether a location's size is that of 1 to 256 pointers.
 fn right(location: &Location) -> bool {
-    location.size % 8 == 0 && (8..=2_048).contains(&location.size)
+    location.size.is_multiple_of(8) && (8..=2_048).contains(&location.size)
 }
 
 /// Whether a pair of version 1 has slots of the right size.

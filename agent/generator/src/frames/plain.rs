@@ -154,7 +154,7 @@ fn is_form(version: Version, pair: &[Location]) -> bool {
         Version::One => sizes.iter().all(|size| [0, 8].contains(size)),
         Version::Three => {
             let most = 8 * MOST_POINTERS as u16;
-            sizes[0] == sizes[1] && sizes[0] % 8 == 0 && (8..=most).contains(&sizes[0])
+            sizes[0] == sizes[1] && sizes[0].is_multiple_of(8) && (8..=most).contains(&sizes[0])
         }
     };
     right && pair.iter().all(slot)

@@ -82,7 +82,7 @@ fn pointers(version: Version, base: u16, derived: u16) -> Option<usize> {
         }
         Version::Three => {
             let size = usize::from(base);
-            let whole = base == derived && size % SLOT == 0;
+            let whole = base == derived && size.is_multiple_of(SLOT);
             let pointers = size / SLOT;
             (whole && (1..=MAX_POINTERS).contains(&pointers)).then_some(pointers)
         }
