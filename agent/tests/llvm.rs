@@ -100,8 +100,15 @@ fn every_section_has_the_index_that_llvm_prints() {
 /// What came of all statepoints of the sections of a target with this beginning of their names.
 fn planned(target: &str, beginning: &str) -> Seen {
     let mut all = Seen::default();
-    let sections = sections::single().filter(|built| built.target == target && built.name.starts_with(beginning));
-    for Built { name, bytes, printed, .. } in sections {
+    let sections = sections::single()
+        .filter(|built| built.target == target && built.name.starts_with(beginning));
+    for Built {
+        name,
+        bytes,
+        printed,
+        ..
+    } in sections
+    {
         let printed = readobj::parse(printed).unwrap();
         let seen = planned::compare(bytes, &printed, Target::named(target));
         let seen = seen.unwrap_or_else(|fault| panic!("{name}: {fault}"));
@@ -122,7 +129,11 @@ fn every_statepoint_is_moved_as_llvm_prints_it() {
         let seen = planned(target, "");
         assert!(seen.moved > 60, "{target}: {seen:?}");
         // The address of an alloca among the values before the pairs is no pair: nothing but vectors is refused.
-        assert_eq!(seen.refused, planned(target, "vectors.").refused, "{target}");
+        assert_eq!(
+            seen.refused,
+            planned(target, "vectors.").refused,
+            "{target}"
+        );
     }
 }
 
@@ -135,8 +146,16 @@ fn vectors_of_pointers_are_moved_pointer_by_pointer() {
         let each = LEVELS.len();
         assert_eq!(seen.moved, 5 * each, "{target}: {seen:?}");
         assert_eq!(seen.most, 256, "{target}: {seen:?}");
-        assert_eq!(seen.pointers, (5 + 3 + 8 + 256 + 4) * each, "{target}: {seen:?}");
-        assert_eq!(seen.refused, [(16, each), (17, each), (18, each)].into(), "{target}: {seen:?}");
+        assert_eq!(
+            seen.pointers,
+            (5 + 3 + 8 + 256 + 4) * each,
+            "{target}: {seen:?}"
+        );
+        assert_eq!(
+            seen.refused,
+            [(16, each), (17, each), (18, each)].into(),
+            "{target}: {seen:?}"
+        );
     }
 }
 
