@@ -1,5 +1,6 @@
-//! Sections that LLVM itself wrote. `llvm/build` compiles small programs for two targets at two levels, and for each
-//! section the proved check, questions, index and conversions, the second implementation and llvm-readobj must agree.
+//! Sections that LLVM itself wrote. `llvm/build` compiles small programs for two targets at two levels, with and without
+//! frame pointers, and for each section the proved check, questions, index and conversions, the second implementation and
+//! llvm-readobj must agree. So must the moves of its statepoints, each in a hand-made frame.
 
 #[path = "llvm/asked.rs"]
 mod asked;
@@ -11,14 +12,20 @@ mod coverage;
 mod indexed;
 #[path = "llvm/listed.rs"]
 mod listed;
+#[path = "llvm/planned.rs"]
+mod planned;
 #[path = "llvm/readobj.rs"]
 mod readobj;
 #[path = "llvm/sections.rs"]
 mod sections;
 
 use compare::compare;
+use planned::{Seen, Target};
 use reference::section::{self, Section};
 use sections::{Built, LEVELS, TARGETS};
+
+/// The targets whose statepoints are moved.
+const PLANNED: &[&str] = &["x86_64"];
 
 /// The section as the second implementation reads it; it must accept it.
 fn read(name: &str, bytes: &[u8]) -> Section {
@@ -88,6 +95,68 @@ fn every_section_has_the_index_that_llvm_prints() {
         records += printed.records.len();
     }
     assert!(records > 100, "only {records} records");
+}
+
+/// What came of all statepoints of the sections of a target with this beginning of their names.
+fn planned(target: &str, beginning: &str) -> Seen {
+    let mut all = Seen::default();
+    let sections = sections::single()
+        .filter(|built| built.target == target && built.name.starts_with(beginning));
+    for Built {
+        name,
+        bytes,
+        printed,
+        ..
+    } in sections
+    {
+        let printed = readobj::parse(printed).unwrap();
+        let seen = planned::compare(bytes, &printed, Target::named(target));
+        let seen = seen.unwrap_or_else(|fault| panic!("{name}: {fault}"));
+        all.moved += seen.moved;
+        all.pointers += seen.pointers;
+        all.most = all.most.max(seen.most);
+        for (number, count) in seen.refused {
+            *all.refused.entry(number).or_default() += count;
+        }
+    }
+    all
+}
+
+/// In a hand-made frame each statepoint is moved, or refused, as the printed text says.
+#[test]
+fn every_statepoint_is_moved_as_llvm_prints_it() {
+    for target in PLANNED {
+        let seen = planned(target, "");
+        assert!(seen.moved > 60, "{target}: {seen:?}");
+        // The address of an alloca among the values before the pairs is no pair: nothing but vectors is refused.
+        assert_eq!(
+            seen.refused,
+            planned(target, "vectors.").refused,
+            "{target}"
+        );
+    }
+}
+
+/// Of each vectors section all statepoints are moved but three: one whose stack size is not known, one with 257
+/// pointers in two pairs, and one with 257 in one.
+#[test]
+fn vectors_of_pointers_are_moved_pointer_by_pointer() {
+    for target in PLANNED {
+        let seen = planned(target, "vectors.");
+        let each = LEVELS.len();
+        assert_eq!(seen.moved, 5 * each, "{target}: {seen:?}");
+        assert_eq!(seen.most, 256, "{target}: {seen:?}");
+        assert_eq!(
+            seen.pointers,
+            (5 + 3 + 8 + 256 + 4) * each,
+            "{target}: {seen:?}"
+        );
+        assert_eq!(
+            seen.refused,
+            [(16, each), (17, each), (18, each)].into(),
+            "{target}: {seen:?}"
+        );
+    }
 }
 
 /// Without this the tests could become empty unseen.
