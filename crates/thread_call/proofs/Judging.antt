@@ -1,15 +1,15 @@
 -- The frames of a list, one after another.
-use Prim.Native.Nat.{ℕ, zero, suc, _+_, _*_, _-_, _≤_, _<_}
-use mathlib.Core.Path.{_≡_, refl, sym, ap, _∙_}
+use Prim.Native.Nat.{ℕ, suc, _+_, _*_, _-_, _≤_, _<_}
+use mathlib.Core.Path.{_≡_, refl, sym, _∙_}
 use mathlib.Core.Bool.{Bool, true, false}
-use mathlib.Core.List.{List, [], _∷_}
+use mathlib.Core.List.{List, _∷_}
 use native.Mathlib.Omega.{arith}
 use borrow.Author.Tests.{eq-eqb, ne-eqb}
 use lib.ListN.{length}
 use Rattle.stackmap.specs.Check.{Accepted}
 use Rattle.moves.specs.declared.Move.{Move}
 use Rattle.moves.specs.Table.{tableRight, lookUp}
-use Rattle.moves.specs.Settle.{refusedMove, acceptedMove}
+use Rattle.moves.specs.Settle.{refusedMove}
 use Rattle.moves.specs.Code.{Follows}
 use Rattle.relocate.specs.declared.Frame.{Frame}
 use Rattle.relocate.specs.Restore.{Restore}
@@ -20,6 +20,7 @@ use Rattle.relocate.specs.Lists.{final}
 use Rattle.relocate_frame.proofs.Stages.{plan-on}
 use Rattle.thread.specs.Thread.{frameAt, framesFrom, passes, judged, pairsIn}
 use Rattle.thread.specs.Code.{movedIf}
+use Rattle.thread.proofs.Frames.{frames-step, frames-end, frames-start}
 use Rattle.thread_call.proofs.Few.{answer-few}
 
 -- One frame.
@@ -33,19 +34,7 @@ module _ (R : Restore) (im : List ℕ) (f : Frame) (k : Accepted (R .section)) (
   one-moved true r after h = rw (plan-on R im f k i t) (h .answer, h .left)
   one-moved false r after h = rw (plan-on R im f k i t) (h .answer, h .left)
 
--- The list from the position k on.
-
-pub frames-step : (ns : List ℕ) (n k : ℕ) → k < n → framesFrom ns (n - k) k ≡ frameAt ns k ∷ framesFrom ns (n - (k + 1)) (k + 1)
-frames-step ns n k h =
-    let e : n - k ≡ suc (n - (k + 1)) = omega arith in
-    let g : suc k ≡ k + 1 = omega arith in
-    rw (e, g)
-
-pub frames-end : (ns : List ℕ) (n k : ℕ) → n ≤ k → framesFrom ns (n - k) k ≡ []
-frames-end ns n k h = let e : n - k ≡ 0 = omega arith in rw e
-
-pub frames-start : (ns : List ℕ) (n : ℕ) → framesFrom ns (n - 0) 0 ≡ framesFrom ns n 0
-frames-start ns n = let e : n - 0 ≡ n = omega arith in rw e
+-- The judgement.
 
 module _ (R : Restore) (im : List ℕ) (f : Frame) (m : Move) (e : m ≡ answer R im f) (fs : List Frame) where
   judge-one : (k : ℕ) (K : Move) → m .number ≡ 0 → judged R im k (f ∷ fs) K ≡ judged R im (k + 1) fs K

@@ -26,7 +26,7 @@ use Rattle.relocate.specs.Lists.{final}
 use Rattle.thread.specs.Thread.{listRight, frameAt, framesFrom, framesOf, passes, apart, judged, pairsIn, threadAnswer, threadImage}
 use Rattle.thread.specs.Code.{Holding, Counted, EachSited, Threads, framesAnswer, framesImage}
 use Rattle.thread.proofs.OneInstant.{judged-tells, judged-passes}
-use Rattle.thread_call.proofs.Earlier.{accepted-sited}
+use Rattle.thread_call.proofs.Sited.{accepted-sited}
 
 -- a frame of the list, by its position
 frame-in : (ns : List ℕ) (n i k : ℕ) → i ≤ k → k < i + n → List·Memᴰ (frameAt ns k) (framesFrom ns n i)

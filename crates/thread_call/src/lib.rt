@@ -16,9 +16,7 @@ use thread_search::addresses;
 use thread_search::list;
 use thread_search::search;
 
-mod extents;
 mod frames;
-mod stretches;
 
 // The frames of a right list: all are judged, then their extents are compared, then all are moved.
 fn move_frames(
@@ -40,7 +38,7 @@ fn move_frames(
     if judged.number != 0 {
         return judged;
     }
-    let shared = extents::first_shared(s, list, count, keys, hits);
+    let shared = thread_extents::first_shared(s, list, count, keys, hits);
     if shared < count {
         return moving::refused(26, shared);
     }
