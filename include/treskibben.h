@@ -649,7 +649,10 @@ treskibben_live_out_answer treskibben_flat_live_out(const uint8_t *section, size
  * stands in several places, the first is read, and all are retired. A place whose number is over 2^32 - 1,
  * or whose settings make would refuse, has no edition and is not free. Whether a place is free is told by
  * its number alone. A new number follows `greatest`, whatever the places say. So a store from a file should
- * be judged before it is trusted: the calls do not tell that it is damaged.
+ * be judged before it is trusted: the calls do not tell that it is damaged. The program treskibben keeps one
+ * behind a head and before a checksum, which docs/COMMAND.md has.
+ *
+ * A call needs about 16 KiB of stack, with the store that goes in and the one that comes back.
  */
 
 /*

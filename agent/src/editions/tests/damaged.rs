@@ -250,3 +250,58 @@ fn the_greatest_number_is_judged() {
     let damage = Editions::from_bytes(&forged(store));
     assert_eq!(damage, Err(Damage::Full));
 }
+
+/// A store as calls leave it, or one with up to two changes.
+fn nearly_right(rng: &mut Rng) -> Store {
+    let Editions { mut store } = some_store(rng);
+    for _ in 0..rng.below(3) {
+        let nth = rng.below(ffi::PLACES);
+        let other = store.places[rng.below(ffi::PLACES)];
+        let place = &mut store.places[nth];
+        match rng.below(8) {
+            0 => store.greatest = store.greatest.wrapping_add(rng.pick(&[1, 2, u64::MAX])),
+            1 => store.greatest = other.number,
+            2 => *place = other,
+            3 => place.number = rng.pick(&[0, 1, store.greatest, store.greatest.wrapping_add(1)]),
+            4 => place.settings.most = rng.pick(&[0, 1, 256, 257]),
+            5 => place.settings.machine = rng.below(3) as u64,
+            6 => place.settings.version_1 = rng.below(3) as u64,
+            _ => place.settings.version_3 = rng.below(3) as u64,
+        }
+    }
+    store
+}
+
+/// Whether some calls leave it, by the second implementation. It has no free places of any content and no
+/// versions but two flags.
+fn calls_leave(store: &Store) -> bool {
+    let mut live = vec![];
+    for place in &store.places {
+        let own = place.settings;
+        match place.number {
+            0 if *place == Place::default() => {}
+            0 => return false,
+            _ if own.version_1 > 1 || own.version_3 > 1 => return false,
+            number => live.push(Edition {
+                number,
+                settings: as_second(as_made(own)),
+            }),
+        }
+    }
+    second::Store::set_up(store.greatest, &live).is_some()
+}
+
+/// The bytes of a store are taken exactly where some calls from the empty store leave it.
+#[test]
+fn bytes_are_taken_where_calls_leave_such_a_store() {
+    let mut rng = Rng::new(29);
+    let mut met = [0; 2];
+    for _ in 0..40_000 {
+        let store = nearly_right(&mut rng);
+        let expected = calls_leave(&store);
+        let taken = Editions::from_bytes(&forged(store.clone()));
+        assert_eq!(taken.is_ok(), expected, "{taken:?} of {store:?}");
+        met[usize::from(expected)] += 1;
+    }
+    assert!(met.iter().all(|met| *met >= 5_000), "{met:?}");
+}
