@@ -17,7 +17,7 @@ use treskibben::editions::{
 use treskibben::Refusal;
 
 /// Sequences in a run, of 300 calls on average, made in parts that each have a source of random numbers.
-const PARTS: u64 = 40;
+const PARTS: u64 = 50;
 const SEQUENCES_A_PART: u64 = 10;
 
 /// What is counted: all calls, and each answer.
@@ -216,7 +216,7 @@ fn crate_second_implementation_and_history_answer_alike() {
 }
 
 #[test]
-fn refusals_have_types_numbers_and_words() {
+fn refusals_have_types() {
     let right = Settings {
         pointers: 1,
         machine: Machine::Aarch64,
@@ -240,35 +240,36 @@ fn refusals_have_types_numbers_and_words() {
     assert_eq!(editions.make(wrong), Err(MakeRefusal::Settings));
     assert_eq!((editions.len(), editions.greatest()), (64, 64));
     assert_eq!(editions, full);
+    assert_eq!(late().make(right), Err(MakeRefusal::NumbersUsedUp));
+}
+
+/// A store whose greatest number is the last.
+fn late() -> Editions {
     let late = Sequence {
         kind: made::Kind::Last,
         greatest: made::LAST,
         live: vec![],
         calls: vec![],
     };
-    let mut late = Editions::from_bytes(&start(&late)).unwrap();
-    assert_eq!(late.make(right), Err(MakeRefusal::NumbersUsedUp));
+    Editions::from_bytes(&start(&late)).unwrap()
+}
+
+#[test]
+fn refusals_have_words() {
+    let unknown = UnknownEdition { edition: 1 };
     let words = [
-        (
-            MakeRefusal::Full.to_string(),
-            "refused 30 at 0: 64 editions are live",
-        ),
-        (
-            unknown.to_string(),
-            "refused 31 at 0: edition unknown or retired",
-        ),
-        (
-            MakeRefusal::NumbersUsedUp.to_string(),
-            "refused 32 at 0: new edition's number over 2^32 - 1",
-        ),
-        (
-            MakeRefusal::Settings.to_string(),
-            "refused 51 at 0: pointer count not 1 to 256, machine unknown, or no version allowed",
-        ),
+        unknown.to_string(),
+        MakeRefusal::Full.to_string(),
+        MakeRefusal::NumbersUsedUp.to_string(),
+        MakeRefusal::Settings.to_string(),
     ];
-    for (text, expected) in words {
-        assert_eq!(text, expected);
-    }
+    let expected = [
+        "refused 31 at 0: edition unknown or retired",
+        "refused 30 at 0: 64 editions are live",
+        "refused 32 at 0: new edition's number over 2^32 - 1",
+        "refused 51 at 0: pointer count not 1 to 256, machine unknown, or no version allowed",
+    ];
+    assert_eq!(words, expected);
 }
 
 #[test]

@@ -15,6 +15,21 @@ mod damaged;
 const CALLS: u64 = 100_000;
 const OFTEN: u64 = 1_000;
 
+const LEAST: [(&str, u64); 12] = [
+    ("made", OFTEN),
+    ("made: past 64", OFTEN),
+    ("made: the last number", 20),
+    ("retired", OFTEN),
+    ("retired: of a full store", 500),
+    ("read", OFTEN),
+    ("30", OFTEN),
+    ("31", OFTEN),
+    ("32", OFTEN),
+    ("32: 30 holds too", 500),
+    ("51", OFTEN),
+    ("51: 30 holds too", 100),
+];
+
 /// The settings as the library has them.
 fn numbers(settings: made::Settings) -> Settings {
     Settings {
@@ -205,20 +220,7 @@ fn library_second_implementation_and_history_answer_100_000_calls_alike() {
         calls += sequence.calls.len() as u64;
     }
     println!("{calls} calls: {counts:?}");
-    for (name, least) in [
-        ("made", OFTEN),
-        ("made: past 64", OFTEN),
-        ("made: the last number", 20),
-        ("retired", OFTEN),
-        ("retired: of a full store", 500),
-        ("read", OFTEN),
-        ("30", OFTEN),
-        ("31", OFTEN),
-        ("32", OFTEN),
-        ("32: 30 holds too", 500),
-        ("51", OFTEN),
-        ("51: 30 holds too", 100),
-    ] {
+    for (name, least) in LEAST {
         let count = counts.get(name).copied().unwrap_or(0);
         assert!(count >= least, "{name}: {count}");
     }

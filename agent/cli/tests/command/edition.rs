@@ -115,16 +115,18 @@ fn made_retired_and_listed() {
     assert_eq!(folder.names(), ["s"]);
 }
 
+/// The objects that a run has told, and nothing else.
+fn told(ran: Ran) -> Vec<Value> {
+    assert_eq!(ran.err, "");
+    let lines = ran.text().lines();
+    lines
+        .map(|line| serde_json::from_str(line).unwrap())
+        .collect()
+}
+
 #[test]
 fn objects_for_programs() {
     let folder = Folder::new();
-    let told = |ran: Ran| -> Vec<Value> {
-        assert_eq!(ran.err, "");
-        let lines = ran.text().lines();
-        lines
-            .map(|line| serde_json::from_str(line).unwrap())
-            .collect()
-    };
     let made = told(make(&folder, &["--new", "--json", "--pointers=9"]));
     let settings = json!({"edition": 1, "pointers": 9, "machine": "x86-64", "versions": [1, 3]});
     let mut expected = settings.clone();

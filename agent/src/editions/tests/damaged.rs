@@ -40,8 +40,52 @@ fn has_edition(place: &Place, number: u64) -> bool {
     known && place.number == number && are_right(place.settings)
 }
 
-/// What is said of such stores: the first place with a number is read and all are freed, a place is free by
-/// its number alone, and a new number follows the greatest.
+/// The refusal's number, or 0.
+fn number_of(verdict: &crate::ffi::Verdict) -> u64 {
+    let accepted = verdict.accepted();
+    accepted.map_or_else(|refusal| refusal.number(), |()| 0)
+}
+
+/// Reads and retires: the first place with the number is read, and all are freed. Gives the refusal.
+fn read_and_retire(store: &Store, asked: u64) -> u64 {
+    let own = store.places.iter().find(|place| has_edition(place, asked));
+    let mut without = store.clone();
+    let places = without.places.iter_mut();
+    places
+        .filter(|place| has_edition(place, asked))
+        .for_each(|place| *place = Place::default());
+    let (read, retired) = (ffi::read(store, asked), ffi::retire(store, asked));
+    let expected = if own.is_some() { 0 } else { 31 };
+    let told = [number_of(&read.verdict), number_of(&retired.verdict)];
+    assert_eq!(told, [expected; 2], "{asked} of {store:?}");
+    let settings = own.map(|own| own.settings).unwrap_or_default();
+    assert_eq!(read.settings, settings, "{asked} of {store:?}");
+    assert_eq!(retired.store, without, "{asked} of {store:?}");
+    expected
+}
+
+/// Makes: a place is free by its number alone, and the new number follows the greatest. Gives the refusal.
+fn make(store: &Store, settings: Settings) -> u64 {
+    let made = ffi::make(store, settings);
+    let mut with = store.clone();
+    let free = with.places.iter_mut().find(|place| place.number == 0);
+    let (expected, edition) = match free {
+        _ if !are_right(settings) => (51, 0),
+        _ if store.greatest >= Editions::LAST => (32, 0),
+        None => (30, 0),
+        Some(place) => {
+            let number = store.greatest + 1;
+            *place = Place { number, settings };
+            with.greatest = number;
+            (0, number)
+        }
+    };
+    let told = (number_of(&made.verdict), made.edition);
+    assert_eq!(told, (expected, edition), "{settings:?} of {store:?}");
+    assert_eq!(made.store, with, "{settings:?} of {store:?}");
+    expected
+}
+
 #[test]
 fn any_store_is_answered_by_its_places() {
     let mut rng = Rng::new(26);
@@ -49,43 +93,10 @@ fn any_store_is_answered_by_its_places() {
     for _ in 0..50_000 {
         let store = any_store(&mut rng);
         let asked = number(&mut rng);
-        let own = store.places.iter().find(|place| has_edition(place, asked));
-        let mut without = store.clone();
-        let places = without.places.iter_mut();
-        places
-            .filter(|place| has_edition(place, asked))
-            .for_each(|place| *place = Place::default());
-        let (read, retired) = (ffi::read(&store, asked), ffi::retire(&store, asked));
-        let of = |verdict: &crate::ffi::Verdict| {
-            verdict.accepted().map_or_else(|it| it.number(), |()| 0)
-        };
-        let expected = if own.is_some() { 0 } else { 31 };
-        assert_eq!([of(&read.verdict), of(&retired.verdict)], [expected; 2]);
-        let settings = own.map(|own| own.settings).unwrap_or_default();
-        assert_eq!(read.settings, settings, "{asked} of {store:?}");
-        assert_eq!(retired.store, without, "{asked} of {store:?}");
-        *counts.entry(expected).or_default() += 1;
-
         let settings = store.places[rng.below(ffi::PLACES)].settings;
-        let made = ffi::make(&store, settings);
-        let mut with = store.clone();
-        let free = with.places.iter_mut().find(|place| place.number == 0);
-        let expected = match free {
-            _ if !are_right(settings) => 51,
-            _ if store.greatest >= Editions::LAST => 32,
-            None => 30,
-            Some(place) => {
-                with.greatest = store.greatest + 1;
-                let number = with.greatest;
-                *place = Place { number, settings };
-                0
-            }
-        };
-        assert_eq!(of(&made.verdict), expected, "{settings:?} of {store:?}");
-        let edition = if expected == 0 { with.greatest } else { 0 };
-        assert_eq!(made.edition, edition, "{settings:?} of {store:?}");
-        assert_eq!(made.store, with, "{settings:?} of {store:?}");
-        *counts.entry(expected).or_default() += 1;
+        for number in [read_and_retire(&store, asked), make(&store, settings)] {
+            *counts.entry(number).or_default() += 1;
+        }
     }
     for number in [0, 30, 31, 32, 51] {
         assert!(counts[&number] >= OFTEN, "{counts:?}");
@@ -151,71 +162,71 @@ fn forged(store: Store) -> Vec<u8> {
     Editions { store }.to_bytes()
 }
 
-/// Each field, with a checksum that fits.
-#[test]
-fn every_field_is_judged() {
-    let right = Settings {
-        most: 256,
-        machine: 1,
-        version_1: 1,
-        version_3: 0,
-    };
+const RIGHT: Settings = Settings {
+    most: 256,
+    machine: 1,
+    version_1: 1,
+    version_3: 0,
+};
+
+/// A store whose first place is free and whose others have the editions 8 to 70.
+fn nearly_full() -> Store {
     let mut store = ffi::empty();
     store.greatest = 70;
     for (nth, place) in store.places.iter_mut().enumerate().skip(1) {
-        let number = 7 + nth as u64;
-        *place = Place {
-            number,
-            settings: right,
-        };
+        place.number = 7 + nth as u64;
+        place.settings = RIGHT;
     }
+    store
+}
+
+/// What can't stand in a place of that store: settings that can't be, a free place with settings, and
+/// numbers over the greatest.
+fn wrong_places(number: u64) -> Vec<Place> {
+    let number = number.max(1);
+    let rows = [
+        [number, 0, 0, 1, 1],
+        [number, 257, 0, 1, 1],
+        [number, 1 << 32, 0, 1, 1],
+        [number, 1, 2, 1, 1],
+        [number, 1, 1 << 32, 1, 1],
+        [number, 1, 0, 0, 0],
+        [number, 1, 0, 2, 1],
+        [number, 1, 0, 1, 2],
+        [number, 1, 0, 1 << 8, 1],
+        [0, 1, 0, 1, 1],
+        [0, 0, 0, 0, 1],
+        [71, 1, 0, 1, 1],
+        [1 << 32 | 1, 1, 0, 1, 1],
+    ];
+    let place = |[number, most, machine, version_1, version_3]: [u64; 5]| Place {
+        number,
+        settings: Settings {
+            most,
+            machine,
+            version_1,
+            version_3,
+        },
+    };
+    rows.map(place).to_vec()
+}
+
+/// Each field, with a checksum that fits.
+#[test]
+fn every_field_is_judged() {
+    let store = nearly_full();
     assert!(Editions::from_bytes(&forged(store.clone())).is_ok());
     for nth in 0..ffi::PLACES {
-        let number = store.places[nth].number;
-        let free = number == 0;
-        let mut wrong: Vec<Place> = vec![];
-        let of = |number: u64, most, machine, version_1, version_3| Place {
-            number,
-            settings: Settings {
-                most,
-                machine,
-                version_1,
-                version_3,
-            },
-        };
-        for (most, machine, version_1, version_3) in [
-            (0, 0, 1, 1),
-            (257, 0, 1, 1),
-            (1 << 32, 0, 1, 1),
-            (1, 2, 1, 1),
-            (1, 1 << 32, 1, 1),
-            (1, 0, 0, 0),
-            (1, 0, 2, 1),
-            (1, 0, 1, 2),
-            (1, 0, 1 << 8, 1),
-        ] {
-            wrong.push(of(
-                if free { 1 } else { number },
-                most,
-                machine,
-                version_1,
-                version_3,
-            ));
-        }
-        // A free place with settings; a number over the greatest, and one that stands elsewhere too.
-        wrong.push(of(0, 1, 0, 1, 1));
-        wrong.push(of(0, 0, 0, 0, 1));
-        wrong.push(of(71, 1, 0, 1, 1));
-        wrong.push(of(1 << 32 | 1, 1, 0, 1, 1));
-        for place in wrong {
+        for place in wrong_places(store.places[nth].number) {
             let mut damaged = store.clone();
             damaged.places[nth] = place;
             let damage = Editions::from_bytes(&forged(damaged));
             assert_eq!(damage, Err(Damage::Place(nth)), "{place:?}");
         }
+        // A number that stands in another place too.
         let other = if nth < 2 { 63 } else { nth - 1 };
         let mut twice = store.clone();
-        twice.places[nth].settings = right;
+        twice.places[nth].settings = RIGHT;
         twice.places[nth].number = store.places[other].number;
         let damage = Editions::from_bytes(&forged(twice));
         assert_eq!(damage, Err(Damage::Place(nth.max(other))));
@@ -237,12 +248,7 @@ fn the_greatest_number_is_judged() {
     // All places taken: the greatest took one of them.
     for (nth, place) in store.places.iter_mut().enumerate() {
         place.number = 1 + nth as u64;
-        place.settings = numbers(made::Settings {
-            largest_count: 1,
-            machine: 0,
-            version_1: true,
-            version_3: false,
-        });
+        place.settings = RIGHT;
     }
     store.greatest = 64;
     assert!(Editions::from_bytes(&forged(store.clone())).is_ok());
