@@ -3,7 +3,7 @@
 //! A store is changed by one process at a time: the file is locked from before it is read until the new one
 //! has its name, so that no number is given twice. It is replaced in one step.
 
-use crate::library::{self, Edition, Editions, Settings};
+use crate::library::{self, Damage, Edition, Editions, Settings};
 use crate::numbers::count;
 use crate::registers;
 use crate::replace::{self, Held};
@@ -17,9 +17,16 @@ use std::path::Path;
 /// What a file is refused by that is no whole store.
 const DAMAGED: &str = "not a store of editions, or a damaged one";
 
-/// The store that a file's bytes say.
+/// The store that a file's bytes say. Of a file that is longer than a store only one byte more is read.
 fn decode(path: &Path, bytes: &[u8]) -> Result<Editions, Trouble> {
-    library::editions_of(bytes).map_err(|damage| Trouble::declined(path, DAMAGED, damage))
+    let longer = bytes.len() as u64 > files::EDITIONS;
+    library::editions_of(bytes).map_err(|damage| {
+        let found = match damage {
+            Damage::Length(_) if longer => format!("it has over {} bytes", files::EDITIONS),
+            damage => damage.to_string(),
+        };
+        Trouble::declined(path, DAMAGED, found)
+    })
 }
 
 /// The store in a file, which is only read. It is that of one moment, whoever replaces it meanwhile.

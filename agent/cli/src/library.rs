@@ -123,11 +123,11 @@ pub struct Table {
 }
 
 /// A store of editions, what it is made with, and what is wrong with one that is damaged.
-pub use treskibben::editions::{Edition, Editions, Machine, Settings, Versions};
+pub use treskibben::editions::{Damage, Edition, Editions, Machine, Settings, Versions};
 
-/// The store that a file's bytes say, or what is wrong with them in words.
-pub fn editions_of(bytes: &[u8]) -> Result<Editions, String> {
-    Editions::from_bytes(bytes).map_err(|damage| damage.to_string())
+/// The store that a file's bytes say, or what is wrong with them.
+pub fn editions_of(bytes: &[u8]) -> Result<Editions, Damage> {
+    Editions::from_bytes(bytes)
 }
 
 /// A new edition: 51, 32, 30.

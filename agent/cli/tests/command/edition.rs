@@ -6,7 +6,7 @@ mod killed;
 
 use crate::run::{Folder, Ran};
 use serde_json::{json, Value};
-use std::fs::{self, Permissions};
+use std::fs::{self, File, Permissions};
 use std::os::unix::fs::{symlink, PermissionsExt};
 
 /// What the refusals say.
@@ -278,6 +278,19 @@ fn links_and_permissions_stay() {
     let real = fs::metadata(folder.at("real")).unwrap();
     assert_eq!(real.permissions().mode() & 0o7777, 0o640);
     assert_eq!(folder.names(), ["real", "s"]);
+}
+
+/// A store is listed from a pipe too.
+#[test]
+fn a_store_on_standard_input() {
+    let folder = with_store(&store(9, &[(9, [2, 1, 1, 0])]));
+    let mut command = folder.command();
+    let command = command.args(["edition", "list", "--store", "-"]);
+    let ran = Ran::of(command.stdin(File::open(folder.at("s")).unwrap()));
+    ran.done(
+        "store: 1 live edition of 64, greatest number 9\n\
+         edition 9: at most 2 pointers, aarch64, version 1\n",
+    );
 }
 
 /// What is made is made, also where nobody can be told on standard output; then it is told elsewhere.

@@ -68,11 +68,10 @@ fn too_short_and_too_long() {
         refused(&folder, &make(&folder, &[]), bytes, &found);
         refused(&folder, &retire(&folder, &["3"]), bytes, &found);
     }
-    // Of a longer file one byte more than a store has is read.
     for more in [1, 2, 2_588] {
         let bytes = [&whole[..], &vec![0; more]].concat();
         folder.put("s", &bytes);
-        let found = "its length is 2589, and not 2588";
+        let found = "it has over 2588 bytes";
         refused(&folder, &list(&folder, &[]), &bytes, found);
         refused(&folder, &make(&folder, &[]), &bytes, found);
     }
