@@ -29,12 +29,12 @@ fn crc_32(bytes: &[u8]) -> u32 {
         .map(|nth| {
             (0..8).fold(nth, |own: u32, _| match own % 2 {
                 0 => own / 2,
-                _ => own / 2 ^ 0xEDB8_8320,
+                _ => (own / 2) ^ 0xEDB8_8320,
             })
         })
         .collect();
     let crc = bytes.iter().fold(u32::MAX, |crc, byte| {
-        table[usize::from(crc as u8 ^ byte)] ^ crc >> 8
+        table[usize::from(crc as u8 ^ byte)] ^ (crc >> 8)
     });
     crc ^ u32::MAX
 }

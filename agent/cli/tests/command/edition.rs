@@ -42,7 +42,7 @@ fn crc_32(bytes: &[u8]) -> u32 {
         crc ^= u32::from(*byte);
         for _ in 0..8 {
             crc = if crc % 2 == 1 {
-                crc / 2 ^ 0xEDB8_8320
+                (crc / 2) ^ 0xEDB8_8320
             } else {
                 crc / 2
             };
