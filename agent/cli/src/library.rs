@@ -121,3 +121,23 @@ pub struct Table {
     pub old: Vec<u64>,
     pub new: Vec<u64>,
 }
+
+/// A store of editions, what it is made with, and what is wrong with one that is damaged.
+pub use treskibben::editions::{Damage, Edition, Editions, Machine, Settings, Versions};
+
+/// The store that a file's bytes say, or what is wrong with them.
+pub fn editions_of(bytes: &[u8]) -> Result<Editions, Damage> {
+    Editions::from_bytes(bytes)
+}
+
+/// A new edition: 51, 32, 30.
+pub fn make_edition(editions: &mut Editions, settings: Settings) -> Result<u64, Refusal> {
+    let made = editions.make(settings).map_err(treskibben::Refusal::from);
+    Ok(made?)
+}
+
+/// The retirement of an edition: 31.
+pub fn retire_edition(editions: &mut Editions, edition: u64) -> Result<(), Refusal> {
+    let retired = editions.retire(edition);
+    Ok(retired.map_err(treskibben::Refusal::from)?)
+}

@@ -11,6 +11,7 @@ ghost use Rattle.treskibben_answers.specs.Version.{version};
 use treskibben_answers as answers;
 
 pub mod address_index;
+pub mod edition_calls;
 pub mod flat_sections;
 pub mod index_lookups;
 
