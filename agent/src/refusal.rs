@@ -32,7 +32,7 @@ const CAUSES: [&str; 29] = [
     "lists unequal, over 65,536 entries, old starts not strictly rising, or a 0 in either",
     "more than one record at the address or offset",
     "stack size unknown, or extent not inside the image",
-    "over 256 pairs",
+    "over 256 pointers",
     "pair of wrong form",
     "a slot not wholly inside the extent",
     "collision",
@@ -46,6 +46,15 @@ const CAUSES: [&str; 29] = [
     "version 1 listing with a record count not 0 or a size over 255",
     "index isn't exactly the entries that the section yields",
 ];
+
+/// The causes of refusals by a store of editions: from number 30 on, and that of the settings alone, 51.
+const EDITION_CAUSES: [&str; 3] = [
+    "64 editions are live",
+    "edition unknown or retired",
+    "new edition's number over 2^32 - 1",
+];
+const SETTINGS_CAUSES: [&str; 1] =
+    ["pointer count not 1 to 256, machine unknown, or no version allowed"];
 
 /// The causes of a flat section's refusals; the first is number 36.
 const FLAT_CAUSES: [&str; 6] = [
@@ -85,6 +94,8 @@ impl Refusal {
     /// The cause in words.
     pub fn cause(&self) -> &'static str {
         cause_from(&CAUSES, 1, self.number)
+            .or_else(|| cause_from(&EDITION_CAUSES, 30, self.number))
+            .or_else(|| cause_from(&SETTINGS_CAUSES, 51, self.number))
             .or_else(|| cause_from(&FLAT_CAUSES, 36, self.number))
             .unwrap_or("a cause that this version has no words for")
     }
@@ -110,7 +121,10 @@ mod tests {
 
     #[test]
     fn each_number_has_words_of_its_own() {
+        let editions = (30..).zip(EDITION_CAUSES);
+        let settings = (51..).zip(SETTINGS_CAUSES);
         let numbers = (1..).zip(CAUSES).chain((36..).zip(FLAT_CAUSES));
+        let numbers = numbers.chain(editions).chain(settings);
         let mut met: Vec<&str> = vec![];
         for (number, cause) in numbers {
             assert_eq!(Refusal::new(number, 0).cause(), cause);
@@ -126,7 +140,7 @@ mod tests {
             (2, "neither 1 nor 3"),
             (10, "no record"),
             (13, "image"),
-            (17, "256 pairs"),
+            (17, "256 pointers"),
             (20, "collision"),
             (22, "grammar"),
             (23, "65,535"),
@@ -136,6 +150,10 @@ mod tests {
             (27, "question by address"),
             (28, "version 1 listing"),
             (29, "index isn't exactly"),
+            (30, "64 editions"),
+            (31, "unknown or retired"),
+            (32, "2^32 - 1"),
+            (51, "pointer count"),
             (36, "under 32"),
             (37, "version not 2"),
             (38, "aligned place"),
@@ -154,7 +172,7 @@ mod tests {
 
     #[test]
     fn numbers_beyond_the_table_still_print() {
-        for number in [0, 30, 35, 42, u64::MAX] {
+        for number in [0, 50, 35, 42, u64::MAX] {
             let text = Refusal::new(number, 4).to_string();
             assert!(
                 text.starts_with(&format!("refused {number} at 4: a cause")),

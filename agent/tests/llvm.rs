@@ -1,5 +1,6 @@
-//! Sections that LLVM itself wrote. `llvm/build` compiles small programs for two targets at two levels, and for each
-//! section the proved check, questions, index and conversions, the second implementation and llvm-readobj must agree.
+//! Sections that LLVM itself wrote. `llvm/build` compiles small programs for two targets at two levels, with and without
+//! frame pointers, and for each section the proved check, questions, index and conversions, the second implementation and
+//! llvm-readobj must agree. So must the moves of its statepoints, each in a hand-made frame.
 
 #[path = "llvm/asked.rs"]
 mod asked;
@@ -11,25 +12,39 @@ mod coverage;
 mod indexed;
 #[path = "llvm/listed.rs"]
 mod listed;
+#[path = "llvm/planned.rs"]
+mod planned;
 #[path = "llvm/readobj.rs"]
 mod readobj;
 #[path = "llvm/sections.rs"]
 mod sections;
 
 use compare::compare;
+use planned::{Seen, Target};
 use reference::section::{self, Section};
 use sections::{Built, LEVELS, TARGETS};
 
+/// The targets whose statepoints are moved.
+const PLANNED: &[&str] = &["x86_64"];
+
 /// The section as the second implementation reads it; it must accept it.
 fn read(name: &str, bytes: &[u8]) -> Section {
-    section::read(bytes).unwrap_or_else(|refusal| panic!("{name}: refused {} at {}", refusal.number, refusal.place))
+    section::read(bytes)
+        .unwrap_or_else(|refusal| panic!("{name}: refused {} at {}", refusal.number, refusal.place))
 }
 
 /// Number and place of both implementations' verdict, which must be the same; none where they accept.
 fn verdict(name: &str, bytes: &[u8]) -> Option<(u64, u64)> {
-    let proved = treskibben::check(bytes).err().map(|refusal| (refusal.number(), refusal.place()));
-    let second = section::check(bytes).err().map(|refusal| (refusal.number, refusal.place));
-    assert_eq!(proved, second, "{name}: the proved verdict and the second one");
+    let proved = treskibben::check(bytes)
+        .err()
+        .map(|refusal| (refusal.number(), refusal.place()));
+    let second = section::check(bytes)
+        .err()
+        .map(|refusal| (refusal.number, refusal.place));
+    assert_eq!(
+        proved, second,
+        "{name}: the proved verdict and the second one"
+    );
     proved
 }
 
@@ -43,7 +58,13 @@ fn compared(name: &str, bytes: &[u8], printed: &str) {
 
 #[test]
 fn every_section_is_accepted_and_read_as_llvm_prints_it() {
-    for Built { name, bytes, printed, .. } in sections::single() {
+    for Built {
+        name,
+        bytes,
+        printed,
+        ..
+    } in sections::single()
+    {
         assert_eq!(verdict(name, bytes), None, "{name}");
         compared(name, bytes, printed);
     }
@@ -53,17 +74,89 @@ fn every_section_is_accepted_and_read_as_llvm_prints_it() {
 #[test]
 fn every_section_has_the_index_that_llvm_prints() {
     let mut records = 0;
-    for Built { name, bytes, printed, .. } in sections::single() {
+    for Built {
+        name,
+        bytes,
+        printed,
+        ..
+    } in sections::single()
+    {
         let printed = readobj::parse(printed).unwrap();
         let told = |fault| panic!("{name}, index: {fault}");
         indexed::compare(bytes, &printed).unwrap_or_else(told);
         indexed::refuses_others(bytes, &printed).unwrap_or_else(told);
         let mut second = vec![0; 2 * printed.records.len()];
-        assert_eq!(reference::fill_index(bytes, &mut second), Ok(second.len() as u64), "{name}");
+        assert_eq!(
+            reference::fill_index(bytes, &mut second),
+            Ok(second.len() as u64),
+            "{name}"
+        );
         assert_eq!(second, indexed::entries(&printed), "{name}");
         records += printed.records.len();
     }
     assert!(records > 100, "only {records} records");
+}
+
+/// What came of all statepoints of the sections of a target with this beginning of their names.
+fn planned(target: &str, beginning: &str) -> Seen {
+    let mut all = Seen::default();
+    let sections = sections::single()
+        .filter(|built| built.target == target && built.name.starts_with(beginning));
+    for Built {
+        name,
+        bytes,
+        printed,
+        ..
+    } in sections
+    {
+        let printed = readobj::parse(printed).unwrap();
+        let seen = planned::compare(bytes, &printed, Target::named(target));
+        let seen = seen.unwrap_or_else(|fault| panic!("{name}: {fault}"));
+        all.moved += seen.moved;
+        all.pointers += seen.pointers;
+        all.most = all.most.max(seen.most);
+        for (number, count) in seen.refused {
+            *all.refused.entry(number).or_default() += count;
+        }
+    }
+    all
+}
+
+/// In a hand-made frame each statepoint is moved, or refused, as the printed text says.
+#[test]
+fn every_statepoint_is_moved_as_llvm_prints_it() {
+    for target in PLANNED {
+        let seen = planned(target, "");
+        assert!(seen.moved > 60, "{target}: {seen:?}");
+        // The address of an alloca among the values before the pairs is no pair: nothing but vectors is refused.
+        assert_eq!(
+            seen.refused,
+            planned(target, "vectors.").refused,
+            "{target}"
+        );
+    }
+}
+
+/// Of each vectors section all statepoints are moved but three: one whose stack size is not known, one with 257
+/// pointers in two pairs, and one with 257 in one.
+#[test]
+fn vectors_of_pointers_are_moved_pointer_by_pointer() {
+    for target in PLANNED {
+        let seen = planned(target, "vectors.");
+        let each = LEVELS.len();
+        assert_eq!(seen.moved, 5 * each, "{target}: {seen:?}");
+        assert_eq!(seen.most, 256, "{target}: {seen:?}");
+        assert_eq!(
+            seen.pointers,
+            (5 + 3 + 8 + 256 + 4) * each,
+            "{target}: {seen:?}"
+        );
+        assert_eq!(
+            seen.refused,
+            [(16, each), (17, each), (18, each)].into(),
+            "{target}: {seen:?}"
+        );
+    }
 }
 
 /// Without this the tests could become empty unseen.
@@ -71,7 +164,10 @@ fn every_section_has_the_index_that_llvm_prints() {
 fn the_sections_show_every_shape() {
     for target in TARGETS {
         let of_target = sections::single().filter(|built| built.target == *target);
-        coverage::assert_every_shape(target, of_target.map(|built| read(&built.name, &built.bytes)));
+        coverage::assert_every_shape(
+            target,
+            of_target.map(|built| read(&built.name, &built.bytes)),
+        );
     }
 }
 
@@ -82,11 +178,26 @@ fn two_linked_maps_are_refused_at_the_second_header() {
             let two = sections::named("two", target, level);
             let first = sections::named("constants", target, level).bytes.len();
             let second = sections::named("statepoint", target, level);
-            assert_eq!(verdict(&two.name, &two.bytes), Some((9, first as u64)), "{}", two.name);
+            assert_eq!(
+                verdict(&two.name, &two.bytes),
+                Some((9, first as u64)),
+                "{}",
+                two.name
+            );
 
             let (before, after) = two.bytes.split_at(first);
-            assert_eq!(verdict(&two.name, before), None, "{}: the first map", two.name);
-            assert_eq!(verdict(&two.name, after), None, "{}: the second map", two.name);
+            assert_eq!(
+                verdict(&two.name, before),
+                None,
+                "{}: the first map",
+                two.name
+            );
+            assert_eq!(
+                verdict(&two.name, after),
+                None,
+                "{}: the second map",
+                two.name
+            );
             compared(&two.name, before, &two.printed);
             same_but_for_addresses(&two.name, after, &second.bytes);
         }
@@ -100,7 +211,11 @@ fn same_but_for_addresses(name: &str, linked: &[u8], alone: &[u8]) {
     let mut expected = alone.to_vec();
     for number in 0..functions {
         let address = 16 + 24 * number..16 + 24 * number + 8;
-        assert_ne!(linked[address.clone()], alone[address.clone()], "{name}: function {number} did not move");
+        assert_ne!(
+            linked[address.clone()],
+            alone[address.clone()],
+            "{name}: function {number} did not move"
+        );
         expected[address.clone()].copy_from_slice(&linked[address]);
     }
     assert_eq!(linked, expected, "{name}: the second map");
@@ -111,7 +226,13 @@ fn same_but_for_addresses(name: &str, linked: &[u8], alone: &[u8]) {
 /// holds of the library's listing, and of its answers but for stack sizes, which no question gives.
 #[test]
 fn every_damaged_byte_is_noticed() {
-    for Built { name, bytes, printed, .. } in sections::single() {
+    for Built {
+        name,
+        bytes,
+        printed,
+        ..
+    } in sections::single()
+    {
         compared(name, bytes, printed);
         let printed = readobj::parse(printed).unwrap();
         let mut differing = 0;
@@ -121,10 +242,16 @@ fn every_damaged_byte_is_noticed() {
                 damaged[place] ^= flip;
                 if verdict(name, &damaged).is_none() {
                     let difference = compare(&read(name, &damaged), &printed);
-                    assert!(difference.is_err(), "{name}: byte {place} with {flip:#x} passes unseen");
+                    assert!(
+                        difference.is_err(),
+                        "{name}: byte {place} with {flip:#x} passes unseen"
+                    );
                     let seen = asked::compare(&damaged, &printed).is_err();
                     let asked = !in_a_stack_size(place, printed.functions.len());
-                    assert_eq!(seen, asked, "{name}: byte {place} with {flip:#x} in the answers");
+                    assert_eq!(
+                        seen, asked,
+                        "{name}: byte {place} with {flip:#x} in the answers"
+                    );
                     let listed = listed::compare(&damaged, &printed).is_err();
                     assert!(listed, "{name}: byte {place} with {flip:#x} in the listing");
                     differing += 1;
@@ -155,17 +282,34 @@ fn a_changed_text_is_noticed() {
         ("Indirect [R#7 + 8]", "Direct R#7 + 8"),
         ("Indirect [R#7 + 8]", "Indirect [R#6 + 8]"),
         ("Indirect [R#7 + 8]", "Indirect [R#7 + -8]"),
-        ("Constant 4294967289, size: 8", "Constant 4294967288, size: 8"),
+        (
+            "Constant 4294967289, size: 8",
+            "Constant 4294967288, size: 8",
+        ),
         ("Constant 0, size: 8", "Constant 0, size: 4"),
-        ("ConstantIndex #0 (81985529216486895)", "ConstantIndex #0 (81985529216486894)"),
+        (
+            "ConstantIndex #0 (81985529216486895)",
+            "ConstantIndex #0 (81985529216486894)",
+        ),
     ] {
         assert!(built.printed.contains(from), "{from:?} is not printed");
         let printed = readobj::parse(&built.printed.replacen(from, to, 1)).unwrap();
-        assert!(compare(&section, &printed).is_err(), "{to:?} for {from:?} passes unseen");
+        assert!(
+            compare(&section, &printed).is_err(),
+            "{to:?} for {from:?} passes unseen"
+        );
         let asked = !from.starts_with("stack size") && !from.starts_with("  #1");
-        assert_eq!(asked::compare(&built.bytes, &printed).is_err(), asked, "{to:?} for {from:?} in the answers");
+        assert_eq!(
+            asked::compare(&built.bytes, &printed).is_err(),
+            asked,
+            "{to:?} for {from:?} in the answers"
+        );
         let listed = !from.starts_with("ConstantIndex");
-        assert_eq!(listed::compare(&built.bytes, &printed).is_err(), listed, "{to:?} for {from:?} in the listing");
+        assert_eq!(
+            listed::compare(&built.bytes, &printed).is_err(),
+            listed,
+            "{to:?} for {from:?} in the listing"
+        );
     }
     for (from, to) in [
         ("Version: 3", "Version: 4"),
@@ -177,6 +321,9 @@ fn a_changed_text_is_noticed() {
         ("R#7", "R#65536"),
     ] {
         assert!(built.printed.contains(from), "{from:?} is not printed");
-        assert!(readobj::parse(&built.printed.replacen(from, to, 1)).is_err(), "{to:?} is read");
+        assert!(
+            readobj::parse(&built.printed.replacen(from, to, 1)).is_err(),
+            "{to:?} is read"
+        );
     }
 }

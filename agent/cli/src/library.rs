@@ -81,7 +81,7 @@ pub fn flat_find(section: &[u8], address: u64) -> Result<[usize; 2], Refusal> {
     Ok([found.frame as usize, found.record as usize])
 }
 
-/// Moves all frames of a thread or none, and gives the sum of their pairs. A refusal comes with the
+/// Moves all frames of a thread or none, and gives the sum of their pointers. A refusal comes with the
 /// position of the frame to blame, if it is one frame.
 pub fn relocate_thread(
     section: &[u8],
@@ -91,14 +91,14 @@ pub fn relocate_thread(
     frames: &[Frame],
 ) -> Result<u64, (Refusal, Option<usize>)> {
     let moves = MoveTable::new(&table.old, &table.new);
-    let pairs = treskibben::relocate_thread(section, image, first, moves, frames);
+    let pointers = treskibben::relocate_thread(section, image, first, moves, frames);
     let told = |refusal: ThreadRefusal| {
         (
             treskibben::Refusal::from(refusal).into(),
             refusal.position(),
         )
     };
-    pairs.map(|pairs| pairs as u64).map_err(told)
+    pointers.map(|pointers| pointers as u64).map_err(told)
 }
 
 /// The pair that a frame is refused by where it is moved by itself, which the refusal of a thread
@@ -120,4 +120,24 @@ pub fn pair_at_fault(
 pub struct Table {
     pub old: Vec<u64>,
     pub new: Vec<u64>,
+}
+
+/// A store of editions, what it is made with, and what is wrong with one that is damaged.
+pub use treskibben::editions::{Damage, Edition, Editions, Machine, Settings, Versions};
+
+/// The store that a file's bytes say, or what is wrong with them.
+pub fn editions_of(bytes: &[u8]) -> Result<Editions, Damage> {
+    Editions::from_bytes(bytes)
+}
+
+/// A new edition: 51, 32, 30.
+pub fn make_edition(editions: &mut Editions, settings: Settings) -> Result<u64, Refusal> {
+    let made = editions.make(settings).map_err(treskibben::Refusal::from);
+    Ok(made?)
+}
+
+/// The retirement of an edition: 31.
+pub fn retire_edition(editions: &mut Editions, edition: u64) -> Result<(), Refusal> {
+    let retired = editions.retire(edition);
+    Ok(retired.map_err(treskibben::Refusal::from)?)
 }

@@ -27,30 +27,41 @@ impl Stopped {
         self.frame.rsp + self.site.stack_size
     }
 
-    /// The addresses of a pair's slots, base first; nothing where it has none.
-    pub fn slots(&self, pair: [Place; 2]) -> Option<[u64; 2]> {
-        let [base, derived] = pair;
-        Some([self.slot(base)?, self.slot(derived)?])
+    /// The slots of each pointer of a pair, base first; none where it has none.
+    pub fn slots(&self, pair: [Place; 2]) -> Vec<[u64; 2]> {
+        let [bases, deriveds] = pair.map(|place| self.pointers(place));
+        let both = bases.into_iter().zip(deriveds);
+        both.map(|(base, derived)| [base, derived]).collect()
     }
 
-    /// The slots of all pairs that have some.
+    /// The slots of all pointers of all pairs.
     pub fn all_slots(&self) -> impl Iterator<Item = [u64; 2]> + '_ {
-        self.site.pairs.iter().filter_map(|&pair| self.slots(pair))
+        self.site.pairs.iter().flat_map(|&pair| self.slots(pair))
     }
 
-    fn slot(&self, place: Place) -> Option<u64> {
-        let (from, offset) = match place {
-            Place::Memory(RBP, offset) => (self.frame.rbp, offset),
-            Place::Memory(RSP, offset) => (self.frame.rsp, offset),
-            _ => return None,
+    /// How many pointers the pairs have; a null pair counts as one.
+    pub fn pointer_count(&self) -> u64 {
+        let pairs = self.site.pairs.iter();
+        pairs
+            .map(|&pair| self.slots(pair).len().max(1) as u64)
+            .sum()
+    }
+
+    /// The addresses of the pointers at a place, which rise.
+    fn pointers(&self, place: Place) -> Vec<u64> {
+        let (from, offset, count) = match place {
+            Place::Memory(RBP, offset, count) => (self.frame.rbp, offset, count),
+            Place::Memory(RSP, offset, count) => (self.frame.rsp, offset, count),
+            _ => return Vec::new(),
         };
-        Some(from.wrapping_add_signed(offset.into()))
+        let first = from.wrapping_add_signed(offset.into());
+        (first..).step_by(8).take(count.into()).collect()
     }
 
     /// Whether a slot is addressed by RBP.
     pub fn uses_rbp(&self) -> bool {
         let mut places = self.site.pairs.iter().flatten();
-        places.any(|place| matches!(place, Place::Memory(RBP, _)))
+        places.any(|place| matches!(place, Place::Memory(RBP, ..)))
     }
 }
 

@@ -74,7 +74,7 @@ pub fn location(map: &[u8], record: u64, number: u64) -> Result<Location, Refusa
     })
 }
 
-/// The library's move of one frame: its number of pairs.
+/// The library's move of one frame: its number of pointers.
 pub fn relocate(
     map: &[u8],
     image: &mut Image,
@@ -83,11 +83,11 @@ pub fn relocate(
 ) -> Result<u64, Refusal> {
     let Image { first, bytes } = image;
     let table = MoveTable::new(&table.old, &table.new);
-    let pairs = treskibben::relocate(map, bytes, *first, table, frame).map_err(plain)?;
-    Ok(pairs as u64)
+    let pointers = treskibben::relocate(map, bytes, *first, table, frame).map_err(plain)?;
+    Ok(pointers as u64)
 }
 
-/// The library's move of all frames of a list, or none: the sum of their pairs.
+/// The library's move of all frames of a list, or none: the sum of their pointers.
 pub fn thread(
     map: &[u8],
     image: &mut Image,
@@ -97,8 +97,8 @@ pub fn thread(
     let Image { first, bytes } = image;
     let table = MoveTable::new(&table.old, &table.new);
     let moved = treskibben::relocate_thread(map, bytes, *first, table, frames);
-    let pairs = moved.map_err(|refusal| plain(refusal.into()))?;
-    Ok(pairs as u64)
+    let pointers = moved.map_err(|refusal| plain(refusal.into()))?;
+    Ok(pointers as u64)
 }
 
 /// The second implementation's move of all frames of a list.

@@ -7,18 +7,22 @@ const HEADER: u64 = 16;
 const FUNCTION: u64 = 24;
 const STACK_SIZE: u64 = 8;
 
+/// The bytes of a pointer.
+const POINTER: u16 = 8;
+
 /// The maps that a linker put one after the other into one section.
 pub struct Maps {
     maps: Vec<&'static [u8]>,
 }
 
-/// Where one pointer of a pair is.
+/// Where one side of a pair is.
 #[derive(Clone, Copy, Debug, PartialEq, Eq)]
 pub enum Place {
     /// A constant, of kind 4 or 5.
     Constant(u64),
-    /// The memory at a register (DWARF number) plus an offset.
-    Memory(u16, i32),
+    /// The memory at a register (DWARF number) plus an offset, and how many pointers are there, one
+    /// after another.
+    Memory(u16, i32, u16),
     /// Anything else, which a move refuses.
     Other,
 }
@@ -119,7 +123,9 @@ fn location(map: &[u8], record: u64, number: u64) -> Option<Location> {
 fn place(location: Location) -> Place {
     match (location.kind, location.size) {
         (4 | 5, _) => Place::Constant(location.constant),
-        (3, 8) => Place::Memory(location.register, location.offset),
+        (3, size) if size > 0 && size % POINTER == 0 => {
+            Place::Memory(location.register, location.offset, size / POINTER)
+        }
         _ => Place::Other,
     }
 }

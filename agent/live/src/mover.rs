@@ -26,6 +26,10 @@ pub enum Mover {
     Nothing,
     /// Writes only pair 0 of each frame.
     PairZero,
+    /// Writes only the first pointer of each pair.
+    FirstPointer,
+    /// Moves each pointer of a pair with the base of the one that is as far from the pair's end.
+    Falling,
     /// Moves only the first frame, the deepest.
     FirstFrame,
     /// Writes each pair before it reads the next.
@@ -51,6 +55,12 @@ pub const FATAL: [Mover; 4] = [
 /// The mover that makes new pointers, but wrong ones.
 pub const WRONG: Mover = Mover::ByDerived;
 
+/// The mover that leaves old pointers where a pair has several.
+pub const FATAL_TO_VECTORS: Mover = Mover::FirstPointer;
+
+/// The mover that makes wrong pointers where a pair has several.
+pub const WRONG_FOR_VECTORS: Mover = Mover::Falling;
+
 /// A refused frame: its number in the walk, and the refusal.
 #[derive(Clone, Copy, Debug, PartialEq, Eq)]
 pub struct RefusedFrame {
@@ -64,7 +74,9 @@ impl Mover {
     /// The mover of a name.
     pub fn named(name: &str) -> Option<Mover> {
         let all = RIGHT.into_iter().chain(FATAL).chain(REFUSED);
-        all.chain([WRONG]).find(|mover| mover.name() == name)
+        let vectors = [FATAL_TO_VECTORS, WRONG_FOR_VECTORS];
+        let mut all = all.chain([WRONG]).chain(vectors);
+        all.find(|mover| mover.name() == name)
     }
 
     /// Its name on the command line.
@@ -77,14 +89,16 @@ impl Mover {
             Mover::Twice => "twice",
             Mover::Nothing => "nothing",
             Mover::PairZero => "pair-0",
+            Mover::FirstPointer => "first-pointer",
+            Mover::Falling => "falling",
             Mover::FirstFrame => "first-frame",
             Mover::InTurn => "in-turn",
             Mover::ByDerived => "by-derived",
         }
     }
 
-    /// Moves the frames on the image, and gives the number of their pairs. After a refusal the image
-    /// is to be thrown away.
+    /// Moves the frames on the image, and gives the number of their pointers. After a refusal the
+    /// image is to be thrown away.
     pub fn apply(
         self,
         image: &mut Image,
@@ -104,18 +118,16 @@ impl Mover {
             }
             Mover::Twice => by_map(library::thread, image, frames, &twice(), table),
             _ => one_by_one(frames, |frame, stopped| match self {
-                Mover::PairZero => pair_zero(image, stopped, table),
+                Mover::PairZero => some(image, stopped, table, |pair, _| pair == 0),
+                Mover::FirstPointer => some(image, stopped, table, |_, pointer| pointer == 0),
+                Mover::Falling => Ok(falling(image, stopped, table)),
                 Mover::InTurn => Ok(in_turn(image, stopped, table)),
                 Mover::ByDerived => Ok(by_derived(image, stopped, table, objects)),
                 Mover::FirstFrame if frame == 0 => relocate(image, stopped, table),
-                _ => Ok(pairs(stopped)),
+                _ => Ok(stopped.pointer_count()),
             }),
         }
     }
-}
-
-fn pairs(stopped: &Stopped) -> u64 {
-    stopped.site.pairs.len() as u64
 }
 
 /// A move of all frames of a list by the map that they are in.
@@ -130,18 +142,18 @@ fn by_map(
     table: &Table,
 ) -> Result<u64, RefusedFrame> {
     let maps: BTreeSet<usize> = frames.iter().map(|stopped| stopped.site.map).collect();
-    let mut pairs = 0;
+    let mut pointers = 0;
     for map in maps {
         let in_map = |frame: &usize| frames[*frame].site.map == map;
         let own: Vec<usize> = order.iter().copied().filter(in_map).collect();
         let list: Vec<Frame> = own.iter().map(|frame| frames[*frame].frame).collect();
         let moved = thread(frames[own[0]].site.bytes, image, table, &list);
-        pairs += moved.map_err(|refusal| RefusedFrame {
+        pointers += moved.map_err(|refusal| RefusedFrame {
             frame: own[refusal.1 as usize],
             refusal,
         })?;
     }
-    Ok(pairs)
+    Ok(pointers)
 }
 
 /// Moves the frames one after the other.
@@ -150,24 +162,48 @@ fn one_by_one(
     mut moved: impl FnMut(usize, &Stopped) -> Result<u64, Refusal>,
 ) -> Result<u64, RefusedFrame> {
     let numbered = frames.iter().enumerate();
-    let pairs = numbered.map(|(frame, stopped)| {
+    let pointers = numbered.map(|(frame, stopped)| {
         moved(frame, stopped).map_err(|refusal| RefusedFrame { frame, refusal })
     });
-    pairs.sum()
+    pointers.sum()
 }
 
 fn relocate(image: &mut Image, stopped: &Stopped, table: &Table) -> Result<u64, Refusal> {
     library::relocate(stopped.site.bytes, image, table, stopped.frame)
 }
 
-fn pair_zero(image: &mut Image, stopped: &Stopped, table: &Table) -> Result<u64, Refusal> {
+/// Moves a frame, and writes only the pointers for which it is said, by the number of the pair and
+/// by the pointer's number in it.
+fn some(
+    image: &mut Image,
+    stopped: &Stopped,
+    table: &Table,
+    written: fn(usize, usize) -> bool,
+) -> Result<u64, Refusal> {
     let mut moved = image.clone();
     let count = relocate(&mut moved, stopped, table)?;
-    let pair = stopped.site.pairs.first();
-    if let Some([_, derived]) = pair.and_then(|&pair| stopped.slots(pair)) {
-        image.set(derived, moved.word(derived));
+    for (number, &pair) in stopped.site.pairs.iter().enumerate() {
+        for (pointer, [_, derived]) in stopped.slots(pair).into_iter().enumerate() {
+            if written(number, pointer) {
+                image.set(derived, moved.word(derived));
+            }
+        }
     }
     Ok(count)
+}
+
+fn falling(image: &mut Image, stopped: &Stopped, table: &Table) -> u64 {
+    let old = image.clone();
+    for &pair in &stopped.site.pairs {
+        let slots = stopped.slots(pair);
+        for ([base, _], [_, derived]) in slots.iter().rev().zip(&slots) {
+            let start = old.word(*base);
+            let new = table.moved(start).unwrap_or(start);
+            let pointer = old.word(*derived);
+            image.set(*derived, pointer.wrapping_add(new).wrapping_sub(start));
+        }
+    }
+    stopped.pointer_count()
 }
 
 fn in_turn(image: &mut Image, stopped: &Stopped, table: &Table) -> u64 {
@@ -177,7 +213,7 @@ fn in_turn(image: &mut Image, stopped: &Stopped, table: &Table) -> u64 {
         let pointer = image.word(derived);
         image.set(derived, pointer.wrapping_add(new).wrapping_sub(old));
     }
-    pairs(stopped)
+    stopped.pointer_count()
 }
 
 fn by_derived(image: &mut Image, stopped: &Stopped, table: &Table, objects: &[Object]) -> u64 {
@@ -190,5 +226,5 @@ fn by_derived(image: &mut Image, stopped: &Stopped, table: &Table, objects: &[Ob
         let new = table.moved(start).expect("objects are in the table");
         image.set(derived, pointer.wrapping_add(new).wrapping_sub(start));
     }
-    pairs(stopped)
+    stopped.pointer_count()
 }

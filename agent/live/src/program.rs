@@ -10,6 +10,10 @@ extern "C" {
     fn live_run_O2(root: u64, seed: u64) -> u64;
     fn live_run_O2_fp(root: u64, seed: u64) -> u64;
     fn live_run_O2_pushed(root: u64, seed: u64) -> u64;
+    fn live_vectors_O0(root: u64, seed: u64) -> u64;
+    fn live_vectors_O0_fp(root: u64, seed: u64) -> u64;
+    fn live_vectors_O2(root: u64, seed: u64) -> u64;
+    fn live_vectors_O2_fp(root: u64, seed: u64) -> u64;
     static live_maps_begin: u8;
     static live_maps_end: u8;
 }
@@ -26,7 +30,7 @@ pub struct Program {
     pub(crate) entry: Entry,
 }
 
-/// The programs that can be stopped and moved.
+/// The programs that walk objects, and have pairs of one pointer.
 pub static PROGRAMS: [Program; 4] = [
     Program {
         name: "O0",
@@ -54,6 +58,34 @@ pub static PROGRAMS: [Program; 4] = [
     },
 ];
 
+/// The programs whose frames hold vectors: their pairs have up to 256 pointers.
+pub static VECTORS: [Program; 4] = [
+    Program {
+        name: "vectors-O0",
+        compiled: "-O0, without frame pointers",
+        frame_pointers: false,
+        entry: live_vectors_O0,
+    },
+    Program {
+        name: "vectors-O0-fp",
+        compiled: "-O0, with frame pointers",
+        frame_pointers: true,
+        entry: live_vectors_O0_fp,
+    },
+    Program {
+        name: "vectors-O2",
+        compiled: "-O2, without frame pointers",
+        frame_pointers: false,
+        entry: live_vectors_O2,
+    },
+    Program {
+        name: "vectors-O2-fp",
+        compiled: "-O2, with frame pointers",
+        frame_pointers: true,
+        entry: live_vectors_O2_fp,
+    },
+];
+
 /// The program whose calls push their arguments: the stack size of such a function leaves the
 /// pushed bytes out, so that the frames above cannot be found by it and the program must not be
 /// moved.
@@ -64,12 +96,25 @@ pub static PUSHED: Program = Program {
     entry: live_run_O2_pushed,
 };
 
-/// How many maps the section has: each program is two objects.
-pub const MAPS: usize = 10;
+/// How many maps the section has: of the programs that walk objects each is two objects, of those
+/// with vectors one.
+pub const MAPS: usize = 14;
 
 /// The function of each statepoint, by its ID from 1.
-const FUNCTIONS: [&str; 8] = [
-    "live_run", "choose", "descend", "descend", "descend", "sum", "gather", "measure",
+const FUNCTIONS: [&str; 13] = [
+    "live_run",
+    "choose",
+    "descend",
+    "descend",
+    "descend",
+    "sum",
+    "gather",
+    "measure",
+    "live_vectors",
+    "four",
+    "three",
+    "three",
+    "many",
 ];
 
 /// The function with the statepoint of an ID, as `llvm/live/*.ll` give them.
@@ -86,6 +131,7 @@ impl Program {
     pub fn named(name: &str) -> Option<&'static Program> {
         PROGRAMS
             .iter()
+            .chain(&VECTORS)
             .chain([&PUSHED])
             .find(|program| program.name == name)
     }

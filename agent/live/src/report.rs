@@ -9,6 +9,9 @@ use live::run::{maps, run, Stop, Stops, Trouble};
 use std::io::Write;
 use std::process::{Command, ExitCode, Output};
 
+/// How many pointers of one pair are shown.
+const SHOWN: usize = 4;
+
 /// Why nothing was moved.
 pub fn trouble(trouble: Trouble) -> String {
     match trouble {
@@ -102,7 +105,7 @@ fn tell_stop(stop: &Stop) -> String {
          The {objects} objects of its heap are copied elsewhere, and the old ones made unreadable.\n\
          The library moves the {} pairs of a base and a pointer derived from it.",
         names.join(" > "),
-        stop.pairs
+        stop.pointers
     );
     let pairs = stop.frames.iter().flat_map(|stopped| {
         let slots = stopped.all_slots();
@@ -153,15 +156,16 @@ fn show_stop(stop: &Stop) {
     show_starts("new", &stop.table.new);
     for (number, stopped) in stop.frames.iter().enumerate() {
         println!(
-            "  frame {number}: {}, RSP {:#x}, size {}, {} pairs",
+            "  frame {number}: {}, RSP {:#x}, size {}, {} pairs, {} pointers",
             function(stopped.site.id),
             stopped.frame.rsp,
             stopped.site.stack_size,
             stopped.site.pairs.len(),
+            stopped.pointer_count(),
         );
         if stop.number == 0 {
             for &pair in &stopped.site.pairs {
-                println!("    {}", pair_line(stop, stopped, pair));
+                show_pair(stop, stopped, pair);
             }
         }
     }
@@ -177,26 +181,37 @@ fn show_starts(heap: &str, starts: &[u64]) {
     println!("  {heap} objects at {page:#x} + {}", distances.join(", "));
 }
 
-/// A pair: its slots, and the derived one before and after.
-fn pair_line(stop: &Stop, stopped: &Stopped, pair: [Place; 2]) -> String {
+/// Shows a pair: its places, and each derived pointer before and after. Of many pointers only the
+/// first ones.
+fn show_pair(stop: &Stop, stopped: &Stopped, pair: [Place; 2]) {
     let [base, derived] = pair.map(place);
-    let Some([base_at, derived_at]) = stopped.slots(pair) else {
-        return format!("{base:>7} {derived:>7}  null");
-    };
-    let pointer = |image: &Image| image.word(derived_at);
-    let from_base = pointer(&stop.before).wrapping_sub(stop.before.word(base_at)) as i64;
-    format!(
-        "{base:>7} {derived:>7}  {:#x} -> {:#x}, base{from_base:+}",
-        pointer(&stop.before),
-        pointer(&stop.after),
-    )
+    let slots = stopped.slots(pair);
+    if slots.is_empty() {
+        println!("    {base:>7} {derived:>7}  null");
+    }
+    for (number, [base_at, derived_at]) in slots.iter().take(SHOWN).enumerate() {
+        let pointer = |image: &Image| image.word(*derived_at);
+        let from_base = pointer(&stop.before).wrapping_sub(stop.before.word(*base_at)) as i64;
+        let (base, derived) = match number {
+            0 => (&base[..], &derived[..]),
+            _ => ("", ""),
+        };
+        println!(
+            "    {base:>7} {derived:>7}  {:#x} -> {:#x}, base{from_base:+}",
+            pointer(&stop.before),
+            pointer(&stop.after),
+        );
+    }
+    if slots.len() > SHOWN {
+        println!("    {:15}  and {} more", "", slots.len() - SHOWN);
+    }
 }
 
 fn place(place: Place) -> String {
     match place {
         Place::Constant(constant) => constant.to_string(),
-        Place::Memory(RBP, offset) => format!("RBP{offset:+}"),
-        Place::Memory(_, offset) => format!("RSP{offset:+}"),
+        Place::Memory(RBP, offset, _) => format!("RBP{offset:+}"),
+        Place::Memory(_, offset, _) => format!("RSP{offset:+}"),
         Place::Other => "?".to_string(),
     }
 }

@@ -38,12 +38,12 @@ pub struct Stop {
     pub before: Image,
     /// The stack after.
     pub after: Image,
-    /// The number of pairs of all frames.
-    pub pairs: u64,
+    /// The number of pointers of all frames.
+    pub pointers: u64,
 }
 
 impl Stop {
-    /// The slots of all pairs of all frames, base first.
+    /// The slots of all pointers of all frames, base first.
     fn slots(&self) -> impl Iterator<Item = [u64; 2]> + '_ {
         self.frames.iter().flat_map(Stopped::all_slots)
     }
@@ -166,7 +166,9 @@ impl Running {
         let (new, table) = self.heap.copy();
         let mut after = before.clone();
         let moved = self.mover.apply(&mut after, &frames, &table, &objects);
-        let pairs = moved.map_err(Trouble::Refused)?;
+        let pointers = moved.map_err(Trouble::Refused)?;
+        let listed = frames.iter().map(Stopped::pointer_count).sum();
+        assert_eq!(pointers, listed, "the count that the mover gives");
         let stop = Stop {
             number,
             frames,
@@ -174,7 +176,7 @@ impl Running {
             table,
             before,
             after,
-            pairs,
+            pointers,
         };
         stop.assert_only_derived_slots_changed();
         std::mem::replace(&mut self.heap, new).retire();

@@ -58,6 +58,7 @@ impl Shapes {
         let sharing = |base| slots.iter().filter(|[other, _]| *other == base).count();
         let alone = |base| slots.iter().all(|[_, derived]| *derived != base);
         self.add("pairs", stopped.site.pairs.len());
+        self.add("pointers", stopped.pointer_count() as usize);
         self.add(
             "base-of-three-or-more",
             slots.iter().filter(|[base, _]| sharing(*base) > 2).count(),
@@ -72,11 +73,19 @@ impl Shapes {
     }
 
     fn add_pair(&mut self, stop: &Stop, stopped: &Stopped, pair: [Place; 2]) {
-        let Some([base, derived]) = stopped.slots(pair) else {
+        let slots = stopped.slots(pair);
+        if slots.is_empty() {
             let null = pair == [Place::Constant(0); 2];
             self.add(if null { "null-pair" } else { "other-pair" }, 1);
-            return;
-        };
+        }
+        self.add("pairs-of-several", usize::from(slots.len() > 1));
+        self.add("pairs-of-256", usize::from(slots.len() == 256));
+        for slots in slots {
+            self.add_pointer(stop, slots);
+        }
+    }
+
+    fn add_pointer(&mut self, stop: &Stop, [base, derived]: [u64; 2]) {
         let (old_base, old) = (stop.before.word(base), stop.before.word(derived));
         let object = stop.objects.iter().find(|object| object.start == old_base);
         self.add(shape_of(object, old_base, old), 1);

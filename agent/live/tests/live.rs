@@ -2,8 +2,8 @@
 //! of its own: right movers lead to the right checksum, and wrong ones to death.
 
 use live::maps::Maps;
-use live::mover::{Mover, FATAL, REFUSED, RIGHT, WRONG};
-use live::program::{self, Program, MAPS, PROGRAMS, PUSHED};
+use live::mover::{Mover, FATAL, FATAL_TO_VECTORS, REFUSED, RIGHT, WRONG, WRONG_FOR_VECTORS};
+use live::program::{self, Program, MAPS, PROGRAMS, PUSHED, VECTORS};
 use live::system::RETIRED_FAULT;
 use std::collections::BTreeMap;
 use std::fmt;
@@ -38,6 +38,11 @@ impl Ended {
     fn assert_killed(&self) {
         assert_eq!(self.status.signal(), Some(SIGSEGV), "{self}");
         assert_eq!(self.errors, RETIRED_FAULT, "{self}");
+    }
+
+    fn assert_killed_or_wrong(&self) {
+        let killed = self.status.signal() == Some(SIGSEGV);
+        assert!(killed || self.status.code() == Some(1), "{self}");
     }
 
     /// Nothing was moved, and the checksum is right all the same.
@@ -97,7 +102,7 @@ fn a_linked_section_is_cut_into_its_maps() {
 
 #[test]
 fn moved_programs_come_to_the_right_checksum() {
-    for program in &PROGRAMS {
+    for program in PROGRAMS.iter().chain(&VECTORS) {
         for mover in RIGHT {
             let all = run(program, mover, "all");
             all.assert_right(all.count("stops"));
@@ -130,16 +135,18 @@ fn a_refused_restore_leaves_all_as_it_was() {
 #[test]
 fn all_programs_have_one_checksum() {
     let checksum = |program| run(program, Mover::Second, "all").count("checksum");
-    let first = checksum(&PROGRAMS[0]);
-    assert_ne!(first, 0);
-    for program in &PROGRAMS {
-        assert_eq!(checksum(program), first, "{}", program.name);
+    for programs in [&PROGRAMS, &VECTORS] {
+        let first = checksum(&programs[0]);
+        assert_ne!(first, 0);
+        for program in programs {
+            assert_eq!(checksum(program), first, "{}", program.name);
+        }
     }
 }
 
 #[test]
 fn programs_with_old_pointers_die() {
-    for program in &PROGRAMS {
+    for program in PROGRAMS.iter().chain(&VECTORS) {
         for stop in stops(program) {
             for mover in FATAL {
                 run(program, mover, &stop).assert_killed();
@@ -150,12 +157,40 @@ fn programs_with_old_pointers_die() {
 
 #[test]
 fn programs_with_wrong_pointers_die_or_miscount() {
-    for program in &PROGRAMS {
+    for program in PROGRAMS.iter().chain(&VECTORS) {
         for stop in stops(program) {
-            let ended = run(program, WRONG, &stop);
-            let killed = ended.status.signal() == Some(SIGSEGV);
-            assert!(killed || ended.status.code() == Some(1), "{ended}");
+            run(program, WRONG, &stop).assert_killed_or_wrong();
         }
+    }
+}
+
+/// A pair of several pointers, of which only the first is moved, or each with another one's base. Where
+/// all pairs have one pointer, both are right.
+#[test]
+fn programs_with_vectors_need_every_pointer_and_its_own_base() {
+    for program in &VECTORS {
+        for stop in stops(program) {
+            run(program, FATAL_TO_VECTORS, &stop).assert_killed();
+            run(program, WRONG_FOR_VECTORS, &stop).assert_killed_or_wrong();
+        }
+    }
+    for program in &PROGRAMS {
+        for mover in [FATAL_TO_VECTORS, WRONG_FOR_VECTORS] {
+            run(program, mover, "0").assert_right(1);
+        }
+    }
+}
+
+/// As above, with pairs of several pointers: the pair is refused, and nothing of it is written.
+#[test]
+fn a_refused_restore_of_vectors_leaves_all_as_it_was() {
+    for program in &VECTORS {
+        let [short_table, twice] = REFUSED.map(|mover| run(program, mover, "0"));
+        short_table.assert_unmoved();
+        let last = &short_table.last;
+        assert_eq!(last, "refused 21 at 2, frame 2", "{short_table}");
+        twice.assert_unmoved();
+        assert_eq!(twice.last, "refused 26 at 4, frame 0", "{twice}");
     }
 }
 
@@ -191,6 +226,40 @@ fn every_shape_is_there() {
         }
         let by_rbp = deepest.count("frames-with-rbp-slots");
         assert_eq!(by_rbp > 0, name == "O2-fp", "{name}");
+    }
+}
+
+/// The shapes that the programs with vectors have to show.
+const OF_VECTORS: [&str; 11] = [
+    "null-pair",
+    "null-base",
+    "derived-from-null",
+    "object-itself",
+    "inside",
+    "one-past-the-end",
+    "before-the-start",
+    "base-not-listed-itself",
+    "deopt-values",
+    "slots-moved",
+    "pairs-of-several",
+];
+
+#[test]
+fn every_shape_of_vectors_is_there() {
+    for program in &VECTORS {
+        let name = program.name;
+        let deepest = run(program, Mover::Second, "0");
+        for shape in OF_VECTORS {
+            assert!(deepest.count(shape) > 0, "{name} has no {shape}");
+        }
+        for shape in ["other-pair", "base-of-no-object", "far-behind"] {
+            assert_eq!(deepest.count(shape), 0, "{name} has {shape}");
+        }
+        assert_eq!(deepest.count("frames"), 4, "{name}");
+        assert_eq!(deepest.count("pairs-of-256"), 1, "{name}");
+        // Three pairs of 2, 1 and 2, two of 4, two of 3 beside a null pair, and one of 256.
+        assert_eq!(deepest.count("pairs"), 9, "{name}");
+        assert_eq!(deepest.count("pointers"), 5 + 8 + 7 + 256, "{name}");
     }
 }
 

@@ -16,6 +16,7 @@ use treskibben_answers as answers;
 pub const LAST_MACHINE: u64 = 1;
 
 pub mod address_index;
+pub mod edition_calls;
 pub mod flat_sections;
 pub mod index_lookups;
 

@@ -1,0 +1,323 @@
+//! Moves every statepoint of a section in a hand-made frame. Which slots it has, and what it is refused by, follows here
+//! from what llvm-readobj printed and from the frame alone.
+
+use crate::compare::{owners, same};
+use crate::readobj::{Location, Printed, Record, Value};
+use std::collections::BTreeMap;
+
+/// What a target's frames are like: the DWARF numbers of the frame and the stack pointer, and how far below the end of
+/// a frame the frame pointer points, where it is one.
+#[derive(Clone, Copy)]
+pub struct Target {
+    machine: Machine,
+    frame_pointer: u16,
+    stack_pointer: u16,
+    below_end: u64,
+}
+
+impl Target {
+    pub fn named(name: &str) -> Target {
+        match name {
+            "x86_64" => Target {
+                machine: Machine::Amd64,
+                frame_pointer: 6,
+                stack_pointer: 7,
+                below_end: 8,
+            },
+            "aarch64" => Target {
+                machine: Machine::Aarch64,
+                frame_pointer: 29,
+                stack_pointer: 31,
+                below_end: 16,
+            },
+            _ => panic!("no target {name}"),
+        }
+    }
+}
+
+/// What came of a section's statepoints: how many were moved, how many pointers they had, the most that one pair had,
+/// and how many were refused by each number.
+#[derive(Debug, Default)]
+pub struct Seen {
+    pub moved: usize,
+    pub pointers: usize,
+    pub most: u64,
+    pub refused: BTreeMap<u64, usize>,
+}
+
+/// A frame of a thread that is made up: its stack and its two registers. Around its part of the stack, image bytes of
+/// others lie.
+struct Made {
+    address: u64,
+    frame_pointer: u64,
+    stack_pointer: u64,
+    first: u64,
+    image: Vec<u8>,
+}
+
+/// Where frames are made, and the bytes of others below and above.
+const STACK: u64 = 0x7ffd_0000_4000;
+const BEYOND: u64 = 48;
+
+/// The stack size that says that it is not known.
+const UNKNOWN: u64 = u64::MAX;
+
+/// Old starts, and how far apart they are; new ones, which are closer together, so that each object moves by a distance
+/// of its own.
+const OLD: u64 = 0x5000_0000_0000;
+const APART: u64 = 0x1000;
+const NEW: u64 = 0x6000_0000_0000;
+const CLOSER: u64 = 0x0ff8;
+
+/// The most pointers of a frame, and the most bytes of a location.
+const POINTERS: u64 = 256;
+const BYTES: u16 = 8 * 256;
+
+impl Made {
+    fn new(target: Target, address: u64, stack_size: u64) -> Made {
+        let length = if stack_size == UNKNOWN {
+            4096
+        } else {
+            stack_size
+        };
+        let image = (0..length + 2 * BEYOND)
+            .map(|at| (at * 37 + 11) as u8)
+            .collect();
+        let frame_pointer = STACK + length - target.below_end;
+        Made {
+            address,
+            frame_pointer,
+            stack_pointer: STACK,
+            first: STACK - BEYOND,
+            image,
+        }
+    }
+
+    fn set(&mut self, address: u64, word: u64) {
+        let at = (address - self.first) as usize;
+        self.image[at..at + 8].copy_from_slice(&word.to_le_bytes());
+    }
+
+    /// The addresses of all pointers of a location, where it is one of some.
+    fn slots(&self, target: Target, location: &Location) -> Option<Vec<u64>> {
+        let from = match location.value {
+            Value::Indirect(register, offset) if register == target.stack_pointer => {
+                (self.stack_pointer, offset)
+            }
+            Value::Indirect(register, offset) if register == target.frame_pointer => {
+                (self.frame_pointer, offset)
+            }
+            _ => return None,
+        };
+        let sized = location.size.is_multiple_of(8) && (8..=BYTES).contains(&location.size);
+        let address = from.0.wrapping_add_signed(from.1.into());
+        sized.then(|| {
+            (address..)
+                .step_by(8)
+                .take(usize::from(location.size) / 8)
+                .collect()
+        })
+    }
+}
+
+/// The pairs of a record, where it is a statepoint: three constants, of which the last is the number of values before
+/// the pairs.
+fn pairs(record: &Record) -> Option<Vec<[&Location; 2]>> {
+    let leading = record.locations.get(..3)?;
+    let count = leading.iter().map(|location| match location.value {
+        Value::Constant(count) => Some(count as usize),
+        _ => None,
+    });
+    let deopt = count.collect::<Option<Vec<usize>>>()?[2];
+    let pairs = record.locations.get(3 + deopt..)?;
+    let is_statepoint = pairs.len().is_multiple_of(2) && record.live_outs.is_empty();
+    is_statepoint.then(|| {
+        pairs
+            .chunks_exact(2)
+            .map(|pair| [&pair[0], &pair[1]])
+            .collect()
+    })
+}
+
+fn is_null(location: &Location) -> bool {
+    matches!(location.value, Value::Constant(0) | Value::ConstIndex(_, 0))
+}
+
+/// What a statepoint's move must be.
+enum Expected {
+    /// The number and the place.
+    Refused(u64, u64),
+    /// The slots of each pointer, base and derived; and the number of null pairs.
+    Moved(Vec<[u64; 2]>, u64),
+}
+
+fn expected(target: Target, made: &Made, stack_size: u64, pairs: &[[&Location; 2]]) -> Expected {
+    if stack_size == UNKNOWN {
+        return Expected::Refused(16, 0);
+    }
+    let (mut pointers, mut nulls) = (Vec::new(), 0);
+    for (number, [base, derived]) in pairs.iter().enumerate() {
+        let slots = [base, derived].map(|location| made.slots(target, location));
+        match slots {
+            _ if is_null(base) && is_null(derived) => nulls += 1,
+            [Some(bases), Some(deriveds)] if bases.len() == deriveds.len() => {
+                pointers.extend(
+                    bases
+                        .into_iter()
+                        .zip(deriveds)
+                        .map(|(base, derived)| [base, derived]),
+                );
+            }
+            _ => return Expected::Refused(18, number as u64),
+        }
+    }
+    if pointers.len() as u64 + nulls > POINTERS {
+        return Expected::Refused(17, 0);
+    }
+    Expected::Moved(pointers, nulls)
+}
+
+/// Fills the slots and makes the table: each base slot has an object of its own, and each derived slot that is no base
+/// slot points into its base's object, each at another place. Gives the image after the move.
+fn fill(made: &mut Made, pointers: &[[u64; 2]]) -> (Vec<u64>, Vec<u64>, Vec<u8>) {
+    let mut objects = BTreeMap::new();
+    for [base, _] in pointers {
+        let number = objects.len() as u64;
+        objects.entry(*base).or_insert(number);
+    }
+    for (base, number) in &objects {
+        made.set(*base, OLD + APART * number);
+    }
+    let mut after = Made {
+        image: Vec::new(),
+        ..*made
+    };
+    let mut content = objects
+        .iter()
+        .map(|(base, number)| (*base, OLD + APART * number))
+        .collect::<BTreeMap<_, _>>();
+    for (place, [base, derived]) in pointers.iter().enumerate() {
+        let inside = OLD + APART * objects[base] + 8 * (place as u64 + 1);
+        let old = *content.entry(*derived).or_insert(inside);
+        made.set(*derived, old);
+    }
+    after.image = made.image.clone();
+    for [base, derived] in pointers {
+        let number = objects[base];
+        let distance = (NEW + CLOSER * number).wrapping_sub(OLD + APART * number);
+        after.set(*derived, content[derived].wrapping_add(distance));
+    }
+    let old = (0..objects.len() as u64)
+        .map(|number| OLD + APART * number)
+        .collect();
+    let new = (0..objects.len() as u64)
+        .map(|number| NEW + CLOSER * number)
+        .collect();
+    (old, new, after.image)
+}
+
+/// The first difference, if there is one, and what was seen.
+pub fn compare(bytes: &[u8], printed: &Printed, target: Target) -> Result<Seen, String> {
+    let mut seen = Seen::default();
+    for ((function, start), record) in owners(printed).zip(&printed.records) {
+        let Some(pairs) = pairs(record) else { continue };
+        let stack_size = printed.functions[function].stack_size;
+        let made = Made::new(target, start + u64::from(record.offset), stack_size);
+        let within = |fault| format!("statepoint {}: {fault}", record.id);
+        one(bytes, target, made, stack_size, &pairs, &mut seen).map_err(within)?;
+    }
+    Ok(seen)
+}
+
+fn one(
+    bytes: &[u8],
+    target: Target,
+    mut made: Made,
+    stack_size: u64,
+    pairs: &[[&Location; 2]],
+    seen: &mut Seen,
+) -> Result<(), String> {
+    let expected = expected(target, &made, stack_size, pairs);
+    let pointers = match &expected {
+        Expected::Moved(pointers, _) => &pointers[..],
+        Expected::Refused(..) => &[],
+    };
+    let (old, new, after) = fill(&mut made, pointers);
+    let before = made.image.clone();
+    let second = library::second(target.machine, bytes, &mut made, &old, &new);
+    let second_image = std::mem::replace(&mut made.image, before.clone());
+    let proved = library::proved(target.machine, bytes, &mut made, &old, &new);
+    same("the second answer", second, proved)?;
+    same("the second image", second_image == made.image, true)?;
+    match expected {
+        Expected::Refused(number, place) => {
+            same("the refusal", proved, Err((number, place)))?;
+            same("the image is as it was", made.image == before, true)?;
+            *seen.refused.entry(number).or_default() += 1;
+        }
+        Expected::Moved(pointers, nulls) => {
+            same("the count", proved, Ok(pointers.len() as u64 + nulls))?;
+            same("the image after", made.image == after, true)?;
+            same(
+                "the image changed",
+                made.image != before,
+                !pointers.is_empty(),
+            )?;
+            seen.moved += 1;
+            seen.pointers += pointers.len();
+            let sizes = pairs
+                .iter()
+                .filter(|[base, _]| !is_null(base))
+                .map(|[base, _]| u64::from(base.size) / 8);
+            seen.most = seen.most.max(sizes.max().unwrap_or(0));
+        }
+    }
+    Ok(())
+}
+
+/// The two moves that are compared.
+mod library {
+    use super::{Machine, Made};
+
+    type Answer = Result<u64, (u64, u64)>;
+
+    pub fn proved(
+        _machine: Machine,
+        bytes: &[u8],
+        made: &mut Made,
+        old: &[u64],
+        new: &[u64],
+    ) -> Answer {
+        let frame = treskibben::Frame::new(made.address, made.frame_pointer, made.stack_pointer);
+        let table = treskibben::MoveTable::new(old, new);
+        let moved = treskibben::relocate(bytes, &mut made.image, made.first, table, frame);
+        moved
+            .map(|count| count as u64)
+            .map_err(|refusal| (refusal.number(), refusal.place()))
+    }
+
+    pub fn second(
+        _machine: Machine,
+        bytes: &[u8],
+        made: &mut Made,
+        old: &[u64],
+        new: &[u64],
+    ) -> Answer {
+        let (address, rbp, rsp) = (made.address, made.frame_pointer, made.stack_pointer);
+        let frame = reference::Frame {
+            address,
+            rbp,
+            rsp,
+            function: 0,
+        };
+        let moved = reference::relocate(bytes, &mut made.image, made.first, old, new, frame);
+        moved.map_err(|refusal| (refusal.number, refusal.place))
+    }
+}
+
+/// The machine of a target.
+#[derive(Clone, Copy)]
+pub enum Machine {
+    Amd64,
+    Aarch64,
+}
