@@ -18,7 +18,7 @@ use Rattle.relocate.specs.Code.{planEntry}
 use Rattle.relocate.specs.Relocation.{answer, moved}
 use Rattle.relocate.specs.Lists.{final}
 use Rattle.relocate_frame.proofs.Stages.{plan-on}
-use Rattle.thread.specs.Thread.{frameAt, framesFrom, passes, judged, pairsIn}
+use Rattle.thread.specs.Thread.{Thread, frameAt, framesFrom, passes, judged, pointersIn}
 use Rattle.thread.specs.Code.{movedIf}
 use Rattle.thread.proofs.Frames.{frames-step, frames-end, frames-start}
 use Rattle.thread_call.proofs.Few.{answer-few}
@@ -41,15 +41,15 @@ module _ (R : Restore) (im : List ℕ) (f : Frame) (m : Move) (e : m ≡ answer 
   unfolding judged passes
   judge-one k K z = let g : k + 1 ≡ suc k = omega arith in rw (← e, eq-eqb (m .number) 0 z, g)
 
-  count-one : (sum : ℕ) → sum + pairsIn R im (f ∷ fs) ≡ sum + m .count + pairsIn R im fs
-  unfolding pairsIn
+  count-one : (sum : ℕ) → sum + pointersIn R im (f ∷ fs) ≡ sum + m .count + pointersIn R im fs
+  unfolding pointersIn
   count-one sum = rw (← e) (omega arith)
 
-module _ (R : Restore) (im ns : List ℕ) (n : ℕ) (K : Move) where
+module _ (R : Restore) (im : List ℕ) (ns : Thread) (n : ℕ) (K : Move) where
   -- the first k frames are accepted, and have so many pairs
   pub record Judging (k sum : ℕ) : Type 0 where
     pub same : judged R im 0 (framesFrom ns n 0) K ≡ judged R im k (framesFrom ns (n - k) k) K
-    pub added : pairsIn R im (framesFrom ns n 0) ≡ sum + pairsIn R im (framesFrom ns (n - k) k)
+    pub added : pointersIn R im (framesFrom ns n 0) ≡ sum + pointersIn R im (framesFrom ns (n - k) k)
     pub few : sum ≤ R .most * k
     pub most : k ≤ n
 
@@ -74,15 +74,15 @@ module _ (R : Restore) (im ns : List ℕ) (n : ℕ) (K : Move) where
     judging-stop z = sym (j .same ∙ rw (frames-step ns n k l, ← e, ne-eqb (m .number) 0 z))
 
   pub judging-end : {k sum : ℕ} → Judging k sum → n ≤ k
-      → (judged R im 0 (framesFrom ns n 0) K ≡ K) × (pairsIn R im (framesFrom ns n 0) ≡ sum)
-  unfolding judged pairsIn
+      → (judged R im 0 (framesFrom ns n 0) K ≡ K) × (pointersIn R im (framesFrom ns n 0) ≡ sum)
+  unfolding judged pointersIn
   judging-end {k} {sum} j l =
       let z : sum + 0 ≡ sum = omega arith in
       (j .same ∙ rw (frames-end ns n k l), j .added ∙ rw (frames-end ns n k l, z))
 
 -- The moves.
 
-module _ (R : Restore) (im ns : List ℕ) (n : ℕ) where
+module _ (R : Restore) (im : List ℕ) (ns : Thread) (n : ℕ) where
   pub record Moving (k : ℕ) (now : List ℕ) : Type 0 where
     pub same : final R (framesFrom ns n 0) im ≡ final R (framesFrom ns (n - k) k) now
     pub long : length now ≡ length im

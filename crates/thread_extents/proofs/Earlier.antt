@@ -19,7 +19,7 @@ use Rattle.relocate.specs.declared.Frame.{Frame}
 use Rattle.relocate.specs.Plan.{recordsOf, stackSize}
 use Rattle.relocate.specs.Relocation.{Extent, extentOf}
 use Rattle.relocate_frame.proofs.Asking.{functions-inside, owner-number, size-is}
-use Rattle.thread.specs.Thread.{frameAt, framesFrom, share, sharesOne, apart}
+use Rattle.thread.specs.Thread.{Thread, frameAt, framesFrom, share, sharesOne, apart}
 use Rattle.thread.specs.Code.{sharesAny, Apart, Sited}
 use Rattle.thread.proofs.StretchesApart.{share-empty-2, apart-none, none-shares}
 use Rattle.thread.proofs.Frames.{frames-step, frames-end, frames-start}
@@ -44,7 +44,7 @@ module _ (s : List ℕ) (f : Frame) (t : Sited s f) where
 
 -- The extents that were kept.
 
-module _ (s ns : List ℕ) where
+module _ (s : List ℕ) (ns : Thread) where
   -- those of the first k frames, the last one first
   abbrev earlierOf : ℕ → List Extent
   earlierOf zero = []

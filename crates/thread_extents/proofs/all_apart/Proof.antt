@@ -5,16 +5,17 @@ use Rattle.relocate.specs.Relocation.{extentOf}
 use Rattle.thread.specs.Thread.{frameAt}
 use Rattle.thread_stretches.specs.Listed.{Listed}
 use Rattle.thread_stretches.proofs.Laws.{listed-none}
+use Rattle.thread.specs.Code.{threadOf}
 use borrow.Author.Needs.{needs}
 use Rattle.thread_extents.proofs.all_apart.Statement.{statement}
 use Rattle.thread_extents.proofs.all_apart.Tie as tie
 
 abbrev Inv-loop : tie.InvT-loop
-Inv-loop s frames count keys hits pairs₀ ends₀ kept₀ k₀ pairs ends kept k =
-    Listed (λ j. extentOf s (frameAt frames j) .start) (λ j. extentOf s (frameAt frames j) .end) k kept pairs ends × (k ≤ count) × (kept ≤ k)
+Inv-loop machine s frames count keys hits pairs₀ ends₀ kept₀ k₀ pairs ends kept k =
+    Listed (λ j. extentOf s (frameAt (threadOf machine frames) j) .start) (λ j. extentOf s (frameAt (threadOf machine frames) j) .end) k kept pairs ends × (k ≤ count) × (kept ≤ k)
 
 abbrev μ-loop : tie.MeasureT-loop
-μ-loop s frames count keys hits pairs₀ ends₀ kept₀ k₀ pairs ends kept k = count - k
+μ-loop machine s frames count keys hits pairs₀ ends₀ kept₀ k₀ pairs ends kept k = count - k
 
 loop-holds : tie.Need-loop-holds Inv-loop μ-loop
 loop-holds c = (listed-none _ _ _ _, omega arith, omega arith)

@@ -1,6 +1,7 @@
 use mathlib.Core.Path.{sym, _∙_}
 use native.Mathlib.Omega.{arith}
 use Rattle.wire.specs.Word.{Bytes}
+use Rattle.thread.specs.Thread.{frameAt}
 use Rattle.thread.specs.Code.{Sited}
 use Rattle.thread_extents.proofs.Earlier.{extent-is, sited-function, sited-size}
 use borrow.Author.Needs.{needs}
@@ -11,6 +12,7 @@ frame-at-requires : tie.Need-frame-at-requires
 frame-at-requires c κs = let s = c .before .before in let r = s .pre .0 .room in let l = s .pre .2 in omega arith
 
 of-frame-requires : tie.Need-of-frame-requires
+unfolding frameAt
 of-frame-requires c κs =
     let s = c .before .before .before in (s .pre .0 .section-right, s .pre .0 .most, s .pre .0 .gathered .sorted, rw (c .frame-at .ensures) (s .pre .0 .gathered .each _ (s .pre .2)), s .pre .0 .found)
 
@@ -22,8 +24,8 @@ stack-size-requires c κs =
     let e = c .of-frame .ensures in
     sited-function (q .args .s .now) (c .before .frame-at .result) t (q .pre .0 .section-right) w _ e
 
-add-t10 : tie.Need-add-t10
-add-t10 c =
+add-t11 : tie.Need-add-t11
+add-t11 c =
     let q = c .before .before .before .before .before .before in
     let t : Sited (q .args .s .now) (c .before .before .before .frame-at .result) = rw (c .before .before .before .frame-at .ensures) (q .pre .1 .at _ (q .pre .2)) in
     let w : Bytes (q .args .s .now) = record { below = λ i. c .before .before .before .before .before .shared-slice-known .given i .fits } in
@@ -48,5 +50,5 @@ extent-spec =
     frame-at-requires
     of-frame-requires
     stack-size-requires
-    add-t10
+    add-t11
     returns)

@@ -7,6 +7,7 @@ use Rattle.questions.proofs.Standing.{tables-inside}
 use Rattle.questions.proofs.Searched.{section-refused, section-accepted}
 use Rattle.thread_index.specs.ByIndex.{threadByIndexAnswer}
 use Rattle.thread_index.proofs.Laws.{own-number, refused-so, moved-so, by-13, by-14, by-27, by-29, by-call}
+use Rattle.thread.specs.Code.{threadOf}
 use borrow.Author.Needs.{needs}
 use Rattle.thread_index.proofs.relocate_thread_by_index.Statement.{statement}
 use Rattle.thread_index.proofs.relocate_thread_by_index.Tie as tie
@@ -26,7 +27,7 @@ returns c =
     let a = c .before .before .before .before .before .before .before .before .before .before .before .args in
     let f = c .before .before .before .before .check .result .found in
     let o = sym (c .before .before .of-section .ensures) ∙ c .before .if1 .taken in
-    refused-so (restore (a .section .now) (a .olds .now) (a .news .now) (a .first)) (a .image .now) (a .index .now) (a .list .now) (f .number)
+    refused-so (restore (a .section .now) (a .olds .now) (a .news .now) (a .first)) (a .image .now) (a .index .now) (threadOf (a .machine) (a .list .now)) (f .number)
     (f .place) (own-number f o) (c .refused .ensures) (section-refused (a .section .now) 0 f
     (c .before .before .before .before .check .ensures .0) refusedMove _ o)
 
@@ -59,9 +60,9 @@ returns-2 c =
     let i = sym (c .before .before .before .before .before .before .image-right .ensures) ∙ c .before .before .before .before .before .if2 .taken in
     let t = sym (c .before .before .before .before .table-right .ensures) ∙ c .before .before .before .if3 .taken in
     let o = sym (c .before .before .is-old .ensures) ∙ c .before .if4 .taken in
-    refused-so (restore (a .section .now) (a .olds .now) (a .news .now) (a .first)) (a .image .now) (a .index .now) (a .list .now) 27 0
+    refused-so (restore (a .section .now) (a .olds .now) (a .news .now) (a .first)) (a .image .now) (a .index .now) (threadOf (a .machine) (a .list .now)) 27 0
     (λ z. omega arith) (c .refused2 .ensures) (by-27 (restore (a .section .now) (a .olds .now) (a .news .now) (a .first)) (a .image .now)
-    (a .index .now) (a .list .now) h i t o)
+    (a .index .now) (threadOf (a .machine) (a .list .now)) h i t o)
 
 relocate-thread-requires : tie.Need-relocate-thread-requires
 relocate-thread-requires c κs = search needs
@@ -81,8 +82,8 @@ returns-3 c =
     let t = sym (c .before .before .before .before .before .before .before .before .table-right .ensures) ∙ c .before .before .before .before .before .before .before .if3 .taken in
     let o = sym (c .before .before .before .before .before .before .is-old .ensures) ∙ c .before .before .before .before .before .if4 .left in
     let r = sym (c .before .before .before .before .before .before .before .before .before .before .before .before .before .before .check .ensures .1 h o) ∙ c .before .before .before .before .if5 .taken in
-    moved-so (restore (a .section .now) (a .olds .now) (a .news .now) (a .first)) (a .image .now) (a .index .now) (a .list .now)
-    (by-call (restore (a .section .now) (a .olds .now) (a .news .now) (a .first)) (a .image .now) (a .index .now) (a .list .now) h i t o r)
+    moved-so (restore (a .section .now) (a .olds .now) (a .news .now) (a .first)) (a .image .now) (a .index .now) (threadOf (a .machine) (a .list .now))
+    (by-call (restore (a .section .now) (a .olds .now) (a .news .now) (a .first)) (a .image .now) (a .index .now) (threadOf (a .machine) (a .list .now)) h i t o r)
     (c .before .before .relocate-thread .ensures)
 
 refused-requires-3 : tie.Need-refused-requires-3
@@ -100,9 +101,9 @@ returns-4 c =
     let t = sym (c .before .before .before .before .before .table-right .ensures) ∙ c .before .before .before .before .if3 .taken in
     let o = sym (c .before .before .before .is-old .ensures) ∙ c .before .before .if4 .left in
     let r = sym (c .before .before .before .before .before .before .before .before .before .before .before .check .ensures .1 h o) ∙ c .before .if5 .left in
-    refused-so (restore (a .section .now) (a .olds .now) (a .news .now) (a .first)) (a .image .now) (a .index .now) (a .list .now) 29 0
+    refused-so (restore (a .section .now) (a .olds .now) (a .news .now) (a .first)) (a .image .now) (a .index .now) (threadOf (a .machine) (a .list .now)) 29 0
     (λ z. omega arith) (c .refused3 .ensures) (by-29 (restore (a .section .now) (a .olds .now) (a .news .now) (a .first)) (a .image .now)
-    (a .index .now) (a .list .now) h i t o r)
+    (a .index .now) (threadOf (a .machine) (a .list .now)) h i t o r)
 
 refused-requires-4 : tie.Need-refused-requires-4
 refused-requires-4 c κs = search needs
@@ -115,9 +116,9 @@ returns-5 c =
     (sym (c .before .before .before .before .before .before .of-section .ensures) ∙ c .before .before .before .before .before .if1 .left) in
     let i = sym (c .before .before .before .before .image-right .ensures) ∙ c .before .before .before .if2 .taken in
     let t = sym (c .before .before .table-right .ensures) ∙ c .before .if3 .left in
-    refused-so (restore (a .section .now) (a .olds .now) (a .news .now) (a .first)) (a .image .now) (a .index .now) (a .list .now) 14 0
+    refused-so (restore (a .section .now) (a .olds .now) (a .news .now) (a .first)) (a .image .now) (a .index .now) (threadOf (a .machine) (a .list .now)) 14 0
     (λ z. omega arith) (c .refused4 .ensures) (by-14 (restore (a .section .now) (a .olds .now) (a .news .now) (a .first)) (a .image .now)
-    (a .index .now) (a .list .now) h i t)
+    (a .index .now) (threadOf (a .machine) (a .list .now)) h i t)
 
 refused-requires-5 : tie.Need-refused-requires-5
 refused-requires-5 c κs = search needs
@@ -129,9 +130,9 @@ returns-6 c =
     (c .before .before .before .before .before .before .check .ensures .0)
     (sym (c .before .before .before .before .of-section .ensures) ∙ c .before .before .before .if1 .left) in
     let i = sym (c .before .before .image-right .ensures) ∙ c .before .if2 .left in
-    refused-so (restore (a .section .now) (a .olds .now) (a .news .now) (a .first)) (a .image .now) (a .index .now) (a .list .now) 13 0
+    refused-so (restore (a .section .now) (a .olds .now) (a .news .now) (a .first)) (a .image .now) (a .index .now) (threadOf (a .machine) (a .list .now)) 13 0
     (λ z. omega arith) (c .refused5 .ensures) (by-13 (restore (a .section .now) (a .olds .now) (a .news .now) (a .first)) (a .image .now)
-    (a .index .now) (a .list .now) h i)
+    (a .index .now) (threadOf (a .machine) (a .list .now)) h i)
 
 pub relocate-thread-by-index-spec : {M : Type 1} → statement M
 relocate-thread-by-index-spec =
