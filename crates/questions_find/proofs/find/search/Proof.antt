@@ -101,27 +101,27 @@ note-requires c κs =
     let i = here-inside _ _ _ _ _ _ (w .inside) (sym (c .before .before .before .before .record-at .ensures) ∙ c .before .before .end .given .1) in
     (c .owner-address .ensures, i, omega (arith, l .inv .1, l .inv .2), omega (arith, l .inv .3))
 
-sub-t28 : tie.Need-sub-t28 Inv-loop μ-loop
-sub-t28 c = let b = c .before .before .before .before .before .before .before .before .pass .ensures .owned (omega arith) .some in omega arith
+sub-t26 : tie.Need-sub-t26 Inv-loop μ-loop
+sub-t26 c = let b = c .before .before .before .before .before .before .before .pass .ensures .owned (omega arith) .some in omega arith
 
 sub-remaining : tie.Need-sub-remaining Inv-loop μ-loop
 sub-remaining c = search needs
 
 loop-less : tie.Need-loop-less Inv-loop μ-loop
-loop-less c = let n = c .before .before .before .before .before .before .before .before .pass .ensures .counted in omega arith
+loop-less c = let n = c .before .before .before .before .before .before .before .pass .ensures .counted in omega arith
 
 loop-again : tie.Need-loop-again Inv-loop μ-loop
 loop-again c =
-    let q = c .before .before .before .before .before .before .before .before .before .before .before .before .before .before .before .before in
-    let l = c .before .before .before .before .before .before .before .before .before .before .loop in
-    let s = c .before .before .before .before .before .before .before .before .pass in
+    let q = c .before .before .before .before .before .before .before .before .before .before .before .before .before .before .before in
+    let l = c .before .before .before .before .before .before .before .before .before .loop in
+    let s = c .before .before .before .before .before .before .before .pass in
     let t = s .ensures in
     let n = t .counted in
     let o = t .owned (omega arith) in
-    let f = fold-on (noted (q .args .address)) (s .result .next) (s .result .left) (kept-on (q .args .address) (c .before .before .before .before .before .before .before .before .before .before .before .before .before .u32-at2 .result) t (l .inv .2) (l .inv .0)) (t .same) (o .some) (o .begun) (o .most) (omega arith)
-    (sym (c .before .before .before .before .before .before .record-at .ensures) ∙ c .before .before .before .before .end .given .1) in
-    let z : c .before .before .before .before .before .before .before .before .before .before .before .before .before .u32-at2 .result - (s .result .remaining - 1) ≡ c .before .before .before .before .before .before .before .before .before .before .before .before .before .u32-at2 .result - s .result .remaining + 1 = omega (arith, l .inv .2) in
-    (rw (c .before .note .ensures .0, z) f, omega (arith, c .before .note .ensures .1, z), omega (arith, l .inv .2), l .inv .3)
+    let f = fold-on (noted (q .args .address)) (s .result .next) (s .result .left) (kept-on (q .args .address) (c .before .before .before .before .before .before .before .before .before .before .before .before .u32-at2 .result) t (l .inv .2) (l .inv .0)) (t .same) (o .some) (o .begun) (o .most) (omega arith)
+    (sym (c .before .before .before .before .before .record-at .ensures) ∙ c .before .before .before .end .given .1) in
+    let z : c .before .before .before .before .before .before .before .before .before .before .before .before .u32-at2 .result - (s .result .remaining - 1) ≡ c .before .before .before .before .before .before .before .before .before .before .before .before .u32-at2 .result - s .result .remaining + 1 = omega (arith, l .inv .2) in
+    (rw (c .note .ensures .0, z) f, omega (arith, c .note .ensures .1, z), omega (arith, l .inv .2), l .inv .3)
 
 ended-requires-2 : tie.Need-ended-requires-2 Inv-loop μ-loop
 ended-requires-2 c κs = search needs
@@ -156,7 +156,7 @@ search-spec =
     cast-index
     sub-note
     note-requires
-    sub-t28
+    sub-t26
     sub-remaining
     loop-less
     loop-again
