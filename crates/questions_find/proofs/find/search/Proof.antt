@@ -46,7 +46,9 @@ ended-requires c κs = search needs
 returns : tie.Need-returns Inv-loop μ-loop
 returns c =
     let l = c .before .before .before .before .loop in
-    answered (c .before .before .before .before .before .before .before .before .before .before .args .address) (c .ended .result) (c .before .before .before .before .before .before .before .before .u32-at .ensures) (kept-on _ _ (c .before .before .pass .ensures) (l .inv .2) (l .inv .0)) (c .before .if1 .taken) (c .ended .ensures .0) (c .ended .ensures .1)
+    let e = c .ended .ensures in
+    let k = kept-on _ _ (c .before .before .pass .ensures) (l .inv .2) (l .inv .0) in
+    answered (c .before .before .before .before .before .before .before .before .before .before .args .address) (c .ended .result) (c .before .before .before .before .before .before .before .before .u32-at .ensures) k (c .before .if1 .taken) (e .0) (e .1)
 
 sub-record-at : tie.Need-sub-record-at Inv-loop μ-loop
 sub-record-at c = let b = c .before .pass .ensures .owned (omega arith) .begun in omega arith
@@ -56,7 +58,8 @@ record-at-requires c κs =
     let l = c .before .before .before .loop in
     let t = c .before .pass .ensures in
     let o = t .owned (omega arith) in
-    (c .before .before .before .before .before .is-old .ensures, c .before .before .before .before .before .before .before .before .before .pre .0 .inside, (λ z. let m = o .most z in let b = o .begun in omega arith), kept-on _ _ t (l .inv .2) (l .inv .0) .walking .inside)
+    let i = c .before .before .before .before .before .before .before .before .before .pre .0 .inside in
+    (c .before .before .before .before .before .is-old .ensures, i, (λ z. let m = o .most z in let b = o .begun in omega arith), kept-on _ _ t (l .inv .2) (l .inv .0) .walking .inside)
 
 enum-known-n : tie.Need-enum-known-n Inv-loop μ-loop
 enum-known-n c = search needs
@@ -67,10 +70,12 @@ refused-requires c κs = search needs
 returns-2 : tie.Need-returns-2 Inv-loop μ-loop
 returns-2 c =
     let l = c .before .before .before .before .before .before .before .before .loop in
-    let t = c .before .before .before .before .before .before .pass .ensures in
-    c .refused .ensures
-    ∙ ask-stop _ _ (c .before .before .before .before .before .before .before .before .before .before .before .before .u32-at .ensures) (kept-on _ _ t (l .inv .2) (l .inv .0)) (c .before .before .before .before .before .before .pass .result .next) (c .before .before .before .before .before .before .pass .result .left) (t .same) (t .owned (omega arith) .some)
-    (sym (c .before .before .before .before .record-at .ensures) ∙ c .before .before .n .given .1)
+    let s = c .before .before .before .before .before .before .pass in
+    let t = s .ensures in
+    let k = kept-on _ _ t (l .inv .2) (l .inv .0) in
+    let n = c .before .before .before .before .before .before .before .before .before .before .before .before .u32-at .ensures in
+    let v = sym (c .before .before .before .before .record-at .ensures) ∙ c .before .before .n .given .1 in
+    c .refused .ensures ∙ ask-stop _ _ n k (s .result .next) (s .result .left) (t .same) (t .owned (omega arith) .some) v
 
 enum-known-end : tie.Need-enum-known-end Inv-loop μ-loop
 enum-known-end c = search needs
@@ -81,7 +86,8 @@ sub-owner-address c = let b = c .before .before .before .before .before .pass .e
 owner-address-requires : tie.Need-owner-address-requires Inv-loop μ-loop
 owner-address-requires c κs =
     let o = c .before .before .before .before .before .pass .ensures .owned (omega arith) in
-    (c .before .before .before .before .before .before .before .before .before .is-old .ensures, c .before .before .before .before .before .before .before .before .before .before .before .before .before .pre .0 .inside, λ z. let m = o .most z in let b = o .begun in omega arith)
+    let i = c .before .before .before .before .before .before .before .before .before .before .before .before .before .pre .0 .inside in
+    (c .before .before .before .before .before .before .before .before .before .is-old .ensures, i, λ z. let m = o .most z in let b = o .begun in omega arith)
 
 sub-index : tie.Need-sub-index Inv-loop μ-loop
 sub-index c = let n = c .before .before .before .before .before .before .pass .ensures .counted in let m = c .before .before .before .before .before .before .before .before .loop .inv .2 in omega arith
@@ -112,15 +118,17 @@ loop-less c = let n = c .before .before .before .before .before .before .before 
 
 loop-again : tie.Need-loop-again Inv-loop μ-loop
 loop-again c =
-    let q = c .before .before .before .before .before .before .before .before .before .before .before .before .before .before .before in
+    let a = c .before .before .before .before .before .before .before .before .before .before .before .before .before .before .before .args .address in
     let l = c .before .before .before .before .before .before .before .before .before .loop in
     let s = c .before .before .before .before .before .before .before .pass in
     let t = s .ensures in
     let n = t .counted in
     let o = t .owned (omega arith) in
-    let f = fold-on (noted (q .args .address)) (s .result .next) (s .result .left) (kept-on (q .args .address) (c .before .before .before .before .before .before .before .before .before .before .before .before .u32-at2 .result) t (l .inv .2) (l .inv .0)) (t .same) (o .some) (o .begun) (o .most) (omega arith)
-    (sym (c .before .before .before .before .before .record-at .ensures) ∙ c .before .before .before .end .given .1) in
-    let z : c .before .before .before .before .before .before .before .before .before .before .before .before .u32-at2 .result - (s .result .remaining - 1) ≡ c .before .before .before .before .before .before .before .before .before .before .before .before .u32-at2 .result - s .result .remaining + 1 = omega (arith, l .inv .2) in
+    let all = c .before .before .before .before .before .before .before .before .before .before .before .before .u32-at2 .result in
+    let v = sym (c .before .before .before .before .before .record-at .ensures) ∙ c .before .before .before .end .given .1 in
+    let k = kept-on a all t (l .inv .2) (l .inv .0) in
+    let f = fold-on (noted a) (s .result .next) (s .result .left) k (t .same) (o .some) (o .begun) (o .most) (omega arith) v in
+    let z : all - (s .result .remaining - 1) ≡ all - s .result .remaining + 1 = omega (arith, l .inv .2) in
     (rw (c .note .ensures .0, z) f, omega (arith, c .note .ensures .1, z), omega (arith, l .inv .2), l .inv .3)
 
 ended-requires-2 : tie.Need-ended-requires-2 Inv-loop μ-loop
@@ -128,7 +136,9 @@ ended-requires-2 c κs = search needs
 
 returns-3 : tie.Need-returns-3 Inv-loop μ-loop
 returns-3 c =
-    answered (c .before .before .before .before .before .before .before .before .args .address) (c .ended2 .result) (c .before .before .before .before .before .before .u32-at .ensures) (c .before .before .loop .inv .0) (omega arith) (c .ended2 .ensures .0) (c .ended2 .ensures .1)
+    let e = c .ended2 .ensures in
+    let n = c .before .before .before .before .before .before .u32-at .ensures in
+    answered (c .before .before .before .before .before .before .before .before .args .address) (c .ended2 .result) n (c .before .before .loop .inv .0) (omega arith) (e .0) (e .1)
 
 pub search-spec : {M : Type 1} → statement M
 search-spec =
