@@ -160,6 +160,17 @@ module _ (old : Bool) (s : List ℕ) (limit at : ℕ) where
   three-cover (suc (suc (suc zero))) h k x y z = more 2 (more 1 (alone old s limit at x) y) z
   three-cover (suc (suc (suc (suc n)))) h k x y z = absurd (omega arith)
 
+  -- three to fifteen, by threes
+  pub cover-threes : (n : ℕ) → 3 ≤ n → n ≤ 15 → Rights old s limit at 3 → Rights old s limit (at + size old * (3 - (6 - n))) 3
+      → Rights old s limit (at + size old * (6 - (9 - n))) 3 → Rights old s limit (at + size old * (n - 6)) 3 → Rights old s limit (at + size old * (n - 3)) 3
+      → Rights old s limit at n
+  cover-threes n h k v w x y z =
+      let e : n - 3 + 3 ≡ n = omega arith in
+      let vw = join 3 (3 - (6 - n)) 3 (omega arith) v w in
+      let vwx = join (3 - (6 - n) + 3) (6 - (9 - n)) 3 (omega arith) vw x in
+      let vwxy = join (6 - (9 - n) + 3) (n - 6) 3 (omega arith) vwx y in
+      rw e at (join (n - 6 + 3) (n - 3) 3 (omega arith) vwxy z)
+
   -- four to sixteen, by fours
   pub cover : (n : ℕ) → 4 ≤ n → n ≤ 16 → Rights old s limit at 4 → Rights old s limit (at + size old * (4 - (8 - n))) 4
       → Rights old s limit (at + size old * (n - 8)) 4 → Rights old s limit (at + size old * (n - 4)) 4 → Rights old s limit at n
@@ -168,6 +179,14 @@ module _ (old : Bool) (s : List ℕ) (limit at : ℕ) where
       let xy = join 4 (4 - (8 - n)) 4 (omega arith) x y in
       let xyz = join (4 - (8 - n) + 4) (n - 8) 4 (omega arith) xy z in
       rw e at (join (n - 8 + 4) (n - 4) 4 (omega arith) xyz w)
+
+pub low-three : (old : Bool) (s : List ℕ) (at : ℕ) → Bytes s → Low old (bitOr (bitOr (less s at) (less s (at + size old * 1))) (less s (at + size old * 2)))
+    → (limit : ℕ) → Rights old s limit at 3
+low-three old s at b h limit =
+    let l = low-left old (bitOr (less s at) (less s (at + size old * 1))) (less s (at + size old * 2)) h in
+    three-cover old s limit at 3 (omega arith) (omega arith) (of-low s at b old (low-left old (less s at) (less s (at + size old * 1)) l) limit)
+    (of-low s (at + size old * 1) b old (low-right old (less s at) (less s (at + size old * 1)) l) limit)
+    (of-low s (at + size old * 2) b old (low-right old (bitOr (less s at) (less s (at + size old * 1))) (less s (at + size old * 2)) h) limit)
 
 pub low-four : (old : Bool) (s : List ℕ) (at : ℕ) → Bytes s → Low old (lessFour old s at) → (limit : ℕ) → Rights old s limit at 4
 low-four old s at b h limit =
@@ -208,6 +227,33 @@ pub covered : (old : Bool) (s : List ℕ) (limit at n a b c d p q r : ℕ) → 4
 covered old s limit at n a b c d p q r h k e l x y z w =
     let each = low-each old a b c d l in
     cover old s limit at n h k (x (each .0)) (rw (e .0) at (y (each .1))) (rw (e .1) at (z (each .2))) (rw (e .2) at (w (each .3)))
+
+-- The places of five looks at three, worked out in bytes, and what they tell together.
+
+pub up-to-three : (old : Bool) (n : ℕ) → 3 ≤ n → size old * 3 - (size old * 3 - (size old * n - size old * 3)) ≡ size old * (3 - (6 - n))
+up-to-three true n h = omega arith
+up-to-three false n h = omega arith
+
+pub up-to-six : (old : Bool) (n : ℕ) → 3 ≤ n → size old * 6 - (size old * 6 - (size old * n - size old * 3)) ≡ size old * (6 - (9 - n))
+up-to-six true n h = omega arith
+up-to-six false n h = omega arith
+
+pub before-last : (old : Bool) (n : ℕ) → 3 ≤ n → size old * n - size old * 3 - size old * (3 - (6 - n)) ≡ size old * (n - 6)
+before-last true n h = omega arith
+before-last false n h = omega arith
+
+pub last-three : (old : Bool) (n : ℕ) → 3 ≤ n → (size old * n - size old * 3 ≡ size old * (n - 3)) × (size old * 3 ≤ size old * n)
+last-three true n h = (omega arith, omega arith)
+last-three false n h = (omega arith, omega arith)
+
+pub covered-by-threes : (old : Bool) (s : List ℕ) (limit at n a b c d e p q r t : ℕ) → 3 ≤ n → n ≤ 15
+    → (p ≡ at + size old * (3 - (6 - n))) × (q ≡ at + size old * (6 - (9 - n))) × (r ≡ at + size old * (n - 6)) × (t ≡ at + size old * (n - 3))
+    → Low old (bitOr (together a b c d) e) → (Low old a → Rights old s limit at 3) → (Low old b → Rights old s limit p 3)
+    → (Low old c → Rights old s limit q 3) → (Low old d → Rights old s limit r 3) → (Low old e → Rights old s limit t 3) → Rights old s limit at n
+covered-by-threes old s limit at n a b c d e p q r t h k i l v w x y z =
+    let each = low-each old a b c d (low-left old (together a b c d) e l) in
+    cover-threes old s limit at n h k (v (each .0)) (rw (i .0) at (w (each .1))) (rw (i .1) at (x (each .2))) (rw (i .2) at (y (each .3)))
+    (rw (i .3) at (z (low-right old (together a b c d) e l)))
 
 -- Up to eight zero bytes together.
 

@@ -4,11 +4,13 @@
 ghost use mathlib.Core.Path.{_≡_};
 ghost use Prim.Native.Nat.{_+_, _^_, _≤_, _<_};
 ghost use lib.ListN.{length};
+ghost use lib.Dec.{eqb};
 ghost use Rattle.stackmap.specs.Section.{numFunctions, isOld, recordsAt, entries};
 ghost use Rattle.stackmap.specs.Check.{walkCheck};
 ghost use Rattle.stackmap.specs.Walk.{ownerAt, entryAt, Walkable};
 ghost use Rattle.stackmap.specs.Layout.{headerSize};
 ghost use Rattle.questions.specs.Kept.{noted, searched, namedFound, ofSection};
+ghost use Rattle.questions.proofs.Kept.{hitsAnswer};
 ghost use Rattle.questions.specs.Questions.{ask, withAddress, notFound, firstOf, byAddress, byFunction};
 use questions::Found;
 use questions::Hits;
@@ -74,43 +76,12 @@ pub fn note(
     }
 }
 
-// The walk from the first record's byte: all records, with what the search keeps; then 9, then 10.
-fn search(s: &[u8], at: usize, address: u64) -> Found
-    requires { ⌜ Walkable (now s) × (at ≡ recordsAt (now s)) × (at ≤ length (now s)) ⌝ }
-    ensures { λ r. ⌜ r ≡ ask notFound (firstOf (withAddress address (entries (now (s .entry))))) (walkCheck (now (s .entry))) ⌝ }
+// The answer of a walk that ended at `at`: 9 if that is not the section's end, 10 if nothing was kept, or what was.
+fn ended(s: &[u8], at: usize, hits: Hits) -> Found
+    ensures { λ r. ⌜ (at ≡ length (now (s .entry)) → r ≡ hitsAnswer (eqb (hits .sharing) 0) hits) × ((at ≡ length (now (s .entry)) → ⊥) → r ≡ notFound 9 at) ⌝ }
 {
-    let constants = wire::u32_at(s, layout::NUM_CONSTANTS_AT);
-    let mut remaining = wire::u32_at(s, layout::NUM_RECORDS_AT);
-    let mut index: usize = 0;
-    let old = tables::is_old(s);
-    let mut turn = walk::start(s, old);
-    let mut p = at;
-    let mut hits = Hits {
-        index: 0,
-        function: 0,
-        sharing: 0,
-        first: 0,
-    };
-    while remaining > 0 {
-        let t = walk::owner(s, turn);
-        let next = t.next;
-        match walk::record_at(s, old, constants, next - 1, p) {
-            Verdict::Refused(n, q) => return refused(n, q),
-            Verdict::Valid(end) => {
-                let start = walk::owner_address(s, old, next - 1);
-                hits = note(s, start, address, index, next - 1, p, hits);
-                p = end;
-            }
-        }
-        turn = Turn {
-            next,
-            left: t.left - 1,
-        };
-        index += 1;
-        remaining -= 1;
-    }
-    if p != s.len() {
-        return refused(9, p);
+    if at != s.len() {
+        return refused(9, at);
     }
     if hits.sharing == 0 {
         return refused(NOT_FOUND, 0);
@@ -123,6 +94,50 @@ fn search(s: &[u8], at: usize, address: u64) -> Found
         sharing: hits.sharing,
         first: hits.first,
     }
+}
+
+// The walk from the first record's byte: all records, with what the search keeps; then 9, then 10.
+fn search(s: &[u8], at: usize, address: u64) -> Found
+    requires { ⌜ Walkable (now s) × (at ≡ recordsAt (now s)) × (at ≤ length (now s)) ⌝ }
+    ensures { λ r. ⌜ r ≡ ask notFound (firstOf (withAddress address (entries (now (s .entry))))) (walkCheck (now (s .entry))) ⌝ }
+{
+    let constants = wire::u32_at(s, layout::NUM_CONSTANTS_AT);
+    let count = wire::u32_at(s, layout::NUM_RECORDS_AT);
+    let old = tables::is_old(s);
+    let mut remaining = count;
+    let mut turn = walk::start(s, old);
+    let mut p = at;
+    let mut hits = Hits {
+        index: 0,
+        function: 0,
+        sharing: 0,
+        first: 0,
+    };
+    while remaining > 0 {
+        let stop = walk::pass(s, old, constants, turn, p, remaining, address);
+        let ahead = stop.remaining;
+        let here = stop.at;
+        if ahead == 0 {
+            return ended(s, here, hits);
+        }
+        let next = stop.next;
+        let left = stop.left;
+        match walk::record_at(s, old, constants, next - 1, here) {
+            Verdict::Refused(n, q) => return refused(n, q),
+            Verdict::Valid(end) => {
+                let start = walk::owner_address(s, old, next - 1);
+                let index = (count - ahead) as usize;
+                hits = note(s, start, address, index, next - 1, here, hits);
+                p = end;
+            }
+        }
+        turn = Turn {
+            next,
+            left: left - 1,
+        };
+        remaining = ahead - 1;
+    }
+    ended(s, p, hits)
 }
 
 // The first record with the address, or at the offset in version 1; or 10 exactly if there is none.

@@ -2,13 +2,17 @@
 // No entry point: it requires the tables to be inside and their counts to add up, which `tables::begin` has tested.
 ghost use mathlib.Core.Path.{_≡_};
 ghost use mathlib.Core.Bool.{false};
-ghost use Prim.Native.Nat.{_≤_, _<_};
+ghost use Prim.Native.Nat.{_+_, _≤_, _<_};
 ghost use lib.ListN.{length, drop};
+ghost use Rattle.wire.specs.Word.{word};
+ghost use Rattle.stackmap.specs.declared.Verdict.the-variants.{Valid};
 ghost use Rattle.stackmap.specs.Verdict.{shift};
-ghost use Rattle.stackmap.specs.Section.{numFunctions, numConstants, numRecords, isOld, constantsAt, readFunctions, recordOwners};
+ghost use Rattle.stackmap.specs.Section.{numFunctions, numConstants, numRecords, isOld, constantsAt, recordsAt, readFunctions, recordOwners};
 ghost use Rattle.stackmap.specs.Record.{recordCheck};
 ghost use Rattle.stackmap.specs.Check.{recordsCheck};
 ghost use Rattle.stackmap.specs.Walk.{ahead, ownerAt, firstTurn, Turning, Walkable};
+ghost use Rattle.stackmap.proofs.Turns.{Walking};
+ghost use Rattle.stackmap_check.specs.Pass.{Stopped};
 use stackmap::Turn;
 use stackmap::Verdict;
 use stackmap::layout;
@@ -88,6 +92,91 @@ fn next_record(s: &[u8], old: bool, constants: u32, function: usize, at: usize) 
         return Verdict::Valid(next);
     }
     exact_at(s, old, constants, address, at)
+}
+
+// Where a walk stops: whose turn it is, how many records are ahead, and where the next one begins.
+pub struct Stop {
+    pub next: usize,
+    pub left: u64,
+    pub remaining: u32,
+    pub at: usize,
+}
+
+// The end of the record at `at`, of a function at `start`; 0 if it has the address `wanted`.
+fn unless(s: &[u8], start: u64, at: usize, wanted: u64, end: usize) -> usize
+    requires { ⌜ at + 16 ≤ length (now s) ⌝ }
+    ensures { λ r. ⌜ (0 < r → (r ≡ end) × (start + word 4 (now (s .entry)) (at + 8) ≡ wanted → ⊥)) ⌝ }
+{
+    let offset = wire::u32_at(s, at + layout::INSTRUCTION_OFFSET_AT) as u64;
+    let gap = std::num::wrapping_sub_u64(wanted, start);
+    if gap == offset {
+        return 0;
+    }
+    end
+}
+
+// Where the record at `at`, of a function at `start`, ends, if quick looks find it right and it does not have the address; else 0.
+fn past(s: &[u8], old: bool, constants: u32, start: u64, at: usize, wanted: u64) -> usize
+    requires { ⌜ at ≤ length (now s) ⌝ }
+    ensures { λ r. ⌜ (0 < r → (shift at (recordCheck old (drop at (now (s .entry))) constants start) ≡ Valid r) × (start + word 4 (now (s .entry)) (at + 8) ≡ wanted → ⊥)) ⌝ }
+{
+    let end = quick::plain(s, old, start, at);
+    if end > 1 {
+        return unless(s, start, at, wanted, end);
+    }
+    let next = quick::other(s, old, constants, start, at, end == 1);
+    if next > 0 {
+        return unless(s, start, at, wanted, next);
+    }
+    0
+}
+
+// Passes over records from where a walk stands, while quick looks find them right and they do not have the address. One loop for all of
+// them keeps what it needs in registers; what is kept of a record that has the address is its caller's.
+pub fn pass(
+    s: &[u8],
+    old: bool,
+    constants: u32,
+    from: Turn,
+    at: usize,
+    count: u32,
+    wanted: u64,
+) -> Stop
+    requires { ⌜ (old ≡ isOld (now s)) × (constantsAt (now s) ≤ length (now s)) × Walking (now s) constants (recordsAt (now s)) (from .next) (from .left) count at ⌝ }
+    ensures { λ r. ⌜ Stopped (now (s .entry)) constants wanted (from .next) (from .left) count at (r .next) (r .left) (r .remaining) (r .at) ⌝ }
+{
+    let mut remaining = count;
+    let mut turn = from;
+    let mut p = at;
+    while remaining > 0 {
+        let t = owner(s, turn);
+        let next = t.next;
+        let left = t.left;
+        let start = owner_address(s, old, next - 1);
+        let end = past(s, old, constants, start, p, wanted);
+        if end == 0 {
+            return Stop {
+                next,
+                left,
+                remaining,
+                at: p,
+            };
+        }
+        p = end;
+        turn = Turn {
+            next,
+            left: left - 1,
+        };
+        remaining -= 1;
+    }
+    let next = turn.next;
+    let left = turn.left;
+    Stop {
+        next,
+        left,
+        remaining,
+        at: p,
+    }
 }
 
 // The turn before the first record: the first function is next, or all records are nobody's.

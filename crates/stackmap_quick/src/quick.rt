@@ -1,5 +1,5 @@
 // Quick looks at the record at a place of the section, of either version. They give where it ends, if it is right, and else say nothing:
-// `record` then names what is wrong. `plain` answers for up to sixteen locations without a ConstIndex and for no live-outs, and calls
+// `record` then names what is wrong. `plain` answers for up to fifteen locations without a ConstIndex and for no live-outs, and calls
 // nothing that is not compiled into it, so that what it needs stays in registers. `other` answers for the rest.
 ghost use mathlib.Core.Path.{_≡_};
 ghost use mathlib.Core.Bool.{true, false};
@@ -50,7 +50,7 @@ fn after_live_outs(s: &[u8], end: usize) -> usize
         return 0;
     }
     if padding_right(s, last, padding) {
-        if glance::live_outs(s, end + layout::LIVE_OUTS_HEAD_SIZE, outs) {
+        if glance_live_outs::live_outs(s, end + layout::LIVE_OUTS_HEAD_SIZE, outs) {
             return last + padding;
         }
     }
@@ -177,7 +177,7 @@ fn begun(
     }
     if head_right(s, at, address) {
         let limit = index_limit(constants);
-        return glance::any(s, old, at + layout::RECORD_HEAD_SIZE, count, limit);
+        return glance_any::any(s, old, at + layout::RECORD_HEAD_SIZE, count, limit);
     }
     false
 }

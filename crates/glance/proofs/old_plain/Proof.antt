@@ -10,14 +10,14 @@ few-requires c κs = (c .before .before .pre .0, c .before .before .pre .1, omeg
 returns : tie.Need-returns
 returns c = c .few .ensures
 
-old-sixteen-requires : tie.Need-old-sixteen-requires
-old-sixteen-requires c κs = (c .before .before .before .pre .0, omega arith, omega arith)
+old-fifteen-requires : tie.Need-old-fifteen-requires
+old-fifteen-requires c κs = (c .before .before .before .pre .0, omega arith, omega arith)
 
 returns-2 : tie.Need-returns-2
-returns-2 c = c .old-sixteen .ensures
+returns-2 c = c .old-fifteen .ensures
 
 returns-3 : tie.Need-returns-3
 returns-3 c = λ h. absurd (true≢false (sym h))
 
 pub old-plain-spec : {M : Type 1} → statement M
-old-plain-spec = tie.close (tie.spec few-requires returns old-sixteen-requires returns-2 returns-3)
+old-plain-spec = tie.close (tie.spec few-requires returns old-fifteen-requires returns-2 returns-3)

@@ -10,14 +10,14 @@ few-requires c κs = (c .before .before .pre .0, c .before .before .pre .1, omeg
 returns : tie.Need-returns
 returns c = c .few .ensures
 
-sixteen-requires : tie.Need-sixteen-requires
-sixteen-requires c κs = (c .before .before .before .pre .0, omega arith, omega arith)
+fifteen-requires : tie.Need-fifteen-requires
+fifteen-requires c κs = (c .before .before .before .pre .0, omega arith, omega arith)
 
 returns-2 : tie.Need-returns-2
-returns-2 c = c .sixteen .ensures
+returns-2 c = c .fifteen .ensures
 
 returns-3 : tie.Need-returns-3
 returns-3 c = λ h. absurd (true≢false (sym h))
 
 pub plain-spec : {M : Type 1} → statement M
-plain-spec = tie.close (tie.spec few-requires returns sixteen-requires returns-2 returns-3)
+plain-spec = tie.close (tie.spec few-requires returns fifteen-requires returns-2 returns-3)

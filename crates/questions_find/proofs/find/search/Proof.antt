@@ -1,22 +1,22 @@
--- One walk checks the records and keeps what the search finds.
+-- One walk checks the records and keeps what the search finds; it stops at records that may have the address.
 use Prim.Native.Nat.{_+_, _-_, _^_, _≤_, _<_}
 use mathlib.Core.Path.{_≡_, sym, _∙_}
 use native.Mathlib.Omega.{arith}
-use Rattle.stackmap.specs.Section.{entries}
-use Rattle.stackmap.proofs.OneWalk.{Folding, fold-start, fold-on, fold-end}
+use Rattle.stackmap.proofs.OneWalk.{Folding, fold-start, fold-on}
 use Rattle.stackmap.proofs.Within.{here-inside}
 use Rattle.questions.specs.Kept.{noHits, noted}
-use Rattle.questions.proofs.Kept.{found-none, found-some}
-use Rattle.questions.proofs.Asked.{ask-stop, ask-after, ask-whole}
+use Rattle.questions.proofs.Asked.{ask-stop}
 use borrow.Author.Needs.{needs}
+use Rattle.questions_find.proofs.Ends.{kept-on, answered}
 use Rattle.questions_find.proofs.find.search.Statement.{statement}
 use Rattle.questions_find.proofs.find.search.Tie as tie
 
 abbrev Inv-loop : tie.InvT-loop
-Inv-loop s at address constants remaining₀ index₀ old turn₀ p₀ hits₀ remaining index turn p hits = Folding (noted address) s constants noHits (turn .next) (turn .left) remaining index p hits × (hits .sharing ≤ index) × (index + remaining < 2 ^ 32)
+Inv-loop s at address constants count old remaining₀ turn₀ p₀ hits₀ remaining turn p hits =
+    Folding (noted address) s constants noHits (turn .next) (turn .left) remaining (count - remaining) p hits × (hits .sharing ≤ count - remaining) × (remaining ≤ count) × (count < 2 ^ 32)
 
 abbrev μ-loop : tie.MeasureT-loop
-μ-loop s at address constants remaining₀ index₀ old turn₀ p₀ hits₀ remaining index turn p hits = remaining
+μ-loop s at address constants count old remaining₀ turn₀ p₀ hits₀ remaining turn p hits = remaining
 
 u32-at-requires : tie.Need-u32-at-requires Inv-loop μ-loop
 u32-at-requires c κs = let w = c .before .pre .0 .inside in omega arith
@@ -33,21 +33,33 @@ start-requires c κs = (c .is-old .ensures, c .before .before .before .before .p
 loop-holds : tie.Need-loop-holds Inv-loop μ-loop
 loop-holds c =
     let q = c .before .before .before .before .before in
-    (fold-start (noted (q .args .address)) noHits (q .pre .0) (c .start .ensures) (q .pre .1) (q .pre .2) (c .before .before .u32-at2 .ensures), omega arith, omega arith)
+    let n = c .before .before .u32-at2 in
+    let z : n .result - n .result ≡ 0 = omega arith in
+    (rw z (fold-start (noted (q .args .address)) noHits (q .pre .0) (c .start .ensures) (q .pre .1) (q .pre .2) (n .ensures)), omega arith, omega arith, omega arith)
 
-owner-requires : tie.Need-owner-requires Inv-loop μ-loop
-owner-requires c κs =
-    let w = c .before .loop .inv .0 .walking in
-    let n = w .counted in
-    (c .before .before .before .before .before .before .before .pre .0 .inside, w .turning, omega arith)
+pass-requires : tie.Need-pass-requires Inv-loop μ-loop
+pass-requires c κs = (c .before .before .before .is-old .ensures, c .before .before .before .before .before .before .before .pre .0 .inside, c .before .loop .inv .0 .walking)
+
+ended-requires : tie.Need-ended-requires Inv-loop μ-loop
+ended-requires c κs = search needs
+
+returns : tie.Need-returns Inv-loop μ-loop
+returns c =
+    let l = c .before .before .before .before .loop in
+    let e = c .ended .ensures in
+    let k = kept-on _ _ (c .before .before .pass .ensures) (l .inv .2) (l .inv .0) in
+    answered (c .before .before .before .before .before .before .before .before .before .before .args .address) (c .ended .result) (c .before .before .before .before .before .before .before .before .u32-at .ensures) k (c .before .if1 .taken) (e .0) (e .1)
 
 sub-record-at : tie.Need-sub-record-at Inv-loop μ-loop
-sub-record-at c = search needs
+sub-record-at c = let b = c .before .pass .ensures .owned (omega arith) .begun in omega arith
 
 record-at-requires : tie.Need-record-at-requires Inv-loop μ-loop
 record-at-requires c κs =
-    let w = c .before .before .loop .inv .0 .walking in
-    (c .before .before .before .before .is-old .ensures, c .before .before .before .before .before .before .before .before .pre .0 .inside, (λ z. let m = c .owner .ensures .3 z in let k = c .owner .ensures .2 in omega arith), w .inside)
+    let l = c .before .before .before .loop in
+    let t = c .before .pass .ensures in
+    let o = t .owned (omega arith) in
+    let i = c .before .before .before .before .before .before .before .before .before .pre .0 .inside in
+    (c .before .before .before .before .before .is-old .ensures, i, (λ z. let m = o .most z in let b = o .begun in omega arith), kept-on _ _ t (l .inv .2) (l .inv .0) .walking .inside)
 
 enum-known-n : tie.Need-enum-known-n Inv-loop μ-loop
 enum-known-n c = search needs
@@ -55,78 +67,78 @@ enum-known-n c = search needs
 refused-requires : tie.Need-refused-requires Inv-loop μ-loop
 refused-requires c κs = search needs
 
-returns : tie.Need-returns Inv-loop μ-loop
-returns c =
-    c .refused .ensures
-    ∙ ask-stop _ _ (c .before .before .before .before .before .before .before .before .before .before .before .u32-at .ensures) (c .before .before .before .before .before .before .before .loop .inv .0) (c .before .before .before .before .before .owner .result .next) (c .before .before .before .before .before .owner .result .left) (c .before .before .before .before .before .owner .ensures .0) (c .before .before .before .before .before .owner .ensures .1)
-    (sym (c .before .before .before .before .record-at .ensures) ∙ c .before .before .n .given .1)
+returns-2 : tie.Need-returns-2 Inv-loop μ-loop
+returns-2 c =
+    let l = c .before .before .before .before .before .before .before .before .loop in
+    let s = c .before .before .before .before .before .before .pass in
+    let t = s .ensures in
+    let k = kept-on _ _ t (l .inv .2) (l .inv .0) in
+    let n = c .before .before .before .before .before .before .before .before .before .before .before .before .u32-at .ensures in
+    let v = sym (c .before .before .before .before .record-at .ensures) ∙ c .before .before .n .given .1 in
+    c .refused .ensures ∙ ask-stop _ _ n k (s .result .next) (s .result .left) (t .same) (t .owned (omega arith) .some) v
 
 enum-known-end : tie.Need-enum-known-end Inv-loop μ-loop
 enum-known-end c = search needs
 
 sub-owner-address : tie.Need-sub-owner-address Inv-loop μ-loop
-sub-owner-address c = search needs
+sub-owner-address c = let b = c .before .before .before .before .before .pass .ensures .owned (omega arith) .begun in omega arith
 
 owner-address-requires : tie.Need-owner-address-requires Inv-loop μ-loop
 owner-address-requires c κs =
-    (c .before .before .before .before .before .before .before .before .is-old .ensures, c .before .before .before .before .before .before .before .before .before .before .before .before .pre .0 .inside, λ z. let m = c .before .before .before .before .owner .ensures .3 z in let k = c .before .before .before .before .owner .ensures .2 in omega arith)
+    let o = c .before .before .before .before .before .pass .ensures .owned (omega arith) in
+    let i = c .before .before .before .before .before .before .before .before .before .before .before .before .before .pre .0 .inside in
+    (c .before .before .before .before .before .before .before .before .before .is-old .ensures, i, λ z. let m = o .most z in let b = o .begun in omega arith)
+
+sub-index : tie.Need-sub-index Inv-loop μ-loop
+sub-index c = let n = c .before .before .before .before .before .before .pass .ensures .counted in let m = c .before .before .before .before .before .before .before .before .loop .inv .2 in omega arith
+
+cast-index : tie.Need-cast-index Inv-loop μ-loop
+cast-index c = search needs
 
 sub-note : tie.Need-sub-note Inv-loop μ-loop
-sub-note c = search needs
+sub-note c = let b = c .before .before .before .before .before .before .pass .ensures .owned (omega arith) .begun in omega arith
 
 note-requires : tie.Need-note-requires Inv-loop μ-loop
 note-requires c κs =
-    let w = c .before .before .before .before .before .before .before .loop .inv .0 .walking in
+    let l = c .before .before .before .before .before .before .before .before .loop in
+    let t = c .before .before .before .before .before .before .pass .ensures in
+    let n = t .counted in
+    let w = kept-on _ _ t (l .inv .2) (l .inv .0) .walking in
     let i = here-inside _ _ _ _ _ _ (w .inside) (sym (c .before .before .before .before .record-at .ensures) ∙ c .before .before .end .given .1) in
-    (c .owner-address .ensures, i, c .before .before .before .before .before .before .before .loop .inv .1, omega arith)
+    (c .owner-address .ensures, i, omega (arith, l .inv .1, l .inv .2), omega (arith, l .inv .3))
 
-sub-t21 : tie.Need-sub-t21 Inv-loop μ-loop
-sub-t21 c = search needs
-
-add-index : tie.Need-add-index Inv-loop μ-loop
-add-index c = search needs
+sub-t26 : tie.Need-sub-t26 Inv-loop μ-loop
+sub-t26 c = let b = c .before .before .before .before .before .before .before .pass .ensures .owned (omega arith) .some in omega arith
 
 sub-remaining : tie.Need-sub-remaining Inv-loop μ-loop
 sub-remaining c = search needs
 
 loop-less : tie.Need-loop-less Inv-loop μ-loop
-loop-less c = search needs
+loop-less c = let n = c .before .before .before .before .before .before .before .pass .ensures .counted in omega arith
 
 loop-again : tie.Need-loop-again Inv-loop μ-loop
 loop-again c =
-    let q = c .before .before .before .before .before .before .before .before .before .before .before .before .before .before .before in
+    let a = c .before .before .before .before .before .before .before .before .before .before .before .before .before .before .before .args .address in
     let l = c .before .before .before .before .before .before .before .before .before .loop in
-    let o = c .before .before .before .before .before .before .before .owner in
-    let f = fold-on (noted (q .args .address)) (o .result .next) (o .result .left) (l .inv .0) (o .ensures .0) (o .ensures .1) (o .ensures .2) (o .ensures .3)
-    (c .before .before .before .before .before .before .before .before .loop-test .taken) (sym (c .before .before .before .before .before .before .record-at .ensures) ∙ c .before .before .before .before .end .given .1) in
-    (rw (c .before .note .ensures .0) f, c .before .note .ensures .1, omega arith)
+    let s = c .before .before .before .before .before .before .before .pass in
+    let t = s .ensures in
+    let n = t .counted in
+    let o = t .owned (omega arith) in
+    let all = c .before .before .before .before .before .before .before .before .before .before .before .before .u32-at2 .result in
+    let v = sym (c .before .before .before .before .before .record-at .ensures) ∙ c .before .before .before .end .given .1 in
+    let k = kept-on a all t (l .inv .2) (l .inv .0) in
+    let f = fold-on (noted a) (s .result .next) (s .result .left) k (t .same) (o .some) (o .begun) (o .most) (omega arith) v in
+    let z : all - (s .result .remaining - 1) ≡ all - s .result .remaining + 1 = omega (arith, l .inv .2) in
+    (rw (c .note .ensures .0, z) f, omega (arith, c .note .ensures .1, z), omega (arith, l .inv .2), l .inv .3)
 
-refused-requires-2 : tie.Need-refused-requires-2 Inv-loop μ-loop
-refused-requires-2 c κs = search needs
-
-returns-2 : tie.Need-returns-2 Inv-loop μ-loop
-returns-2 c =
-    c .refused2 .ensures ∙ ask-after _ _ (c .before .before .before .before .before .before .before .u32-at .ensures) (c .before .before .before .loop .inv .0) (omega arith) (c .before .if1 .taken)
-
-refused-requires-3 : tie.Need-refused-requires-3 Inv-loop μ-loop
-refused-requires-3 c κs = search needs
+ended-requires-2 : tie.Need-ended-requires-2 Inv-loop μ-loop
+ended-requires-2 c κs = search needs
 
 returns-3 : tie.Need-returns-3 Inv-loop μ-loop
 returns-3 c =
-    let q = c .before .before .before .before .before .before .before .before .before .before .before in
-    let none : c .before .before .before .before .before .loop .remaining ≡ 0 = omega arith in
-    let f = c .before .before .before .before .before .loop .inv .0 in
-    c .refused3 .ensures
-    ∙ sym (found-none (q .args .address) (entries (q .args .s .now)) (c .before .before .before .before .before .loop .hits) (fold-end (noted (q .args .address)) f none) (c .before .if2 .taken))
-    ∙ ask-whole _ _ (c .before .before .before .before .before .before .before .before .before .u32-at .ensures) f none (c .before .before .before .if1 .left)
-
-returns-4 : tie.Need-returns-4 Inv-loop μ-loop
-returns-4 c =
-    let q = c .before .before .before .before .before .before .before .before .before .before in
-    let none : c .before .before .before .before .loop .remaining ≡ 0 = omega arith in
-    let f = c .before .before .before .before .loop .inv .0 in
-    sym (found-some (q .args .address) (entries (q .args .s .now)) (c .before .before .before .before .loop .hits) (fold-end (noted (q .args .address)) f none) (c .if2 .left))
-    ∙ ask-whole _ _ (c .before .before .before .before .before .before .before .before .u32-at .ensures) f none (c .before .before .if1 .left)
+    let e = c .ended2 .ensures in
+    let n = c .before .before .before .before .before .before .u32-at .ensures in
+    answered (c .before .before .before .before .before .before .before .before .args .address) (c .ended2 .result) n (c .before .before .loop .inv .0) (omega arith) (e .0) (e .1)
 
 pub search-spec : {M : Type 1} → statement M
 search-spec =
@@ -139,24 +151,24 @@ search-spec =
     is-old-requires
     start-requires
     loop-holds
-    owner-requires
+    pass-requires
+    ended-requires
+    returns
     sub-record-at
     record-at-requires
     enum-known-n
     refused-requires
-    returns
+    returns-2
     enum-known-end
     sub-owner-address
     owner-address-requires
+    sub-index
+    cast-index
     sub-note
     note-requires
-    sub-t21
-    add-index
+    sub-t26
     sub-remaining
     loop-less
     loop-again
-    refused-requires-2
-    returns-2
-    refused-requires-3
-    returns-3
-    returns-4)
+    ended-requires-2
+    returns-3)
