@@ -7,8 +7,61 @@ use crate::heap::Table;
 use crate::image::Image;
 use treskibben::{Frames, MoveTable};
 
-/// A stopped frame: its address, RBP and RSP. The maps are of version 3, which reads no function of it.
-pub use treskibben::Frame;
+/// The machine that a program runs on.
+#[derive(Clone, Copy, Debug, PartialEq, Eq)]
+pub enum Machine {
+    /// x86-64.
+    Amd64,
+    /// AArch64.
+    Aarch64,
+}
+
+/// A stopped frame. The maps are of version 3, which reads no function of it.
+#[derive(Clone, Copy, Debug, PartialEq, Eq)]
+pub struct Frame {
+    /// Its record's address.
+    pub address: u64,
+    /// The content of the machine's frame pointer.
+    pub frame_pointer: u64,
+    /// The content of the machine's stack pointer.
+    pub stack_pointer: u64,
+}
+
+impl Frame {
+    /// The frame of these.
+    pub fn new(address: u64, frame_pointer: u64, stack_pointer: u64) -> Frame {
+        Frame {
+            address,
+            frame_pointer,
+            stack_pointer,
+        }
+    }
+
+    fn plain(self) -> treskibben::Frame {
+        treskibben::Frame::new(self.address, self.frame_pointer, self.stack_pointer)
+    }
+}
+
+/// Until the library knows machines: the map with the registers of AMD64 and AArch64 exchanged.
+fn of_amd64(map: &[u8], machine: Machine) -> Vec<u8> {
+    let mut map = map.to_vec();
+    if machine == Machine::Aarch64 {
+        let section = reference::read(&map).unwrap();
+        for record in &section.records {
+            for number in 0..record.locations.len() {
+                let at = record.first + 16 + 12 * number + 4;
+                map[at] = match map[at] {
+                    29 => 6,
+                    31 => 7,
+                    6 => 29,
+                    7 => 31,
+                    other => other,
+                };
+            }
+        }
+    }
+    map
+}
 
 /// A refusal: its number and its place.
 pub type Refusal = (u64, u64);
@@ -79,11 +132,14 @@ pub fn relocate(
     map: &[u8],
     image: &mut Image,
     table: &Table,
+    machine: Machine,
     frame: Frame,
 ) -> Result<u64, Refusal> {
     let Image { first, bytes } = image;
     let table = MoveTable::new(&table.old, &table.new);
-    let pointers = treskibben::relocate(map, bytes, *first, table, frame).map_err(plain)?;
+    let map = &of_amd64(map, machine);
+    let moved = treskibben::relocate(map, bytes, *first, table, frame.plain());
+    let pointers = moved.map_err(plain)?;
     Ok(pointers as u64)
 }
 
@@ -92,11 +148,14 @@ pub fn thread(
     map: &[u8],
     image: &mut Image,
     table: &Table,
+    machine: Machine,
     frames: &[Frame],
 ) -> Result<u64, Refusal> {
     let Image { first, bytes } = image;
     let table = MoveTable::new(&table.old, &table.new);
-    let moved = treskibben::relocate_thread(map, bytes, *first, table, frames);
+    let map = &of_amd64(map, machine);
+    let frames: Vec<treskibben::Frame> = frames.iter().map(|frame| frame.plain()).collect();
+    let moved = treskibben::relocate_thread(map, bytes, *first, table, &frames);
     let pointers = moved.map_err(|refusal| plain(refusal.into()))?;
     Ok(pointers as u64)
 }
@@ -106,10 +165,13 @@ pub fn second_thread(
     map: &[u8],
     image: &mut Image,
     table: &Table,
+    machine: Machine,
     frames: &[Frame],
 ) -> Result<u64, Refusal> {
     let Image { first, bytes } = image;
-    let list = Frames::new(frames).numbers();
+    let map = &of_amd64(map, machine);
+    let frames: Vec<treskibben::Frame> = frames.iter().map(|frame| frame.plain()).collect();
+    let list = Frames::new(&frames).numbers();
     reference::thread(map, bytes, *first, &table.old, &table.new, list).map_err(second_plain)
 }
 
