@@ -73,14 +73,21 @@ fn every_section_has_the_index_that_llvm_prints() {
     assert!(records > 100, "only {records} records");
 }
 
-/// What came of all statepoints of the sections of a target with this beginning of their names.
+/// What came of all statepoints of the sections of a target with this beginning of their names. The same must come of
+/// them where all their slots are addressed by the frame pointer.
 fn planned(target: &str, beginning: &str) -> Seen {
     let mut all = Seen::default();
     let sections = sections::single().filter(|built| built.target == target && built.name.starts_with(beginning));
     for Built { name, bytes, printed, .. } in sections {
         let printed = readobj::parse(printed).unwrap();
-        let seen = planned::compare(bytes, &printed, Target::named(target));
+        let target = Target::named(target);
+        let seen = planned::compare(bytes, &printed, target);
         let seen = seen.unwrap_or_else(|fault| panic!("{name}: {fault}"));
+        let (changed, text) = planned::by_frame_pointer(bytes, printed, target);
+        let again = planned::compare(&changed, &text, target);
+        let again = again.unwrap_or_else(|fault| panic!("{name}, by the frame pointer: {fault}"));
+        assert_eq!(changed != *bytes, seen.pointers > 0, "{name}: whether a slot is addressed by the stack pointer");
+        assert_eq!(again, seen, "{name}, by the frame pointer");
         all.moved += seen.moved;
         all.pointers += seen.pointers;
         all.most = all.most.max(seen.most);

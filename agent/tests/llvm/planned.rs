@@ -1,7 +1,7 @@
 //! Moves every statepoint of a section in a hand-made frame. Which slots it has, and what it is refused by, follows here
 //! from what llvm-readobj printed and from the frame alone.
 
-use crate::compare::{owners, same};
+use crate::compare::{length, owners, same};
 use crate::readobj::{Location, Printed, Record, Value};
 use std::collections::BTreeMap;
 
@@ -27,7 +27,7 @@ impl Target {
 
 /// What came of a section's statepoints: how many were moved, how many pointers they had, the most that one pair had,
 /// and how many were refused by each number.
-#[derive(Debug, Default)]
+#[derive(Debug, Default, PartialEq, Eq)]
 pub struct Seen {
     pub moved: usize,
     pub pointers: usize,
@@ -63,11 +63,20 @@ const CLOSER: u64 = 0x0ff8;
 const POINTERS: u64 = 256;
 const BYTES: u16 = 8 * 256;
 
+/// How long a frame with a stack size is made.
+fn made_length(stack_size: u64) -> u64 {
+    if stack_size == UNKNOWN { 4096 } else { stack_size }
+}
+
+/// How far the frame pointer of a made frame is above its stack pointer.
+fn above(target: Target, stack_size: u64) -> u64 {
+    made_length(stack_size) - target.below_end
+}
+
 impl Made {
     fn new(target: Target, address: u64, stack_size: u64) -> Made {
-        let length = if stack_size == UNKNOWN { 4096 } else { stack_size };
-        let image = (0..length + 2 * BEYOND).map(|at| (at * 37 + 11) as u8).collect();
-        let frame_pointer = STACK + length - target.below_end;
+        let image = (0..made_length(stack_size) + 2 * BEYOND).map(|at| (at * 37 + 11) as u8).collect();
+        let frame_pointer = STACK + above(target, stack_size);
         Made { address, frame_pointer, stack_pointer: STACK, first: STACK - BEYOND, image }
     }
 
@@ -163,6 +172,29 @@ fn fill(made: &mut Made, pointers: &[[u64; 2]]) -> (Vec<u64>, Vec<u64>, Vec<u8>)
     let old = (0..objects.len() as u64).map(|number| OLD + APART * number).collect();
     let new = (0..objects.len() as u64).map(|number| NEW + CLOSER * number).collect();
     (old, new, after.image)
+}
+
+/// The same section and text, but that each slot that was addressed by the stack pointer is addressed by the frame pointer,
+/// in frames as they are made here. LLVM 14 takes the stack pointer for statepoints wherever it can.
+pub fn by_frame_pointer(bytes: &[u8], mut printed: Printed, target: Target) -> (Vec<u8>, Printed) {
+    let mut bytes = bytes.to_vec();
+    let sizes: Vec<u64> = owners(&printed).map(|(function, _)| printed.functions[function].stack_size).collect();
+    let mut first = 16 + 24 * printed.functions.len() + 8 * printed.constants.len();
+    for (record, stack_size) in printed.records.iter_mut().zip(sizes) {
+        for (number, location) in record.locations.iter_mut().enumerate() {
+            let Value::Indirect(register, offset) = location.value else { continue };
+            // Functions that call nothing have no frame at all.
+            if register == target.stack_pointer && stack_size >= target.below_end {
+                let offset = offset - above(target, stack_size) as i32;
+                location.value = Value::Indirect(target.frame_pointer, offset);
+                let at = first + 16 + 12 * number;
+                bytes[at + 4..at + 6].copy_from_slice(&target.frame_pointer.to_le_bytes());
+                bytes[at + 8..at + 12].copy_from_slice(&offset.to_le_bytes());
+            }
+        }
+        first += length(record);
+    }
+    (bytes, printed)
 }
 
 /// The first difference, if there is one, and what was seen.
