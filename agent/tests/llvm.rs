@@ -104,8 +104,11 @@ fn every_statepoint_is_moved_as_llvm_prints_it() {
     for target in PLANNED {
         let seen = planned(target, "");
         assert!(seen.moved > 60, "{target}: {seen:?}");
-        // The address of an alloca among the values before the pairs is no pair: nothing but vectors is refused.
-        assert_eq!(seen.refused, planned(target, "vectors.").refused, "{target}");
+        // The address of an alloca among the values before the pairs is no pair: nothing is refused but some vectors of
+        // pointers, and a slot that lies outside because a vector of unknown length is left out of the stack size.
+        let mut refused = planned(target, "vectors.").refused;
+        refused.extend((*target == "aarch64").then_some((19, 1)));
+        assert_eq!(seen.refused, refused, "{target}");
     }
 }
 

@@ -128,12 +128,16 @@ fn expected(target: Target, made: &Made, stack_size: u64, pairs: &[[&Location; 2
     if stack_size == UNKNOWN {
         return Expected::Refused(16, 0);
     }
-    let (mut pointers, mut nulls) = (Vec::new(), 0);
+    let (mut pointers, mut nulls, mut outside) = (Vec::new(), 0, None);
+    let end = made.stack_pointer + stack_size;
     for (number, [base, derived]) in pairs.iter().enumerate() {
         let slots = [base, derived].map(|location| made.slots(target, location));
         match slots {
             _ if is_null(base) && is_null(derived) => nulls += 1,
             [Some(bases), Some(deriveds)] if bases.len() == deriveds.len() => {
+                let mut slots = bases.iter().chain(&deriveds);
+                let inside = slots.all(|slot| (made.stack_pointer..end).contains(slot) && end - slot >= 8);
+                outside = outside.or((!inside).then_some(number as u64));
                 pointers.extend(bases.into_iter().zip(deriveds).map(|(base, derived)| [base, derived]));
             }
             _ => return Expected::Refused(18, number as u64),
@@ -142,7 +146,10 @@ fn expected(target: Target, made: &Made, stack_size: u64, pairs: &[[&Location; 2
     if pointers.len() as u64 + nulls > POINTERS {
         return Expected::Refused(17, 0);
     }
-    Expected::Moved(pointers, nulls)
+    match outside {
+        Some(number) => Expected::Refused(19, number),
+        None => Expected::Moved(pointers, nulls),
+    }
 }
 
 /// Fills the slots and makes the table: each base slot has an object of its own, and each derived slot that is no base
