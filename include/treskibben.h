@@ -347,8 +347,8 @@ typedef struct treskibben_frame {
 } treskibben_frame;
 
 /*
- * Moves the pointers of one frame. `value` is the number of pairs that its statepoint lists, null
- * ones included.
+ * Moves the pointers of one frame. `value` is the number of pointers that its statepoint lists, null
+ * pairs counting one each.
  *
  * `image` is a copy of the stack, `image_length` bytes from the address `first` on. The objects that
  * have moved are in two lists, entry by entry: where each was, `old_count` numbers at `old_starts`,
@@ -356,21 +356,25 @@ typedef struct treskibben_frame {
  *
  * A record is a statepoint if it has at least three locations, the first three are of kind 4, the
  * third isn't negative and says how many deoptimisation values follow, an even number of locations
- * is left after those, and there are no live-outs. Those left are pairs, numbered from 0: the slot
- * of a base, which is the start of an object, and the slot of a pointer derived from it. A pair of
- * two constants 0 is null, and has no slots.
+ * is left after those, and there are no live-outs. Those left are pairs, numbered from 0: the location
+ * of a base, which is the start of an object, and that of a pointer derived from it. Of version 3 a pair
+ * of size 8N is N pointers one after another, N from 1 to 256: pointer i has its base in the slot of 8
+ * bytes that begins 8i bytes after the first location, and stands itself in the slot 8i bytes after the
+ * second. Of version 1 a pair is one pointer. A pair of two constants 0 is null: it has no slots, has any
+ * sizes, and counts as one pointer.
  *
  * Where the call is accepted, each derived slot is set to its content plus the new start of its base
  * minus the old one, modulo 2^64. Everything is taken from the image as it was before the call, in
- * whatever order the pairs are. A base of 0 stays 0. All other bytes of the image are left
- * untouched, and on a refusal all of them are.
+ * whatever order the pairs are, and also where the two locations of a pair share slots. A base of 0
+ * stays 0. All other bytes of the image are left untouched, and on a refusal all of them are.
  *
  * `section` and each list are lent as a section is to treskibben_check, and `image` as an output is
  * to a conversion: no pointer may be NULL, the lists must be aligned, and the image must share no
  * byte with the section or with a list. The two lists may share theirs.
  *
- * The answer is the first of these that holds, in this order; 18 to 21 are each looked for in all
- * pairs before the next, and the place is the lowest pair with the fault:
+ * The answer is the first of these that holds, in this order, but that 17 comes before 18 for version 1;
+ * 18 to 21 are each looked for in all pairs before the next, and the place is the lowest pair with the
+ * fault, whichever of its pointers has it:
  *
  *   number  when                                                     place
  *   1 to 9  the refusal that treskibben_check gives the section      as there
@@ -385,10 +389,10 @@ typedef struct treskibben_frame {
  *   12      not a statepoint                                         0
  *   16      stack size unknown (2^64 - 1), or the frame not inside   0
  *           the image
- *   17      over 256 pairs                                           0
  *   18      pair of wrong form: not null, and not two locations of   the pair
- *           kind 3, size 8 (of version 1, 0 or 8) and register 6
- *           or 7
+ *           kind 3, register 6 or 7 and equal sizes of 8N, N from
+ *           1 to 256 (of version 1, sizes of 0 or 8 each)
+ *   17      over 256 pointers, null pairs counting one each          0
  *   19      a slot not wholly inside the frame; nothing wraps        the pair
  *   20      collision: two slots overlap without being equal, or     the pair
  *           a slot is derived from bases that differ, with this
@@ -403,8 +407,8 @@ treskibben_answer treskibben_relocate(const uint8_t *section, size_t length, uin
                                       treskibben_frame frame);
 
 /*
- * Moves the pointers of a whole thread, all of its frames or none. `value` is the sum of the pairs
- * that their statepoints list, null ones included.
+ * Moves the pointers of a whole thread, all of its frames or none. `value` is the sum of the pointers
+ * that their statepoints list, null pairs counting one each.
  *
  * The frames are `frames_length` numbers at `frames`, four to a frame: address (of version 1, offset),
  * RBP, RSP, function. An array of treskibben_frame is such a list, of four times as many numbers as it
@@ -423,7 +427,7 @@ treskibben_answer treskibben_relocate(const uint8_t *section, size_t length, uin
  *   13, 14  as for treskibben_relocate                               0
  *   25      frames_length not a multiple of four, or over 16,384     0
  *           (4,096 frames)
- *   10, 15, 12, 16 to 21                                             the position of the frame
+ *   10, 15, 12, 16, 18, 17, 19 to 21                                 the position of the frame
  *           a frame is refused by itself, on the image as lent:
  *           the first such frame of the list, by the number that
  *           treskibben_relocate gives it; its pair is not told
@@ -431,7 +435,7 @@ treskibben_answer treskibben_relocate(const uint8_t *section, size_t length, uin
  *           earlier one in the list; empty extents share nothing     such frame
  *   0       all frames are moved                                     0
  *
- * A list of no frames is accepted, with 0 pairs. The section is not walked again for each frame. The
+ * A list of no frames is accepted, with 0 pointers. The section is not walked again for each frame. The
  * call needs about 273 KiB of stack, treskibben_relocate about 17 KiB and treskibben_find_all_by_index
  * about 33 KiB; treskibben_flat_find needs 1 MiB where frames name over 16,777,216 records in all.
  */

@@ -31,10 +31,22 @@ fn main() {
     let headers = headers();
     flags.extend([OsStr::new("-isystem"), headers.as_os_str()]);
     let parser_compiler = compile(&["g++", "clang++"], &flags, "parser.cpp", &parser);
-    let check_compiler = compile(&["gcc", "clang"], &C_FLAGS.map(OsStr::new), "check.c", &check);
+    let check_compiler = compile(
+        &["gcc", "clang"],
+        &C_FLAGS.map(OsStr::new),
+        "check.c",
+        &check,
+    );
     let library = out.join("libothers.a");
-    let archived = Command::new("ar").arg("crs").arg(&library).args([&parser, &check]).status();
-    assert!(archived.is_ok_and(|status| status.success()), "ar failed: the Debian package binutils has it");
+    let archived = Command::new("ar")
+        .arg("crs")
+        .arg(&library)
+        .args([&parser, &check])
+        .status();
+    assert!(
+        archived.is_ok_and(|status| status.success()),
+        "ar failed: the Debian package binutils has it"
+    );
     println!("cargo:rustc-env=PARSER_COMPILER={parser_compiler} -O3");
     println!("cargo:rustc-env=CHECK_COMPILER={check_compiler} -O3");
     println!("cargo:rustc-link-search=native={}", out.display());
@@ -60,16 +72,27 @@ fn link_reads() {
 /// The folder with LLVM 14's headers: where llvm-config says, else where Debian has it.
 fn headers() -> PathBuf {
     let said = Command::new("llvm-config-14").arg("--includedir").output();
-    let said = said.map(|output| String::from_utf8_lossy(&output.stdout).trim().to_string()).unwrap_or_default();
-    [said.as_str(), "/usr/lib/llvm-14/include", "/usr/include/llvm-14"]
-        .iter()
-        .map(PathBuf::from)
-        .find(|folder| folder.join("llvm/Object/StackMapParser.h").is_file())
-        .expect("LLVM 14's StackMapParser.h is missing: the Debian package llvm-14-dev has it")
+    let said = said
+        .map(|output| String::from_utf8_lossy(&output.stdout).trim().to_string())
+        .unwrap_or_default();
+    [
+        said.as_str(),
+        "/usr/lib/llvm-14/include",
+        "/usr/include/llvm-14",
+    ]
+    .iter()
+    .map(PathBuf::from)
+    .find(|folder| folder.join("llvm/Object/StackMapParser.h").is_file())
+    .expect("LLVM 14's StackMapParser.h is missing: the Debian package llvm-14-dev has it")
 }
 
 /// Compiles a file with the first of these compilers that is there, and says which.
-fn compile(compilers: &[&'static str], flags: &[&OsStr], file: &str, object: &Path) -> &'static str {
+fn compile(
+    compilers: &[&'static str],
+    flags: &[&OsStr],
+    file: &str,
+    object: &Path,
+) -> &'static str {
     for compiler in compilers {
         let mut command = Command::new(compiler);
         command.args(flags).args(["-c", file, "-o"]).arg(object);

@@ -138,14 +138,67 @@ static int passes_with(size_t count, uint64_t number)
     return passed(name, expected, answer, memcmp(image, after, sizeof image) == 0);
 }
 
+/* Row I with other sizes and offsets of pair 1: how many pointers it is, and how it is refused. */
+struct wide {
+    uint16_t sizes[2];
+    uint8_t offsets[2];
+    uint64_t slots[2];
+    uint64_t answer[3];
+    uint64_t after[2];
+};
+
+static const struct wide wides[] = {
+    {{16, 16}, {8, 8}, {0x50000, 0}, {0, 0, 3}, {0x90000, 0}},
+    {{16, 16}, {8, 8}, {0x50000, 0x50000}, {0, 0, 3}, {0x90000, 0x90000}},
+    {{16, 16}, {8, 8}, {0x50000, 0x54e20}, {21, 1, 0}, {0x50000, 0x54e20}},
+    {{16, 16}, {8, 4}, {0x50000, 0}, {20, 1, 0}, {0x50000, 0}},
+    {{16, 16}, {8, 9}, {0x50000, 0}, {19, 1, 0}, {0x50000, 0}},
+    {{24, 24}, {8, 8}, {0x50000, 0}, {19, 1, 0}, {0x50000, 0}},
+    {{2040, 2040}, {8, 8}, {0x50000, 0}, {19, 1, 0}, {0x50000, 0}},
+    {{2048, 2048}, {8, 8}, {0x50000, 0}, {17, 0, 0}, {0x50000, 0}},
+    {{2056, 2056}, {8, 8}, {0x50000, 0}, {18, 1, 0}, {0x50000, 0}},
+    {{0, 0}, {8, 8}, {0x50000, 0}, {18, 1, 0}, {0x50000, 0}},
+    {{17, 17}, {8, 8}, {0x50000, 0}, {18, 1, 0}, {0x50000, 0}},
+    {{16, 8}, {8, 8}, {0x50000, 0}, {18, 1, 0}, {0x50000, 0}},
+    {{8, 16}, {8, 8}, {0x50000, 0}, {18, 1, 0}, {0x50000, 0}},
+};
+
+static int passes_wide(const struct wide *wide)
+{
+    static const uint64_t old_start = 0x50000, new_start = 0x90000;
+    static const treskibben_frame frame = FRAME(0x1020, 0x7000);
+    uint8_t section[sizeof row_h], image[8 * SLOTS], after[8 * SLOTS];
+    treskibben_answer answer;
+    char name[32];
+    size_t i;
+
+    memcpy(section, row_h, sizeof section);
+    for (i = 0; i < 2; i++) {
+        uint8_t *location = section + PAIRS + PAIR + LOCATION * i;
+
+        location[2] = (uint8_t)wide->sizes[i];
+        location[3] = (uint8_t)(wide->sizes[i] >> 8);
+        location[8] = wide->offsets[i];
+    }
+    put_slots(image, wide->slots);
+    put_slots(after, wide->after);
+    answer = treskibben_relocate(section, sizeof section, image, sizeof image, 0x7000, &old_start, 1,
+                                 &new_start, 1, frame);
+    sprintf(name, "sizes %u and %u", (unsigned)wide->sizes[0], (unsigned)wide->sizes[1]);
+    return passed(name, wide->answer, answer, memcmp(image, after, sizeof image) == 0);
+}
+
 int main(void)
 {
-    size_t count = sizeof rows / sizeof rows[0] + 5;
+    size_t count = sizeof rows / sizeof rows[0] + sizeof wides / sizeof wides[0] + 5;
     size_t passed = 0;
     size_t i;
 
     for (i = 0; i < sizeof rows / sizeof rows[0]; i++) {
         passed += (size_t)passes(&rows[i]);
+    }
+    for (i = 0; i < sizeof wides / sizeof wides[0]; i++) {
+        passed += (size_t)passes_wide(&wides[i]);
     }
     passed += (size_t)passes_with(0, 0);
     passed += (size_t)passes_with(1, 0);

@@ -56,13 +56,15 @@ fn restore() -> Outcome<String> {
     let frame = |&[address, rbp, rsp]: &[u64; 3]| Frame::new(address, rbp, rsp);
     let frames: Vec<Frame> = frames.iter().map(frame).collect();
     let table = MoveTable::new(&old, &new);
-    let pairs = treskibben::relocate_thread(&section, &mut image, first, table, &frames)?;
+    let pointers = treskibben::relocate_thread(&section, &mut image, first, table, &frames)?;
 
     let output = option("--output")?;
     fs::write(output, &image)?;
     let word = if frames.len() == 1 { "frame" } else { "frames" };
     let count = frames.len();
-    Ok(format!("{output}: {count} {word} moved, {pairs} pairs"))
+    Ok(format!(
+        "{output}: {count} {word} moved, {pointers} pointers"
+    ))
 }
 
 fn main() -> ExitCode {

@@ -246,7 +246,7 @@ impl<'a> Index<'a> {
         let (olds, news) = (table.old_starts(), table.new_starts());
         let frames = frames.into().numbers();
         let (section, index) = (self.section, &self.entries);
-        thread::pairs(ffi::index::thread(
+        thread::pointers(ffi::index::thread(
             section, image, first, olds, news, frames, index,
         ))
     }

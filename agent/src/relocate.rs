@@ -114,24 +114,29 @@ impl<'a> From<&'a (Vec<u64>, Vec<u64>)> for MoveTable<'a> {
     }
 }
 
-/// Moves the pointers of one frame, and gives its statepoint's number of pairs, null ones included.
+/// Moves the pointers of one frame, and gives its statepoint's number of pointers, null pairs counting
+/// one each.
 ///
 /// `image` is a copy of the stack, from the address `first` on. The frame's record is a statepoint:
 /// after three constants, the last of which says how many deoptimisation values follow, it lists
-/// pairs of slots, a base pointer and one that is derived from it. Each derived slot is set to its
-/// content plus the new start of its base minus the old one, modulo 2^64; everything is taken from
-/// the image as it was before the call. A base of 0 stays 0. All other bytes of the image are left
-/// as they are, also those of a base slot that no pair derives.
+/// pairs of locations, a base and what is derived from it. In version 3 a pair of size 8N is N pointers
+/// one after another: pointer i has its base in the slot 8i bytes after the first location's beginning,
+/// and stands itself in the slot 8i bytes after the second one's. A pair of version 1 is one pointer,
+/// and a null pair, two constants of 0, counts as one in both versions and has no slots.
+///
+/// Each derived slot is set to its content plus the new start of its base minus the old one, modulo
+/// 2^64; everything is taken from the image as it was before the call. A base of 0 stays 0. All other
+/// bytes of the image are left as they are, also those of a base slot that no pointer is derived in.
 ///
 /// The frame's part of the stack begins at RSP and is as long as the stack size of its function says.
 /// The function is that of the record in version 3, and the one that the frame names in version 1, which
-/// doesn't say whether the record is that function's: the caller has to know. A pair's slots have size 8,
-/// and in version 1 also size 0.
+/// doesn't say whether the record is that function's: the caller has to know. Both locations of a pair have
+/// the same size, 8 to 2,048 by eights; in version 1 each has 0 or 8.
 ///
 /// # Errors
 ///
-/// The first of these that holds, and 18 to 21 each over all pairs before the next. A refusal
-/// leaves all of the image unchanged.
+/// The first of these that holds, and 18 to 21 each over all pairs before the next; in version 1, 17 comes
+/// before 18. A refusal leaves all of the image unchanged.
 ///
 /// | Number | Cause | Place |
 /// |---|---|---|
@@ -142,13 +147,14 @@ impl<'a> From<&'a (Vec<u64>, Vec<u64>)> for MoveTable<'a> {
 /// | 15 | more than one record at the address; of version 1, at the offset | 0 |
 /// | 12 | not a statepoint | 0 |
 /// | 16 | stack size unknown, or the frame not inside the image | 0 |
-/// | 17 | over 256 pairs | 0 |
 /// | 18 | pair of wrong form | the pair |
+/// | 17 | over 256 pointers, null pairs counting one each | 0 |
 /// | 19 | a slot not wholly inside the frame | the pair |
 /// | 20 | two slots overlap without being equal, or one is derived from bases that differ | the pair |
 /// | 21 | base neither 0 nor an old start | the pair |
 ///
-/// Pairs are counted from 0, and the place is the lowest pair with the fault.
+/// Pairs are counted from 0, and the place is the lowest pair with the fault, whichever of its pointers has
+/// it.
 ///
 /// # Examples
 ///
@@ -188,17 +194,17 @@ pub fn relocate(
     table: MoveTable,
     frame: Frame,
 ) -> Result<usize, Refusal> {
-    let pairs = ffi::relocate(section, image, first, table.old, table.new, frame).outcome()?;
-    Ok(number(pairs, 1))
+    let pointers = ffi::relocate(section, image, first, table.old, table.new, frame).outcome()?;
+    Ok(number(pointers, 1))
 }
 
-/// The number of pairs of so many frames, each of which the library is proved to accept with at most
+/// The number of pointers of so many frames, each of which the library is proved to accept with at most
 /// 256.
-pub(crate) fn number(pairs: u64, frames: usize) -> usize {
-    match usize::try_from(pairs) {
+pub(crate) fn number(pointers: u64, frames: usize) -> usize {
+    match usize::try_from(pointers) {
         Ok(number) if number <= 256 * frames => number,
         _ => {
-            panic!("libtreskibben answers that it moved {pairs} pairs, and a frame has at most 256")
+            panic!("libtreskibben answers that it moved {pointers} pointers, and a frame has at most 256")
         }
     }
 }
@@ -208,19 +214,23 @@ mod tests {
     use super::number;
 
     #[test]
-    fn up_to_256_pairs_are_a_number() {
-        for pairs in [0, 1, 255, 256] {
-            assert_eq!(number(pairs as u64, 1), pairs);
-            assert_eq!(number(4_096 * pairs as u64, 4_096), 4_096 * pairs);
+    fn up_to_256_pointers_are_a_number() {
+        for pointers in [0, 1, 255, 256] {
+            assert_eq!(number(pointers as u64, 1), pointers);
+            assert_eq!(number(4_096 * pointers as u64, 4_096), 4_096 * pointers);
         }
     }
 
     #[test]
-    fn more_pairs_are_a_panic_that_says_so() {
-        for (pairs, frames) in [(257, 1), (1_048_577, 4_096), (u64::MAX, 4_096)] {
-            let payload = std::panic::catch_unwind(|| number(pairs, frames)).expect_err("a panic");
+    fn more_pointers_are_a_panic_that_says_so() {
+        for (pointers, frames) in [(257, 1), (1_048_577, 4_096), (u64::MAX, 4_096)] {
+            let payload =
+                std::panic::catch_unwind(|| number(pointers, frames)).expect_err("a panic");
             let text = *payload.downcast::<String>().expect("a panic with a text");
-            assert!(text.contains(&format!("moved {pairs} pairs, ")), "{text}");
+            assert!(
+                text.contains(&format!("moved {pointers} pointers, ")),
+                "{text}"
+            );
         }
     }
 }

@@ -116,13 +116,13 @@ impl fmt::Display for ThreadRefusal {
 
 impl Error for ThreadRefusal {}
 
-/// Moves the pointers of a whole thread, all of its frames or none, and gives the sum of their pairs,
-/// null ones included.
+/// Moves the pointers of a whole thread, all of its frames or none, and gives their number, null pairs
+/// counting one each.
 ///
 /// The other arguments are those of [`relocate`](crate::relocate()). A frame's extent is its part of the
 /// stack: the bytes from RSP on, as many as the stack size of its function. Where the call is accepted,
 /// the image is the one that `relocate` leaves when it moves the frames one by one, in the order of the
-/// list or in any other. A list of no frames is accepted, with 0 pairs.
+/// list or in any other. A list of no frames is accepted, with 0 pointers.
 ///
 /// The call needs a little under 250 KiB of stack, which a thread of [`std::thread`] has many times
 /// over.
@@ -173,13 +173,13 @@ pub fn relocate_thread<'a>(
 ) -> Result<usize, ThreadRefusal> {
     let (olds, news) = (table.old_starts(), table.new_starts());
     let frames = frames.into().numbers;
-    pairs(ffi::thread(section, image, first, olds, news, frames))
+    pointers(ffi::thread(section, image, first, olds, news, frames))
 }
 
-/// The sum of the pairs of a thread that is moved, or the refusal.
-pub(crate) fn pairs(answer: ffi::Answer) -> Result<usize, ThreadRefusal> {
-    let pairs = answer
+/// The number of the pointers of a thread that is moved, or the refusal.
+pub(crate) fn pointers(answer: ffi::Answer) -> Result<usize, ThreadRefusal> {
+    let pointers = answer
         .outcome()
         .map_err(|refusal| ThreadRefusal { refusal })?;
-    Ok(relocate::number(pairs, MOST_FRAMES))
+    Ok(relocate::number(pointers, MOST_FRAMES))
 }

@@ -93,7 +93,7 @@ fn the_live_restore_comes_first() {
         "RSP + 16  0x54e20 -> 0x94e20",
         "refused 21 at 0: base neither 0 nor an old start",
         "has 152 bytes, the same to the last byte",
-        "h-version-1.section, a frame at 0+0x20: 2 pairs moved",
+        "h-version-1.section, a frame at 0+0x20: 2 pointers moved",
     ] {
         assert!(said.contains(words), "{words}: {said}");
     }

@@ -29,14 +29,22 @@ const PLANNED: &[&str] = &["x86_64"];
 
 /// The section as the second implementation reads it; it must accept it.
 fn read(name: &str, bytes: &[u8]) -> Section {
-    section::read(bytes).unwrap_or_else(|refusal| panic!("{name}: refused {} at {}", refusal.number, refusal.place))
+    section::read(bytes)
+        .unwrap_or_else(|refusal| panic!("{name}: refused {} at {}", refusal.number, refusal.place))
 }
 
 /// Number and place of both implementations' verdict, which must be the same; none where they accept.
 fn verdict(name: &str, bytes: &[u8]) -> Option<(u64, u64)> {
-    let proved = treskibben::check(bytes).err().map(|refusal| (refusal.number(), refusal.place()));
-    let second = section::check(bytes).err().map(|refusal| (refusal.number, refusal.place));
-    assert_eq!(proved, second, "{name}: the proved verdict and the second one");
+    let proved = treskibben::check(bytes)
+        .err()
+        .map(|refusal| (refusal.number(), refusal.place()));
+    let second = section::check(bytes)
+        .err()
+        .map(|refusal| (refusal.number, refusal.place));
+    assert_eq!(
+        proved, second,
+        "{name}: the proved verdict and the second one"
+    );
     proved
 }
 
@@ -50,7 +58,13 @@ fn compared(name: &str, bytes: &[u8], printed: &str) {
 
 #[test]
 fn every_section_is_accepted_and_read_as_llvm_prints_it() {
-    for Built { name, bytes, printed, .. } in sections::single() {
+    for Built {
+        name,
+        bytes,
+        printed,
+        ..
+    } in sections::single()
+    {
         assert_eq!(verdict(name, bytes), None, "{name}");
         compared(name, bytes, printed);
     }
@@ -60,13 +74,23 @@ fn every_section_is_accepted_and_read_as_llvm_prints_it() {
 #[test]
 fn every_section_has_the_index_that_llvm_prints() {
     let mut records = 0;
-    for Built { name, bytes, printed, .. } in sections::single() {
+    for Built {
+        name,
+        bytes,
+        printed,
+        ..
+    } in sections::single()
+    {
         let printed = readobj::parse(printed).unwrap();
         let told = |fault| panic!("{name}, index: {fault}");
         indexed::compare(bytes, &printed).unwrap_or_else(told);
         indexed::refuses_others(bytes, &printed).unwrap_or_else(told);
         let mut second = vec![0; 2 * printed.records.len()];
-        assert_eq!(reference::fill_index(bytes, &mut second), Ok(second.len() as u64), "{name}");
+        assert_eq!(
+            reference::fill_index(bytes, &mut second),
+            Ok(second.len() as u64),
+            "{name}"
+        );
         assert_eq!(second, indexed::entries(&printed), "{name}");
         records += printed.records.len();
     }
@@ -131,7 +155,10 @@ fn vectors_of_pointers_are_moved_pointer_by_pointer() {
 fn the_sections_show_every_shape() {
     for target in TARGETS {
         let of_target = sections::single().filter(|built| built.target == *target);
-        coverage::assert_every_shape(target, of_target.map(|built| read(&built.name, &built.bytes)));
+        coverage::assert_every_shape(
+            target,
+            of_target.map(|built| read(&built.name, &built.bytes)),
+        );
     }
 }
 
@@ -142,11 +169,26 @@ fn two_linked_maps_are_refused_at_the_second_header() {
             let two = sections::named("two", target, level);
             let first = sections::named("constants", target, level).bytes.len();
             let second = sections::named("statepoint", target, level);
-            assert_eq!(verdict(&two.name, &two.bytes), Some((9, first as u64)), "{}", two.name);
+            assert_eq!(
+                verdict(&two.name, &two.bytes),
+                Some((9, first as u64)),
+                "{}",
+                two.name
+            );
 
             let (before, after) = two.bytes.split_at(first);
-            assert_eq!(verdict(&two.name, before), None, "{}: the first map", two.name);
-            assert_eq!(verdict(&two.name, after), None, "{}: the second map", two.name);
+            assert_eq!(
+                verdict(&two.name, before),
+                None,
+                "{}: the first map",
+                two.name
+            );
+            assert_eq!(
+                verdict(&two.name, after),
+                None,
+                "{}: the second map",
+                two.name
+            );
             compared(&two.name, before, &two.printed);
             same_but_for_addresses(&two.name, after, &second.bytes);
         }
@@ -160,7 +202,11 @@ fn same_but_for_addresses(name: &str, linked: &[u8], alone: &[u8]) {
     let mut expected = alone.to_vec();
     for number in 0..functions {
         let address = 16 + 24 * number..16 + 24 * number + 8;
-        assert_ne!(linked[address.clone()], alone[address.clone()], "{name}: function {number} did not move");
+        assert_ne!(
+            linked[address.clone()],
+            alone[address.clone()],
+            "{name}: function {number} did not move"
+        );
         expected[address.clone()].copy_from_slice(&linked[address]);
     }
     assert_eq!(linked, expected, "{name}: the second map");
@@ -171,7 +217,13 @@ fn same_but_for_addresses(name: &str, linked: &[u8], alone: &[u8]) {
 /// holds of the library's listing, and of its answers but for stack sizes, which no question gives.
 #[test]
 fn every_damaged_byte_is_noticed() {
-    for Built { name, bytes, printed, .. } in sections::single() {
+    for Built {
+        name,
+        bytes,
+        printed,
+        ..
+    } in sections::single()
+    {
         compared(name, bytes, printed);
         let printed = readobj::parse(printed).unwrap();
         let mut differing = 0;
@@ -181,10 +233,16 @@ fn every_damaged_byte_is_noticed() {
                 damaged[place] ^= flip;
                 if verdict(name, &damaged).is_none() {
                     let difference = compare(&read(name, &damaged), &printed);
-                    assert!(difference.is_err(), "{name}: byte {place} with {flip:#x} passes unseen");
+                    assert!(
+                        difference.is_err(),
+                        "{name}: byte {place} with {flip:#x} passes unseen"
+                    );
                     let seen = asked::compare(&damaged, &printed).is_err();
                     let asked = !in_a_stack_size(place, printed.functions.len());
-                    assert_eq!(seen, asked, "{name}: byte {place} with {flip:#x} in the answers");
+                    assert_eq!(
+                        seen, asked,
+                        "{name}: byte {place} with {flip:#x} in the answers"
+                    );
                     let listed = listed::compare(&damaged, &printed).is_err();
                     assert!(listed, "{name}: byte {place} with {flip:#x} in the listing");
                     differing += 1;
@@ -215,17 +273,34 @@ fn a_changed_text_is_noticed() {
         ("Indirect [R#7 + 8]", "Direct R#7 + 8"),
         ("Indirect [R#7 + 8]", "Indirect [R#6 + 8]"),
         ("Indirect [R#7 + 8]", "Indirect [R#7 + -8]"),
-        ("Constant 4294967289, size: 8", "Constant 4294967288, size: 8"),
+        (
+            "Constant 4294967289, size: 8",
+            "Constant 4294967288, size: 8",
+        ),
         ("Constant 0, size: 8", "Constant 0, size: 4"),
-        ("ConstantIndex #0 (81985529216486895)", "ConstantIndex #0 (81985529216486894)"),
+        (
+            "ConstantIndex #0 (81985529216486895)",
+            "ConstantIndex #0 (81985529216486894)",
+        ),
     ] {
         assert!(built.printed.contains(from), "{from:?} is not printed");
         let printed = readobj::parse(&built.printed.replacen(from, to, 1)).unwrap();
-        assert!(compare(&section, &printed).is_err(), "{to:?} for {from:?} passes unseen");
+        assert!(
+            compare(&section, &printed).is_err(),
+            "{to:?} for {from:?} passes unseen"
+        );
         let asked = !from.starts_with("stack size") && !from.starts_with("  #1");
-        assert_eq!(asked::compare(&built.bytes, &printed).is_err(), asked, "{to:?} for {from:?} in the answers");
+        assert_eq!(
+            asked::compare(&built.bytes, &printed).is_err(),
+            asked,
+            "{to:?} for {from:?} in the answers"
+        );
         let listed = !from.starts_with("ConstantIndex");
-        assert_eq!(listed::compare(&built.bytes, &printed).is_err(), listed, "{to:?} for {from:?} in the listing");
+        assert_eq!(
+            listed::compare(&built.bytes, &printed).is_err(),
+            listed,
+            "{to:?} for {from:?} in the listing"
+        );
     }
     for (from, to) in [
         ("Version: 3", "Version: 4"),
@@ -237,6 +312,9 @@ fn a_changed_text_is_noticed() {
         ("R#7", "R#65536"),
     ] {
         assert!(built.printed.contains(from), "{from:?} is not printed");
-        assert!(readobj::parse(&built.printed.replacen(from, to, 1)).is_err(), "{to:?} is read");
+        assert!(
+            readobj::parse(&built.printed.replacen(from, to, 1)).is_err(),
+            "{to:?} is read"
+        );
     }
 }

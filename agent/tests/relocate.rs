@@ -16,8 +16,12 @@ mod limits;
 mod lists;
 #[path = "relocate/orders.rs"]
 mod orders;
+#[path = "relocate/pointers.rs"]
+mod pointers;
 #[path = "relocate/shapes.rs"]
 mod shapes;
+#[path = "relocate/wide.rs"]
+mod wide;
 #[path = "relocate/worked.rs"]
 mod worked;
 
@@ -34,8 +38,14 @@ const PARTS: u64 = 1_000;
 const FRAMES_A_PART: u64 = 400;
 
 /// The faults of a frame, those first that the library looks for last: of several, the one that was
-/// made last is given.
-const LAST_FIRST: [u64; 11] = [21, 20, 19, 18, 17, 16, 12, 15, 10, 14, 13];
+/// made last is given. 17 is looked for after 18 in version 3, and before it in version 1.
+fn last_first(version: Version) -> [u64; 11] {
+    let [one, two] = match version {
+        Version::One => [18, 17],
+        Version::Three => [17, 18],
+    };
+    [21, 20, 19, one, two, 16, 12, 15, 10, 14, 13]
+}
 
 /// How often each number was the answer, 0 to 21, for each version that sections were made of; and then
 /// how often each shape was seen.
@@ -48,7 +58,7 @@ type Known = Option<(u64, u64)>;
 /// Makes these faults, and gives the answer of the frame.
 fn make(rng: &mut Rng, scene: &mut Scene, numbers: &[u64]) -> (u64, u64) {
     let mut answer = (0, 0);
-    for number in LAST_FIRST {
+    for number in last_first(scene.section.version) {
         if numbers.contains(&number) {
             if let Some(place) = aim(rng, number, scene, 0) {
                 answer = (number, place);
@@ -130,31 +140,40 @@ fn disturb(rng: &mut Rng, scene: &mut Scene) {
 /// Moves a random frame, and compares all that is known of it.
 fn run(rng: &mut Rng, counts: &mut Counts) {
     let (scene, section, known) = case(rng);
-    let outcome = Call::of(&scene, &section, 0).compare();
+    let number = compare(&scene, &section, known);
     let version = nth_version(scene.section.version);
-    counts[ANSWERS * version + outcome.number as usize] += 1;
-    let Some((number, place)) = known else {
-        return;
-    };
-    let call = Call::of(&scene, &section, 0);
-    if (outcome.number, outcome.place) != (number, place) {
-        call.fail(&format!(
-            "{outcome:?}, known beforehand {number} at {place}"
-        ));
+    counts[ANSWERS * version + number as usize] += 1;
+    if known.is_some() {
+        for (count, (_, shows)) in counts[2 * ANSWERS..].iter_mut().zip(SHAPES) {
+            *count += u64::from(shows(&scene, number));
+        }
     }
-    if number == 0 {
-        accepted(&scene, &call, &outcome);
+}
+
+/// Moves the only frame of a scene, whose section has these bytes, compares all that is known of it, and
+/// gives the number.
+fn compare(scene: &Scene, section: &[u8], known: Known) -> u64 {
+    let call = Call::of(scene, section, 0);
+    let outcome = call.compare();
+    if let Some((number, place)) = known {
+        if (outcome.number, outcome.place) != (number, place) {
+            call.fail(&format!(
+                "{outcome:?}, known beforehand {number} at {place}"
+            ));
+        }
+        if number == 0 {
+            accepted(scene, &call, &outcome);
+        }
     }
-    for (count, (_, shows)) in counts[2 * ANSWERS..].iter_mut().zip(SHAPES) {
-        *count += u64::from(shows(&scene, number));
-    }
+    outcome.number
 }
 
 /// What holds of an accepted frame: the count, the image, and how far each pointer is from its base
 /// where the base is moved too.
 fn accepted(scene: &Scene, call: &Call<Frame>, outcome: &Outcome) {
-    let slots = plain::slots(scene, 0);
-    if outcome.count != slots.len() as u64 || outcome.image != plain::moved(scene, [0]) {
+    let slots = plain::slots(scene, 0).concat();
+    let count = plain::pointers(scene, 0) as u64;
+    if outcome.count != count || outcome.image != plain::moved(scene, [0]) {
         call.fail(&format!(
             "{outcome:?}, which is not what was worked out beforehand"
         ));
@@ -167,10 +186,11 @@ fn accepted(scene: &Scene, call: &Call<Frame>, outcome: &Outcome) {
         let base = plain::content(scene, 0, base);
         plain::content(scene, 0, derived).wrapping_sub(base)
     };
-    for pair in slots.iter().copied().flatten() {
-        if slots.contains(&Some([pair[0]; 2])) && distance(scene, pair) != distance(&after, pair) {
+    for pointer in slots.iter().copied() {
+        let itself = slots.contains(&[pointer[0]; 2]);
+        if itself && distance(scene, pointer) != distance(&after, pointer) {
             call.fail(&format!(
-                "{outcome:?}, and the pair {pair:?} has grown or shrunk"
+                "{outcome:?}, and the pointer {pointer:?} is elsewhere in its object"
             ));
         }
     }

@@ -190,7 +190,7 @@ fn the_section_in_memory_is_right_where_the_file_is_not() {
         let said = String::from_utf8_lossy(&place.run(session).stdout).into_owned();
         let right = name != "read-only-pie";
         assert_eq!(
-            said.contains("2 frames moved, 4 pairs"),
+            said.contains("2 frames moved, 4 pointers"),
             right,
             "{name}: {said}"
         );

@@ -105,10 +105,10 @@ fn run(rng: &mut Rng, counts: &mut Counts) {
     }
 }
 
-/// What holds of an accepted list: the sum of the pairs and the image are those worked out beforehand,
+/// What holds of an accepted list: the sum of the pointers and the image are those worked out beforehand,
 /// those of the frames moved one by one, and those of the list in another order.
 fn accepted(rng: &mut Rng, thread: &Thread, call: &Call<&[u64]>, outcome: &Outcome) {
-    if outcome.count != thread.pairs() || outcome.image != thread.moved() {
+    if outcome.count != thread.pointers() || outcome.image != thread.moved() {
         call.fail(&format!("{outcome:?}, worked out otherwise beforehand"));
     }
     let mut single = Outcome {

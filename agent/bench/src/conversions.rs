@@ -26,13 +26,26 @@ pub fn rows(rounds: usize, section: &[u8]) {
 
 /// Both implementations give the same listing, and of it the same section again. Gives the listing.
 fn agree(section: &[u8]) -> Vec<u8> {
-    let Ok(listing) = treskibben::listing_of(section) else { panic!("the section has no listing") };
+    let Ok(listing) = treskibben::listing_of(section) else {
+        panic!("the section has no listing")
+    };
     let mut second = vec![0; listing.len()];
-    assert_eq!(reference::to_listing(section, &mut second), Ok(listing.len()), "the second listing's length");
+    assert_eq!(
+        reference::to_listing(section, &mut second),
+        Ok(listing.len()),
+        "the second listing's length"
+    );
     assert!(second == listing, "the second listing differs");
-    assert!(treskibben::section_of(&listing).as_deref() == Ok(section), "the listing's section differs");
+    assert!(
+        treskibben::section_of(&listing).as_deref() == Ok(section),
+        "the listing's section differs"
+    );
     second.resize(section.len(), 0);
-    assert_eq!(reference::to_section(&listing, &mut second), Ok(section.len()), "the second section's length");
+    assert_eq!(
+        reference::to_section(&listing, &mut second),
+        Ok(section.len()),
+        "the second section's length"
+    );
     assert!(second == section, "the second section differs");
     listing
 }
@@ -45,14 +58,29 @@ fn one_way(rounds: usize, name: &str, input: &[u8], library: Convert, second: Co
     };
     let action = |convert: Convert| {
         let mut output = vec![0; 2 * input.len()];
-        move || assert!(convert(black_box(input), black_box(&mut output)), "{name} is refused")
+        move || {
+            assert!(
+                convert(black_box(input), black_box(&mut output)),
+                "{name} is refused"
+            )
+        }
     };
     let rows = measure(
         rounds,
-        &mut [(name, &mut action(library)), (REFERENCE, &mut action(second)), (COPY, &mut action(copy))],
+        &mut [
+            (name, &mut action(library)),
+            (REFERENCE, &mut action(second)),
+            (COPY, &mut action(copy)),
+        ],
     );
     println!("\n{}", table(&rows, &[REFERENCE, COPY]));
-    let title = format!("{name}: times on {} bytes, {rounds} rounds in one run", input.len());
-    svg::save(&format!("{}.svg", name.replace(' ', "-")), &svg::bars(&title, &rows, REFERENCE));
+    let title = format!(
+        "{name}: times on {} bytes, {rounds} rounds in one run",
+        input.len()
+    );
+    svg::save(
+        &format!("{}.svg", name.replace(' ', "-")),
+        &svg::bars(&title, &rows, REFERENCE),
+    );
     say(&rows, name, REFERENCE, "the reference", MOST_OF_REFERENCE);
 }

@@ -26,7 +26,9 @@ const MIXED: &str = "flat check, all arrays";
 /// The check and the slow lookups.
 pub fn rows(rounds: usize, limit: usize) {
     checks(rounds, limit);
-    Kind::ALL.into_iter().for_each(|kind| lookups(rounds, kind, limit));
+    Kind::ALL
+        .into_iter()
+        .for_each(|kind| lookups(rounds, kind, limit));
 }
 
 /// Sections of the largest length: one full of each array, and one with all of them, as many as frames and records
@@ -41,13 +43,20 @@ fn checks(rounds: usize, limit: usize) {
     }
     let read = sections[0].1.clone();
     let mut plain = crate::on(&read, words::sum);
-    let mut checks: Vec<_> = sections.iter().map(|(_, bytes)| crate::on(bytes, flat::check)).collect();
+    let mut checks: Vec<_> = sections
+        .iter()
+        .map(|(_, bytes)| crate::on(bytes, flat::check))
+        .collect();
     let mut actions: Vec<(&str, &mut dyn FnMut())> = vec![(READ, &mut plain)];
     for ((name, _), check) in sections.iter().zip(&mut checks) {
         actions.push((name, check));
     }
     let rows = measure(rounds, &mut actions);
-    println!("\nflat sections of {} bytes, and one of {} with all arrays", read.len(), sections[5].1.len());
+    println!(
+        "\nflat sections of {} bytes, and one of {} with all arrays",
+        read.len(),
+        sections[5].1.len()
+    );
     println!("\n{}", table(&rows, &[READ]));
     for name in FULL.iter().chain(&[MIXED]) {
         say(&rows, name, READ, "a plain read", MOST_READS);
@@ -68,16 +77,25 @@ const CHECK: &str = "flat check";
 fn lookups(rounds: usize, kind: Kind, limit: usize) {
     let slow = section(kind, limit, false);
     let bytes = slow.flat.encode();
-    assert_eq!(flat::find(&bytes, slow.address).map_err(|refusal| refusal.number()), Err(41));
+    assert_eq!(
+        flat::find(&bytes, slow.address).map_err(|refusal| refusal.number()),
+        Err(41)
+    );
     let rows = measure(
         rounds,
         &mut [
-            (LOOKUP, &mut crate::on(&bytes, |bytes| flat::find(bytes, black_box(slow.address)))),
+            (
+                LOOKUP,
+                &mut crate::on(&bytes, |bytes| flat::find(bytes, black_box(slow.address))),
+            ),
             (CHECK, &mut crate::on(&bytes, flat::check)),
         ],
     );
     let (frames, records) = (slow.flat.frames.len(), slow.flat.records.len());
-    println!("\na section of {} bytes made to be slow ({kind:?}): {frames} frames, {records} records", bytes.len());
+    println!(
+        "\na section of {} bytes made to be slow ({kind:?}): {frames} frames, {records} records",
+        bytes.len()
+    );
     println!("\n{}", table(&rows, &[CHECK]));
     println!("the frames name {} records in all", slow.steps());
 }
@@ -91,7 +109,11 @@ mod tests {
         let flat = mixed(16_777_216);
         let bytes = flat.encode();
         assert!(flat.counts().iter().all(|count| *count >= 131_070));
-        assert!(bytes.len() <= 16_777_216 && bytes.len() > 16_777_000, "{}", bytes.len());
+        assert!(
+            bytes.len() <= 16_777_216 && bytes.len() > 16_777_000,
+            "{}",
+            bytes.len()
+        );
         assert_eq!(reference::flat::check(&bytes), Ok(()));
     }
 }

@@ -43,7 +43,12 @@ pub fn rows(rounds: usize, bytes: &[u8]) {
     let small = on_small(rounds);
     println!("\n{}", table(&small, &[REFERENCE]));
     say(&small, MANY, REFERENCE, "the reference", MOST_OF_REFERENCE);
-    let time = |name: &str| small.iter().find(|row| row.name == name).map_or(0.0, |row| row.median);
+    let time = |name: &str| {
+        small
+            .iter()
+            .find(|row| row.name == name)
+            .map_or(0.0, |row| row.median)
+    };
     let pair = |more: &str| (time(more) - time(FEW)) * 1e6 / (TIMES * PAIRS) as f64;
     println!("{TIMES} moves of one frame in each row, with a table of {OBJECTS} objects; the reference has 256 pairs too");
     println!("a pair of 256 on average: {:.0} ns, with its comparison to all before it, without the table check", pair(MANY));
@@ -51,15 +56,30 @@ pub fn rows(rounds: usize, bytes: &[u8]) {
 
 /// The frame of the last statepoint whose pairs can be moved, on an image of its own; every base is 0.
 fn on_large(rounds: usize, bytes: &[u8]) -> Vec<Row> {
-    let Ok(read) = reference::section::read(bytes) else { panic!("the second implementation refuses the section") };
+    let Ok(read) = reference::section::read(bytes) else {
+        panic!("the second implementation refuses the section")
+    };
     let mut image = vec![0; 1_048_576];
     let mut relocate = |address: u64| {
         let frame = Frame::new(black_box(address), 0, STACK);
-        treskibben::relocate(black_box(bytes), &mut image, STACK, MoveTable::default(), frame)
+        treskibben::relocate(
+            black_box(bytes),
+            &mut image,
+            STACK,
+            MoveTable::default(),
+            frame,
+        )
     };
     let addresses = read.records.iter().rev().map(|record| record.address);
-    let moved = |address| relocate(address).ok().filter(|count| *count > 0).map(|count| (address, count));
-    let Some((address, count)) = addresses.take(100).find_map(moved) else { panic!("no frame can be moved") };
+    let moved = |address| {
+        relocate(address)
+            .ok()
+            .filter(|count| *count > 0)
+            .map(|count| (address, count))
+    };
+    let Some((address, count)) = addresses.take(100).find_map(moved) else {
+        panic!("no frame can be moved")
+    };
     println!("\nthe frame on the large section has {count} pairs");
     measure(
         rounds,
@@ -84,7 +104,13 @@ impl Stack {
             image.extend([base, base + 24].map(u64::to_le_bytes).concat());
         }
         let section = statepoint_with_pairs(pairs);
-        Stack { section, image, olds, news, frame: Frame::new(STATEPOINT, 0, STACK) }
+        Stack {
+            section,
+            image,
+            olds,
+            news,
+            frame: Frame::new(STATEPOINT, 0, STACK),
+        }
     }
 
     fn by_library(&mut self) {
@@ -97,12 +123,32 @@ impl Stack {
     }
 
     fn by_reference(&mut self) {
-        let Frame { address, rbp, rsp, function } = self.frame;
-        let frame = reference::Frame { address, rbp, rsp, function };
+        let Frame {
+            address,
+            rbp,
+            rsp,
+            function,
+        } = self.frame;
+        let frame = reference::Frame {
+            address,
+            rbp,
+            rsp,
+            function,
+        };
         for _ in 0..TIMES {
             let section = black_box(&self.section);
-            let moved = reference::relocate(section, &mut self.image, STACK, &self.olds, &self.news, frame);
-            assert!(black_box(moved).is_ok(), "the second implementation refuses the frame");
+            let moved = reference::relocate(
+                section,
+                &mut self.image,
+                STACK,
+                &self.olds,
+                &self.news,
+                frame,
+            );
+            assert!(
+                black_box(moved).is_ok(),
+                "the second implementation refuses the frame"
+            );
         }
     }
 }
@@ -113,7 +159,11 @@ fn on_small(rounds: usize) -> Vec<Row> {
     let table = MoveTable::new(&many.olds, &many.news);
     let moved = treskibben::relocate(&many.section, &mut many.image, STACK, table, many.frame);
     assert_eq!(moved, Ok(PAIRS), "the frame on the small section");
-    assert!(many.image.chunks_exact(8).zip(before.chunks_exact(8)).all(|(after, before)| after != before));
+    assert!(many
+        .image
+        .chunks_exact(8)
+        .zip(before.chunks_exact(8))
+        .all(|(after, before)| after != before));
     measure(
         rounds,
         &mut [

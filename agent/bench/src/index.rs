@@ -41,18 +41,38 @@ enum Order {
 pub fn rows(rounds: usize, limit: usize) {
     let sections = [
         ("the large section", section::build(limit)),
-        ("the section of short records", section::short_records(limit, 4_096)),
+        (
+            "the section of short records",
+            section::short_records(limit, 4_096),
+        ),
     ];
     for (name, bytes) in &sections {
-        on(rounds, &format!("{name}, in address order"), bytes, Order::Rising);
-        on(rounds, &format!("{name}, falling"), &placed(bytes, Order::Falling), Order::Falling);
-        on(rounds, &format!("{name}, shuffled"), &placed(bytes, Order::Shuffled), Order::Shuffled);
+        on(
+            rounds,
+            &format!("{name}, in address order"),
+            bytes,
+            Order::Rising,
+        );
+        on(
+            rounds,
+            &format!("{name}, falling"),
+            &placed(bytes, Order::Falling),
+            Order::Falling,
+        );
+        on(
+            rounds,
+            &format!("{name}, shuffled"),
+            &placed(bytes, Order::Shuffled),
+            Order::Shuffled,
+        );
     }
 }
 
 /// The same section with other addresses: all functions at one, and the records 16 bytes apart in this order.
 fn placed(bytes: &[u8], order: Order) -> Vec<u8> {
-    let Ok(read) = reference::section::read(bytes) else { panic!("the second implementation refuses the section") };
+    let Ok(read) = reference::section::read(bytes) else {
+        panic!("the second implementation refuses the section")
+    };
     let count = read.records.len() as u32;
     let mut places: Vec<u32> = (0..count).collect();
     if order == Order::Falling {
@@ -78,28 +98,48 @@ fn placed(bytes: &[u8], order: Order) -> Vec<u8> {
 fn addresses(entries: &[u64]) -> Vec<u64> {
     let mut numbers = Numbers(11);
     let records = entries.len() as u64 / 2;
-    (0..ADDRESSES).map(|_| entries[2 * numbers.below(records) as usize]).collect()
+    (0..ADDRESSES)
+        .map(|_| entries[2 * numbers.below(records) as usize])
+        .collect()
 }
 
 /// An index that is the right one, by both implementations, and its answers are those without it.
 fn agree<'a>(name: &str, bytes: &'a [u8]) -> Index<'a> {
     let index = Index::of(bytes).unwrap_or_else(|refusal| panic!("{name}: {refusal}"));
     let mut second = vec![0; index.entries().len()];
-    assert_eq!(reference::fill_index(bytes, &mut second), Ok(second.len() as u64), "{name}");
+    assert_eq!(
+        reference::fill_index(bytes, &mut second),
+        Ok(second.len() as u64),
+        "{name}"
+    );
     assert!(second == index.entries(), "{name}: the two indexes differ");
     for address in [second[0], second[0] + 1, second[second.len() - 2]] {
-        assert_eq!(index.find(address), treskibben::find(bytes, address), "{name}");
+        assert_eq!(
+            index.find(address),
+            treskibben::find(bytes, address),
+            "{name}"
+        );
     }
     index
 }
 
 fn on(rounds: usize, name: &str, bytes: &[u8], order: Order) {
-    let Ok(read) = reference::section::read(bytes) else { panic!("the second implementation refuses {name}") };
+    let Ok(read) = reference::section::read(bytes) else {
+        panic!("the second implementation refuses {name}")
+    };
     let index = agree(name, bytes);
-    println!("\n{name}: {} bytes, {} records", bytes.len(), read.records.len());
+    println!(
+        "\n{name}: {} bytes, {} records",
+        bytes.len(),
+        read.records.len()
+    );
     let rows = measured(rounds, bytes, &index, &Stack::new(&read));
     println!("\n{}", table(&rows, &[CHECK]));
-    let most = if order == Order::Rising { MOST_IN_ORDER } else { MOST_SHUFFLED };
+    let most = if order == Order::Rising {
+        MOST_IN_ORDER
+    } else {
+        MOST_SHUFFLED
+    };
     say(&rows, FILL, CHECK, "the check", most);
     if order == Order::Rising {
         say(&rows, BY_INDEX, CHECK, "the check", MOST_BY_INDEX);
@@ -133,7 +173,10 @@ fn measured<'a>(rounds: usize, bytes: &'a [u8], index: &'a Index, stack: &'a Sta
             (FILL, &mut || {
                 let _ = black_box(treskibben::fill_index(black_box(bytes), &mut list));
             }),
-            (FIND, &mut crate::on(bytes, move |bytes| treskibben::find(bytes, black_box(last)))),
+            (
+                FIND,
+                &mut crate::on(bytes, move |bytes| treskibben::find(bytes, black_box(last))),
+            ),
             (BY_INDEX, &mut || {
                 let _ = black_box(black_box(index).find(black_box(last)));
             }),
@@ -152,13 +195,26 @@ fn measured<'a>(rounds: usize, bytes: &'a [u8], index: &'a Index, stack: &'a Sta
 /// What an address of many costs beside the checks that the call may take, and beside one question through an index.
 fn each(rows: &[Row]) {
     let checks = ratio(rows, MANY, CHECK);
-    let time = |name: &str| rows.iter().find(|row| row.name == name).map_or(0.0, |row| row.median);
+    let time = |name: &str| {
+        rows.iter()
+            .find(|row| row.name == name)
+            .map_or(0.0, |row| row.median)
+    };
     let micros = |beside: f64| (time(MANY) - beside) * 1e3 / ADDRESSES as f64;
     let over = micros(MOST_CHECKS * time(CHECK));
-    let verdict = if over <= MOST_EACH { "reached" } else { "NOT reached" };
+    let verdict = if over <= MOST_EACH {
+        "reached"
+    } else {
+        "NOT reached"
+    };
     println!("{MANY}: {checks:.3} of the check");
-    println!("  beside {MOST_CHECKS} checks {over:.3} us each, at most {MOST_EACH} wanted: {verdict}");
-    println!("  beside one question through the index {:.3} us each", micros(time(BY_INDEX)));
+    println!(
+        "  beside {MOST_CHECKS} checks {over:.3} us each, at most {MOST_EACH} wanted: {verdict}"
+    );
+    println!(
+        "  beside one question through the index {:.3} us each",
+        micros(time(BY_INDEX))
+    );
 }
 
 #[cfg(test)]
@@ -168,18 +224,28 @@ mod tests {
     /// The sections lie as their order says, are accepted, and have an index that both implementations fill alike.
     #[test]
     fn sections_in_each_order() {
-        for bytes in [section::build(200_000), section::short_records(2_000_000, 4_096)] {
+        for bytes in [
+            section::build(200_000),
+            section::short_records(2_000_000, 4_096),
+        ] {
             for order in [Order::Rising, Order::Falling, Order::Shuffled] {
                 let placed = placed(&bytes, order);
-                let Ok(read) = reference::section::read(&placed) else { panic!("the section is refused") };
+                let Ok(read) = reference::section::read(&placed) else {
+                    panic!("the section is refused")
+                };
                 let own: Vec<u64> = read.records.iter().map(|record| record.address).collect();
                 let rises = own.is_sorted_by(|one, next| one < next);
                 let falls = own.is_sorted_by(|one, next| one > next);
-                assert_eq!((rises, falls), (order == Order::Rising, order == Order::Falling));
+                assert_eq!(
+                    (rises, falls),
+                    (order == Order::Rising, order == Order::Falling)
+                );
                 let index = agree("a small section", &placed);
                 let asked = addresses(index.entries());
                 assert_eq!(asked.len(), ADDRESSES);
-                assert!(index.find_all(&asked).is_ok_and(|answers| answers.iter().all(Option::is_some)));
+                assert!(index
+                    .find_all(&asked)
+                    .is_ok_and(|answers| answers.iter().all(Option::is_some)));
             }
         }
     }

@@ -65,7 +65,10 @@ fn rounds(words: &[&str]) -> usize {
     match asked {
         Some(rounds) if rounds >= FEWEST => return rounds,
         Some(_) => eprintln!("bench: fewer than {FEWEST} rounds give no steady median"),
-        None => eprintln!("bench: [reads|flat|index] [ROUNDS] is what can be asked, and not `{}`", words.join(" ")),
+        None => eprintln!(
+            "bench: [reads|flat|index] [ROUNDS] is what can be asked, and not `{}`",
+            words.join(" ")
+        ),
     }
     std::process::exit(2);
 }
@@ -93,22 +96,69 @@ struct Last {
 /// All read the same section: both checks accept it, the parser's sum is that of the fields we read, and the
 /// questions are answered as they should be. Gives the last record.
 fn agree(bytes: &[u8]) -> Last {
-    assert!(treskibben::check(bytes).is_ok(), "the proved check refuses the section");
-    let Ok(read) = reference::section::read(bytes) else { panic!("the second implementation refuses the section") };
-    assert_eq!(parser::walk(bytes), parser::sum(&read), "the parser reads other fields");
+    assert!(
+        treskibben::check(bytes).is_ok(),
+        "the proved check refuses the section"
+    );
+    let Ok(read) = reference::section::read(bytes) else {
+        panic!("the second implementation refuses the section")
+    };
+    assert_eq!(
+        parser::walk(bytes),
+        parser::sum(&read),
+        "the parser reads other fields"
+    );
     let (functions, constants) = (read.functions.len(), read.constants.len());
-    let locations: usize = read.records.iter().map(|record| record.locations.len()).sum();
-    let live_outs: usize = read.records.iter().map(|record| record.live_outs.len()).sum();
-    println!("section of {} bytes: {functions} functions, {constants} constants,", bytes.len());
-    println!("{} records with {locations} locations and {live_outs} live-outs", read.records.len());
-    println!("StackMapParser of LLVM 14 compiled with {}", env!("PARSER_COMPILER"));
-    let Some(record) = read.records.last() else { panic!("the section has no records") };
-    let last = Last { number: read.records.len() as u64 - 1, address: record.address };
-    assert!(read.records.iter().all(|other| other.address <= last.address), "the last record is not the highest");
+    let locations: usize = read
+        .records
+        .iter()
+        .map(|record| record.locations.len())
+        .sum();
+    let live_outs: usize = read
+        .records
+        .iter()
+        .map(|record| record.live_outs.len())
+        .sum();
+    println!(
+        "section of {} bytes: {functions} functions, {constants} constants,",
+        bytes.len()
+    );
+    println!(
+        "{} records with {locations} locations and {live_outs} live-outs",
+        read.records.len()
+    );
+    println!(
+        "StackMapParser of LLVM 14 compiled with {}",
+        env!("PARSER_COMPILER")
+    );
+    let Some(record) = read.records.last() else {
+        panic!("the section has no records")
+    };
+    let last = Last {
+        number: read.records.len() as u64 - 1,
+        address: record.address,
+    };
+    assert!(
+        read.records
+            .iter()
+            .all(|other| other.address <= last.address),
+        "the last record is not the highest"
+    );
     let found = treskibben::find(bytes, last.address).map(|found| (found.record, found.sharing));
-    assert_eq!(found, Ok((last.number, 1)), "the last record is found at its address");
-    assert!(treskibben::find(bytes, last.address + 1).is_err(), "no record is found above it");
-    assert_eq!(treskibben::record(bytes, last.number), Ok(&bytes[record.first..]), "the last record's bytes");
+    assert_eq!(
+        found,
+        Ok((last.number, 1)),
+        "the last record is found at its address"
+    );
+    assert!(
+        treskibben::find(bytes, last.address + 1).is_err(),
+        "no record is found above it"
+    );
+    assert_eq!(
+        treskibben::record(bytes, last.number),
+        Ok(&bytes[record.first..]),
+        "the last record's bytes"
+    );
     last
 }
 
@@ -121,13 +171,31 @@ fn rows(rounds: usize, bytes: &[u8], last: &Last) {
             (REFERENCE, &mut on(bytes, reference::section::check)),
             (PARSER, &mut on(bytes, parser::walk)),
             ("plain read", &mut on(bytes, words::sum)),
-            (FOUND, &mut on(bytes, |bytes| treskibben::find(bytes, black_box(last.address)))),
-            (NOT_FOUND, &mut on(bytes, |bytes| treskibben::find(bytes, black_box(last.address + 1)))),
-            (BY_NUMBER, &mut on(bytes, |bytes| treskibben::record(bytes, black_box(last.number)))),
+            (
+                FOUND,
+                &mut on(bytes, |bytes| {
+                    treskibben::find(bytes, black_box(last.address))
+                }),
+            ),
+            (
+                NOT_FOUND,
+                &mut on(bytes, |bytes| {
+                    treskibben::find(bytes, black_box(last.address + 1))
+                }),
+            ),
+            (
+                BY_NUMBER,
+                &mut on(bytes, |bytes| {
+                    treskibben::record(bytes, black_box(last.number))
+                }),
+            ),
         ],
     );
     println!("\n{}", table(&rows, &[PARSER, REFERENCE, CHECK]));
-    let title = format!("Times on a section of {} bytes, {rounds} rounds in one run", bytes.len());
+    let title = format!(
+        "Times on a section of {} bytes, {rounds} rounds in one run",
+        bytes.len()
+    );
     svg::save("check.svg", &svg::bars(&title, &rows, PARSER));
     for question in [FOUND, NOT_FOUND, BY_NUMBER] {
         say(&rows, question, CHECK, "the check", MOST_OF_CHECK);

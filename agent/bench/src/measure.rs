@@ -28,7 +28,11 @@ pub fn measure(rounds: usize, actions: &mut [(&str, &mut dyn FnMut())]) -> Vec<R
             times[number].push(start.elapsed());
         }
     }
-    actions.iter().zip(times).map(|((name, _), times)| row(name, times)).collect()
+    actions
+        .iter()
+        .zip(times)
+        .map(|((name, _), times)| row(name, times))
+        .collect()
 }
 
 fn row(name: &str, mut times: Vec<Duration>) -> Row {
@@ -47,14 +51,21 @@ fn row(name: &str, mut times: Vec<Duration>) -> Row {
 pub fn table(rows: &[Row], bases: &[&str]) -> String {
     let bases: Vec<&Row> = bases.iter().map(|base| find(rows, base)).collect();
     let width = 2 + rows.iter().map(|row| row.name.len()).max().unwrap_or(0);
-    let mut text = format!("{:<width$}{:>11}{:>19}{:>11}", "", "median ms", "quartiles", "fastest");
+    let mut text = format!(
+        "{:<width$}{:>11}{:>19}{:>11}",
+        "", "median ms", "quartiles", "fastest"
+    );
     for base in &bases {
         let _ = write!(text, "{:>20}", format!("/ {}", base.name));
     }
     text.push('\n');
     for row in rows {
         let quartiles = format!("{:.3}..{:.3}", row.lower_quartile, row.upper_quartile);
-        let _ = write!(text, "{:<width$}{:>11.3}{:>19}{:>11.3}", row.name, row.median, quartiles, row.fastest);
+        let _ = write!(
+            text,
+            "{:<width$}{:>11.3}{:>19}{:>11.3}",
+            row.name, row.median, quartiles, row.fastest
+        );
         for base in &bases {
             let _ = write!(text, "{:>20.3}", ratio(rows, &row.name, &base.name));
         }
@@ -66,7 +77,11 @@ pub fn table(rows: &[Row], bases: &[&str]) -> String {
 /// Prints the ratio of one row's median to that of another, which has these words, and whether it is at most as wanted.
 pub fn say(rows: &[Row], name: &str, base: &str, words: &str, most: f64) {
     let ratio = ratio(rows, name, base);
-    let verdict = if ratio <= most { "reached" } else { "NOT reached" };
+    let verdict = if ratio <= most {
+        "reached"
+    } else {
+        "NOT reached"
+    };
     println!("{name}: {ratio:.3} of {words}, at most {most} wanted: {verdict}");
 }
 
@@ -76,5 +91,7 @@ pub fn ratio(rows: &[Row], name: &str, base: &str) -> f64 {
 }
 
 fn find<'a>(rows: &'a [Row], name: &str) -> &'a Row {
-    rows.iter().find(|row| row.name == name).unwrap_or_else(|| panic!("no row {name}"))
+    rows.iter()
+        .find(|row| row.name == name)
+        .unwrap_or_else(|| panic!("no row {name}"))
 }

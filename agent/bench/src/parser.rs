@@ -15,19 +15,29 @@ pub fn walk(bytes: &[u8]) -> u64 {
 
 /// The same sum over the section as the second implementation read it.
 pub fn sum(section: &Section) -> u64 {
-    let functions = section.functions.iter().flat_map(|function| {
-        [function.address, function.stack_size, function.record_count]
-    });
+    let functions = section
+        .functions
+        .iter()
+        .flat_map(|function| [function.address, function.stack_size, function.record_count]);
     let constants = section.constants.iter().copied();
     let records = section.records.iter().map(sum_of_record);
-    functions.chain(constants).chain(records).fold(0, u64::wrapping_add)
+    functions
+        .chain(constants)
+        .chain(records)
+        .fold(0, u64::wrapping_add)
 }
 
 fn sum_of_record(record: &Record) -> u64 {
     let counts = record.locations.len() as u64 + record.live_outs.len() as u64;
-    let head = record.id.wrapping_add(u64::from(record.offset)).wrapping_add(counts);
+    let head = record
+        .id
+        .wrapping_add(u64::from(record.offset))
+        .wrapping_add(counts);
     let locations = record.locations.iter().map(sum_of_location);
-    let live_outs = record.live_outs.iter().map(|live_out| u64::from(live_out.register) + u64::from(live_out.size));
+    let live_outs = record
+        .live_outs
+        .iter()
+        .map(|live_out| u64::from(live_out.register) + u64::from(live_out.size));
     locations.chain(live_outs).fold(head, u64::wrapping_add)
 }
 

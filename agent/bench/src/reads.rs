@@ -21,11 +21,18 @@ type Read = fn(&[u8], &[usize], u64) -> usize;
 const HALVES: &str = "by halves";
 const BYTES: &str = "by bytes";
 const PLAIN: &str = "plain read";
-const WAYS: [(&str, Read); 3] = [(HALVES, ffi::by_halves), (BYTES, ffi::by_bytes), (PLAIN, plain)];
+const WAYS: [(&str, Read); 3] = [
+    (HALVES, ffi::by_halves),
+    (BYTES, ffi::by_bytes),
+    (PLAIN, plain),
+];
 
 /// One table for each list of places.
 pub fn rows(rounds: usize, bytes: &[u8]) {
-    println!("{READS} reads of eight bytes in each row, on a section of {} bytes", bytes.len());
+    println!(
+        "{READS} reads of eight bytes in each row, on a section of {} bytes",
+        bytes.len()
+    );
     agree(bytes, &near_end(bytes.len()), NUMBER);
     for (name, places) in lists(bytes.len()) {
         let found = agree_on_list(bytes, &places);
@@ -37,14 +44,23 @@ pub fn rows(rounds: usize, bytes: &[u8]) {
             }
         };
         let [mut halves, mut single, mut plain] = WAYS.map(|(_, read)| action(read));
-        let rows = measure(rounds, &mut [(HALVES, &mut halves), (BYTES, &mut single), (PLAIN, &mut plain)]);
+        let rows = measure(
+            rounds,
+            &mut [
+                (HALVES, &mut halves),
+                (BYTES, &mut single),
+                (PLAIN, &mut plain),
+            ],
+        );
         print!("{}", table(&rows, &[HALVES, PLAIN]));
     }
 }
 
 /// Reads in one way, once, over the first list: `./bench reads --count` counts the instructions of that.
 pub fn once(way: &str, bytes: &[u8]) {
-    let Some((_, read)) = WAYS.iter().find(|(name, _)| *name == way) else { panic!("no way to read {way}") };
+    let Some((_, read)) = WAYS.iter().find(|(name, _)| *name == way) else {
+        panic!("no way to read {way}")
+    };
     let (name, places) = lists(bytes.len()).swap_remove(0);
     let found = read(bytes, &places, NUMBER);
     println!("{way}, {READS} places {name}, found at {found}:");
@@ -53,7 +69,10 @@ pub fn once(way: &str, bytes: &[u8]) {
 /// All three give the same count, which is returned.
 fn agree(bytes: &[u8], places: &[usize], number: u64) -> usize {
     let found = WAYS.map(|(_, read)| read(bytes, places, number));
-    assert!(found.iter().all(|count| *count == found[0]), "{number} is found at {found:?} places");
+    assert!(
+        found.iter().all(|count| *count == found[0]),
+        "{number} is found at {found:?} places"
+    );
     found[0]
 }
 
@@ -76,22 +95,38 @@ fn lists(length: usize) -> Vec<(&'static str, Vec<usize>)> {
     let mut random = || 8 * numbers.below(words as u64) as usize;
     let odd = |nth: usize| 1 + 2 * (nth % 4);
     vec![
-        ("in order, aligned to 8", (0..READS).map(|nth| 8 * nth).collect()),
-        ("in order, odd", (0..READS).map(|nth| 8 * nth + odd(nth)).collect()),
-        ("random, aligned to 8", (0..READS).map(|_| random()).collect()),
-        ("random, odd", (0..READS).map(|nth| random() + odd(nth)).collect()),
+        (
+            "in order, aligned to 8",
+            (0..READS).map(|nth| 8 * nth).collect(),
+        ),
+        (
+            "in order, odd",
+            (0..READS).map(|nth| 8 * nth + odd(nth)).collect(),
+        ),
+        (
+            "random, aligned to 8",
+            (0..READS).map(|_| random()).collect(),
+        ),
+        (
+            "random, odd",
+            (0..READS).map(|nth| random() + odd(nth)).collect(),
+        ),
     ]
 }
 
 /// Places about the end of so many bytes, the most of which have no eight bytes.
 fn near_end(length: usize) -> Vec<usize> {
     let near = length - 9..length + 2;
-    near.chain([usize::MAX - 8, usize::MAX - 7, usize::MAX]).collect()
+    near.chain([usize::MAX - 8, usize::MAX - 7, usize::MAX])
+        .collect()
 }
 
 /// As one would write it in Rust. A place without eight bytes has no number.
 #[inline(never)]
 fn plain(bytes: &[u8], places: &[usize], number: u64) -> usize {
     let word = |at: usize| bytes.get(at..).and_then(|rest| rest.first_chunk());
-    places.iter().filter(|at| word(**at).is_some_and(|word| u64::from_le_bytes(*word) == number)).count()
+    places
+        .iter()
+        .filter(|at| word(**at).is_some_and(|word| u64::from_le_bytes(*word) == number))
+        .count()
 }

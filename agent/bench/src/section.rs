@@ -10,7 +10,10 @@ const FUNCTIONS_PER_CONSTANT: u64 = 16;
 
 /// A section as long as fits in `limit` bytes.
 pub fn build(limit: usize) -> Vec<u8> {
-    let mut parts = Parts { numbers: Numbers(1), ..Parts::default() };
+    let mut parts = Parts {
+        numbers: Numbers(1),
+        ..Parts::default()
+    };
     while parts.add_function(limit, Parts::add_record) {}
     parts.bytes()
 }
@@ -28,7 +31,10 @@ pub struct Statepoints {
 
 /// A section of statepoints as long as fits in `limit` bytes.
 pub fn statepoints(limit: usize, kind: Statepoints) -> Vec<u8> {
-    let mut parts = Parts { numbers: Numbers(1), ..Parts::default() };
+    let mut parts = Parts {
+        numbers: Numbers(1),
+        ..Parts::default()
+    };
     while parts.add_function(limit, |parts, number| parts.add_of_kind(kind, number)) {}
     parts.bytes()
 }
@@ -46,9 +52,13 @@ struct Parts {
 impl Parts {
     /// Adds a function with one to eight records, unless the section would be too long.
     fn add_function(&mut self, limit: usize, mut add_record: impl FnMut(&mut Parts, u32)) -> bool {
-        let (function_count, constant_count) = (self.functions.len() as u64 / 24, self.constants.len() as u64 / 8);
+        let (function_count, constant_count) = (
+            self.functions.len() as u64 / 24,
+            self.constants.len() as u64 / 8,
+        );
         if constant_count * FUNCTIONS_PER_CONSTANT <= function_count {
-            self.constants.extend((1 << 32 | self.numbers.next()).to_le_bytes());
+            self.constants
+                .extend((1 << 32 | self.numbers.next()).to_le_bytes());
         }
         let (start, count) = (self.records.len(), 1 + self.numbers.below(8));
         for number in 0..count {
@@ -84,7 +94,11 @@ impl Parts {
     /// The number-th record of its function, a statepoint of that kind.
     fn add_of_kind(&mut self, kind: Statepoints, number: u32) {
         let mut locations = vec![constant(0); 3];
-        let slots = if kind.parity_mixed { self.numbers.below(13) } else { 2 * self.numbers.below(7) };
+        let slots = if kind.parity_mixed {
+            self.numbers.below(13)
+        } else {
+            2 * self.numbers.below(7)
+        };
         for _ in 0..slots {
             let slot = self.slot();
             locations.push(slot);
@@ -94,7 +108,11 @@ impl Parts {
             locations[at] = self.const_index();
         }
         let some = self.numbers.below(100) < kind.live_outs;
-        let live_outs = if some { 1 + self.numbers.below(6) as u16 } else { 0 };
+        let live_outs = if some {
+            1 + self.numbers.below(6) as u16
+        } else {
+            0
+        };
         self.write_record(number, &locations, live_outs);
     }
 
@@ -109,7 +127,11 @@ impl Parts {
     /// Three constants, sometimes deoptimisation values, and up to six pairs: the first object is its own base, and
     /// each other pointer is derived from it or is an object of its own.
     fn add_statepoint(&mut self, locations: &mut Vec<Location>) {
-        let deopt = if self.numbers.below(8) == 0 { self.numbers.below(4) } else { 0 };
+        let deopt = if self.numbers.below(8) == 0 {
+            self.numbers.below(4)
+        } else {
+            0
+        };
         locations.extend([constant(0), constant(0), constant(deopt as i32)]);
         for _ in 0..deopt {
             let value = self.value();
@@ -118,7 +140,11 @@ impl Parts {
         let object = self.slot();
         for pair in 0..self.numbers.below(7) {
             let derived = if pair == 0 { object } else { self.slot() };
-            let base = if self.numbers.below(2) == 0 { object } else { derived };
+            let base = if self.numbers.below(2) == 0 {
+                object
+            } else {
+                derived
+            };
             locations.extend([base, derived]);
         }
     }
@@ -138,7 +164,12 @@ impl Parts {
     }
 
     fn const_index(&mut self) -> Location {
-        (5, 8, 0, self.numbers.below(self.constants.len() as u64 / 8) as i32)
+        (
+            5,
+            8,
+            0,
+            self.numbers.below(self.constants.len() as u64 / 8) as i32,
+        )
     }
 
     fn write_record(&mut self, number: u32, locations: &[Location], live_outs: u16) {
@@ -167,9 +198,19 @@ impl Parts {
 
     /// The whole section.
     fn bytes(self) -> Vec<u8> {
-        let counts = [self.functions.len() as u32 / 24, self.constants.len() as u32 / 8, self.record_count];
-        let header = [3, 0, 0, 0].into_iter().chain(counts.into_iter().flat_map(u32::to_le_bytes));
-        header.chain(self.functions).chain(self.constants).chain(self.records).collect()
+        let counts = [
+            self.functions.len() as u32 / 24,
+            self.constants.len() as u32 / 8,
+            self.record_count,
+        ];
+        let header = [3, 0, 0, 0]
+            .into_iter()
+            .chain(counts.into_iter().flat_map(u32::to_le_bytes));
+        header
+            .chain(self.functions)
+            .chain(self.constants)
+            .chain(self.records)
+            .collect()
     }
 }
 
@@ -199,7 +240,10 @@ pub fn short_records(limit: usize, functions: usize) -> Vec<u8> {
     const SHORT: usize = 24;
     let slots = [8, 8, 8, 16].map(|offset| (3, 8, RSP, offset));
     let statepoint = [&[constant(0); 3][..], &slots[..]].concat();
-    let mut parts = Parts { numbers: Numbers(1), ..Parts::default() };
+    let mut parts = Parts {
+        numbers: Numbers(1),
+        ..Parts::default()
+    };
     parts.write_record(0, &statepoint, 0);
     let long = parts.records.len();
     parts.records.clear();

@@ -44,7 +44,11 @@ pub struct Stack {
 /// Rows on the large section and on one of short records.
 pub fn rows(rounds: usize, large: &[u8], limit: usize) {
     on(rounds, "the large section", large);
-    on(rounds, "the section of short records", &section::short_records(limit, FRAMES));
+    on(
+        rounds,
+        "the section of short records",
+        &section::short_records(limit, FRAMES),
+    );
     extents(rounds);
 }
 
@@ -68,15 +72,27 @@ fn extents(rounds: usize) {
             (EXTENTS_MIXED, &mut action(&mixed)),
         ],
     );
-    println!("\none record; {FRAMES} frames with one pair each\n\n{}", table(&rows, &[EXTENTS_RISING]));
+    println!(
+        "\none record; {FRAMES} frames with one pair each\n\n{}",
+        table(&rows, &[EXTENTS_RISING])
+    );
 }
 
 fn on(rounds: usize, name: &str, bytes: &[u8]) {
-    let Ok(read) = reference::section::read(bytes) else { panic!("the second implementation refuses {name}") };
+    let Ok(read) = reference::section::read(bytes) else {
+        panic!("the second implementation refuses {name}")
+    };
     let (stack, other) = (Stack::new(&read), Stack::crossed(&read));
-    println!("\n{name}: {} bytes, {} records; {FRAMES} frames with {} pairs", bytes.len(), read.records.len(), stack.pairs);
+    println!(
+        "\n{name}: {} bytes, {} records; {FRAMES} frames with {} pairs",
+        bytes.len(),
+        read.records.len(),
+        stack.pairs
+    );
     let [one, rising, falling, mixed] = stack.lists();
-    [&rising, &falling, &mixed].iter().for_each(|list| stack.assert_moved(name, bytes, list));
+    [&rising, &falling, &mixed]
+        .iter()
+        .for_each(|list| stack.assert_moved(name, bytes, list));
     let action = |list| {
         let (stack, mut image) = (&stack, stack.image.clone());
         move || {
@@ -89,13 +105,24 @@ fn on(rounds: usize, name: &str, bytes: &[u8]) {
     };
     let mut image = stack.image.clone();
     let mut alone = || {
-        let _ = black_box(treskibben::relocate(black_box(bytes), &mut image, STACK, stack.table(), one[0]));
+        let _ = black_box(treskibben::relocate(
+            black_box(bytes),
+            &mut image,
+            STACK,
+            stack.table(),
+            one[0],
+        ));
     };
     let rows = measure(
         rounds,
         &mut [
             (CHECK, &mut crate::on(bytes, treskibben::check)),
-            (FIND, &mut crate::on(bytes, |bytes| treskibben::find(bytes, black_box(one[0].address)))),
+            (
+                FIND,
+                &mut crate::on(bytes, |bytes| {
+                    treskibben::find(bytes, black_box(one[0].address))
+                }),
+            ),
             (ALONE, &mut alone),
             (ONE, &mut action(&one)),
             (RISING, &mut action(&rising)),
@@ -123,8 +150,16 @@ impl Stack {
     }
 
     fn in_order(section: &reference::Section, order: fn(usize) -> usize) -> Stack {
-        let all: Vec<(u64, u64, usize)> = section.records.iter().filter_map(|record| fitting(section, record)).collect();
-        assert!(all.len() >= FRAMES, "only {} statepoints can be moved", all.len());
+        let all: Vec<(u64, u64, usize)> = section
+            .records
+            .iter()
+            .filter_map(|record| fitting(section, record))
+            .collect();
+        assert!(
+            all.len() >= FRAMES,
+            "only {} statepoints can be moved",
+            all.len()
+        );
         let (mut frames, mut bytes, mut pairs) = (Vec::new(), 0, 0);
         for nth in 0..FRAMES {
             let (address, size, own) = all[order(nth) * all.len() / FRAMES];
@@ -138,14 +173,23 @@ impl Stack {
     /// Frames of one word, all at the record of a section with one pair.
     fn at_one_record() -> Stack {
         let frame = |nth| Frame::new(section::STATEPOINT, 0, STACK + WORD * nth);
-        Stack::of((0..FRAMES as u64).map(frame).collect(), WORD * FRAMES as u64, FRAMES)
+        Stack::of(
+            (0..FRAMES as u64).map(frame).collect(),
+            WORD * FRAMES as u64,
+            FRAMES,
+        )
     }
 
     fn of(frames: Vec<Frame>, bytes: u64, pairs: usize) -> Stack {
         let objects: Vec<u64> = (1..=OBJECTS).map(|nth| 0x10_0000 + 64 * nth).collect();
         let base = objects[OBJECTS as usize / 3];
         let image = (0..bytes / WORD).flat_map(|_| base.to_le_bytes()).collect();
-        Stack { image, objects, frames, pairs }
+        Stack {
+            image,
+            objects,
+            frames,
+            pairs,
+        }
     }
 
     /// The last frame alone, and all of them: rising, falling and in any order.
@@ -161,15 +205,23 @@ impl Stack {
     }
 
     pub fn moved(&self, section: &[u8], frames: &[Frame], image: &mut [u8]) -> usize {
-        let moved = treskibben::relocate_thread(black_box(section), image, STACK, self.table(), frames);
+        let moved =
+            treskibben::relocate_thread(black_box(section), image, STACK, self.table(), frames);
         moved.unwrap_or_else(|refusal| panic!("the library refuses the thread: {refusal}"))
     }
 
     /// All pairs of the list are moved, and no byte changes: the objects stay where they were.
     fn assert_moved(&self, name: &str, section: &[u8], frames: &[Frame]) {
         let mut image = self.image.clone();
-        assert_eq!(self.moved(section, frames, &mut image), self.pairs, "the pairs on {name}");
-        assert!(image == self.image, "objects that stay where they were change no byte");
+        assert_eq!(
+            self.moved(section, frames, &mut image),
+            self.pairs,
+            "the pairs on {name}"
+        );
+        assert!(
+            image == self.image,
+            "objects that stay where they were change no byte"
+        );
     }
 
     /// Moves the frames with an index of the section.
@@ -189,10 +241,13 @@ fn any_order(nth: usize) -> usize {
 fn fitting(section: &reference::Section, record: &reference::Record) -> Option<(u64, u64, usize)> {
     let size = section.functions.get(record.function)?.stack_size;
     let (constants, rest) = record.locations.split_first_chunk::<3>()?;
-    let statepoint = constants.iter().all(|location| location.kind == 4) && record.live_outs.is_empty();
+    let statepoint =
+        constants.iter().all(|location| location.kind == 4) && record.live_outs.is_empty();
     let slots = rest.get(usize::try_from(constants[2].offset).ok()?..)?;
     let inside = |offset: i32| u64::try_from(offset).is_ok_and(|offset| offset + WORD <= size);
-    let fits = slots.iter().all(|slot| (slot.kind, slot.register) == (3, 7) && inside(slot.offset));
+    let fits = slots
+        .iter()
+        .all(|slot| (slot.kind, slot.register) == (3, 7) && inside(slot.offset));
     let movable = statepoint && fits && size <= MOST_BYTES && slots.len() >= 2;
     movable.then_some((record.address, size, slots.len() / 2))
 }
@@ -204,10 +259,15 @@ mod tests {
     /// What is measured is accepted, in each order, and comes to the same image.
     #[test]
     fn all_frames_can_be_moved_again_and_again() {
-        let sections = [section::build(crate::LIMIT), section::short_records(1_000_000, FRAMES)];
+        let sections = [
+            section::build(crate::LIMIT),
+            section::short_records(1_000_000, FRAMES),
+        ];
         let mut all = vec![(section::statepoint_with_pairs(1), Stack::at_one_record())];
         for bytes in sections {
-            let Ok(read) = reference::section::read(&bytes) else { panic!("the section is refused") };
+            let Ok(read) = reference::section::read(&bytes) else {
+                panic!("the section is refused")
+            };
             all.push((bytes.clone(), Stack::new(&read)));
             all.push((bytes, Stack::crossed(&read)));
         }
@@ -216,8 +276,18 @@ mod tests {
             for list in stack.lists() {
                 let numbers = treskibben::Frames::new(&list).numbers();
                 let mut image = stack.image.clone();
-                let moved = reference::thread(&bytes, &mut image, STACK, &stack.objects, &stack.objects, numbers);
-                assert!(moved.is_ok_and(|pairs| list.len() == 1 || pairs == stack.pairs as u64), "{moved:?}");
+                let moved = reference::thread(
+                    &bytes,
+                    &mut image,
+                    STACK,
+                    &stack.objects,
+                    &stack.objects,
+                    numbers,
+                );
+                assert!(
+                    moved.is_ok_and(|pairs| list.len() == 1 || pairs == stack.pairs as u64),
+                    "{moved:?}"
+                );
                 assert!(image == stack.image);
             }
         }

@@ -27,8 +27,14 @@ pub fn rows(rounds: usize, bytes: &[u8], limit: usize) {
     let plain = Statepoints::default();
     let of = |kind| section::statepoints(limit, kind);
     let statepoints = of(plain);
-    println!("\nthe check in unproved C compiled with {}", env!("CHECK_COMPILER"));
-    for (name, bytes) in [("the benchmark's section", bytes), ("statepoints", &statepoints)] {
+    println!(
+        "\nthe check in unproved C compiled with {}",
+        env!("CHECK_COMPILER")
+    );
+    for (name, bytes) in [
+        ("the benchmark's section", bytes),
+        ("statepoints", &statepoints),
+    ] {
         let rows = of_section(rounds, name, bytes);
         println!("{}", table(&rows, &[UNPROVED, PLAIN]));
         say(&rows, CHECK, UNPROVED, "the unproved C", MOST_OF_C);
@@ -36,21 +42,58 @@ pub fn rows(rounds: usize, bytes: &[u8], limit: usize) {
     }
     println!("\nthe check of other kinds of section, of the unproved C and of a plain read");
     for (name, bytes) in [
-        ("statepoints, odd and even", of(Statepoints { parity_mixed: true, ..plain })),
-        ("live-outs in 10% of the records", of(Statepoints { live_outs: 10, ..plain })),
-        ("live-outs in every record", of(Statepoints { live_outs: 100, ..plain })),
-        ("a ConstIndex in 10% of the records", of(Statepoints { const_index: 10, ..plain })),
-        ("a ConstIndex in every record", of(Statepoints { const_index: 100, ..plain })),
+        (
+            "statepoints, odd and even",
+            of(Statepoints {
+                parity_mixed: true,
+                ..plain
+            }),
+        ),
+        (
+            "live-outs in 10% of the records",
+            of(Statepoints {
+                live_outs: 10,
+                ..plain
+            }),
+        ),
+        (
+            "live-outs in every record",
+            of(Statepoints {
+                live_outs: 100,
+                ..plain
+            }),
+        ),
+        (
+            "a ConstIndex in 10% of the records",
+            of(Statepoints {
+                const_index: 10,
+                ..plain
+            }),
+        ),
+        (
+            "a ConstIndex in every record",
+            of(Statepoints {
+                const_index: 100,
+                ..plain
+            }),
+        ),
         ("short records", section::short_records(limit, 4096)),
         ("version 1", crate::version_1::of(&statepoints)),
     ] {
         let rows = of_section(rounds, "", &bytes);
-        println!("{name:<36}{:>8.3}{:>8.3}", ratio(&rows, CHECK, UNPROVED), ratio(&rows, CHECK, PLAIN));
+        println!(
+            "{name:<36}{:>8.3}{:>8.3}",
+            ratio(&rows, CHECK, UNPROVED),
+            ratio(&rows, CHECK, PLAIN)
+        );
     }
 }
 
 fn of_section(rounds: usize, name: &str, bytes: &[u8]) -> Vec<Row> {
-    assert!(check(bytes) && treskibben::check(bytes).is_ok(), "a check refuses the section");
+    assert!(
+        check(bytes) && treskibben::check(bytes).is_ok(),
+        "a check refuses the section"
+    );
     if !name.is_empty() {
         println!("\n{name}, {} bytes", bytes.len());
     }
@@ -72,8 +115,16 @@ mod tests {
     /// It accepts what the second implementation accepts, of sections with one or two bytes changed.
     #[test]
     fn the_same_as_the_second_implementation() {
-        let kind = Statepoints { parity_mixed: true, live_outs: 30, const_index: 30 };
-        for bytes in [section::build(3_000), section::statepoints(3_000, kind), section::short_records(3_000, 5)] {
+        let kind = Statepoints {
+            parity_mixed: true,
+            live_outs: 30,
+            const_index: 30,
+        };
+        for bytes in [
+            section::build(3_000),
+            section::statepoints(3_000, kind),
+            section::short_records(3_000, 5),
+        ] {
             same_of(&bytes);
             same_of(&crate::version_1::of(&bytes));
         }
@@ -93,9 +144,15 @@ mod tests {
             assert_eq!(check(&changed), wanted);
             accepted += usize::from(wanted);
         }
-        assert!((1_000..19_000).contains(&accepted), "{accepted} accepted: both answers are to be met");
+        assert!(
+            (1_000..19_000).contains(&accepted),
+            "{accepted} accepted: both answers are to be met"
+        );
         for length in 0..bytes.len() {
-            assert_eq!(check(&bytes[..length]), reference::section::check(&bytes[..length]).is_ok());
+            assert_eq!(
+                check(&bytes[..length]),
+                reference::section::check(&bytes[..length]).is_ok()
+            );
         }
     }
 }

@@ -27,20 +27,31 @@ struct Stack {
 
 /// The check of the section in both versions, and questions and a move on version 1.
 pub fn rows(rounds: usize, bytes: &[u8]) {
-    let Ok(read) = reference::section::read(bytes) else { panic!("the second implementation refuses the section") };
+    let Ok(read) = reference::section::read(bytes) else {
+        panic!("the second implementation refuses the section")
+    };
     let older = in_version_1(&read);
     let last = Place::of_last(&read);
     agree(&older, &last);
     let mut stack = Stack::on(&older, &read);
-    println!("\nthe same functions, constants and records in version 1: {} bytes", older.len());
+    println!(
+        "\nthe same functions, constants and records in version 1: {} bytes",
+        older.len()
+    );
     let rows = measure(
         rounds,
         &mut [
             (CHECK_3, &mut crate::on(bytes, treskibben::check)),
             (CHECK, &mut crate::on(&older, treskibben::check)),
             (REFERENCE, &mut crate::on(&older, reference::section::check)),
-            (FOUND, &mut crate::on(&older, |older| black_box(&last).find(older))),
-            (NOT_FOUND, &mut crate::on(&older, |older| black_box(&last).next().find(older))),
+            (
+                FOUND,
+                &mut crate::on(&older, |older| black_box(&last).find(older)),
+            ),
+            (
+                NOT_FOUND,
+                &mut crate::on(&older, |older| black_box(&last).next().find(older)),
+            ),
             (FRAME, &mut || {
                 let _ = black_box(stack.moved(black_box(&older)));
             }),
@@ -55,9 +66,19 @@ pub fn rows(rounds: usize, bytes: &[u8]) {
 
 /// Prints what a byte costs in both checks, and the ratio.
 fn by_the_byte(rows: &[Row], older: usize, newer: usize) {
-    let time = |name: &str| rows.iter().find(|row| row.name == name).map_or(0.0, |row| row.median);
-    let (one, three) = (time(CHECK) * 1e6 / older as f64, time(CHECK_3) * 1e6 / newer as f64);
-    println!("the check by the byte: version 1 {one:.3} ns, version 3 {three:.3} ns, ratio {:.3}", one / three);
+    let time = |name: &str| {
+        rows.iter()
+            .find(|row| row.name == name)
+            .map_or(0.0, |row| row.median)
+    };
+    let (one, three) = (
+        time(CHECK) * 1e6 / older as f64,
+        time(CHECK_3) * 1e6 / newer as f64,
+    );
+    println!(
+        "the check by the byte: version 1 {one:.3} ns, version 3 {three:.3} ns, ratio {:.3}",
+        one / three
+    );
 }
 
 /// A record of version 1: its function, as the caller knows it, and its offset.
@@ -70,7 +91,11 @@ struct Place {
 impl Place {
     fn of(section: &Section, number: usize) -> Place {
         let function = section.records[number].function as u64;
-        Place { function, offset: offset(number), number: number as u64 }
+        Place {
+            function,
+            offset: offset(number),
+            number: number as u64,
+        }
     }
 
     /// The last record, whose offset is the highest.
@@ -80,7 +105,10 @@ impl Place {
 
     /// Where the record after it would be.
     fn next(&self) -> Place {
-        Place { offset: self.offset + 1, ..*self }
+        Place {
+            offset: self.offset + 1,
+            ..*self
+        }
     }
 
     fn find(&self, section: &[u8]) -> Option<u64> {
@@ -96,7 +124,9 @@ fn offset(number: usize) -> u64 {
 
 /// The same functions, constants and records in version 1.
 pub fn of(bytes: &[u8]) -> Vec<u8> {
-    let Ok(read) = reference::section::read(bytes) else { panic!("the second implementation refuses the section") };
+    let Ok(read) = reference::section::read(bytes) else {
+        panic!("the second implementation refuses the section")
+    };
     in_version_1(&read)
 }
 
@@ -111,16 +141,29 @@ fn in_version_1(section: &Section) -> Vec<u8> {
 
 /// Both checks accept the section, and the questions are answered as they should be.
 fn agree(older: &[u8], last: &Place) {
-    assert!(treskibben::check(older).is_ok(), "the proved check refuses version 1");
-    assert!(reference::section::check(older).is_ok(), "the second implementation refuses version 1");
-    assert_eq!(last.find(older), Some(last.number), "the last record is found at its offset");
+    assert!(
+        treskibben::check(older).is_ok(),
+        "the proved check refuses version 1"
+    );
+    assert!(
+        reference::section::check(older).is_ok(),
+        "the second implementation refuses version 1"
+    );
+    assert_eq!(
+        last.find(older),
+        Some(last.number),
+        "the last record is found at its offset"
+    );
     assert_eq!(last.next().find(older), None, "no record is found above it");
 }
 
 impl Stack {
     /// The frame of the last statepoint whose pairs can be moved.
     fn on(older: &[u8], section: &Section) -> Stack {
-        let mut stack = Stack { image: vec![0; 1_048_576], frame: Frame::in_function(0, 0, 0, STACK) };
+        let mut stack = Stack {
+            image: vec![0; 1_048_576],
+            frame: Frame::in_function(0, 0, 0, STACK),
+        };
         for number in (0..section.records.len()).rev().take(100) {
             let place = Place::of(section, number);
             stack.frame = Frame::in_function(place.function, place.offset, 0, STACK);
@@ -133,7 +176,14 @@ impl Stack {
     }
 
     fn moved(&mut self, section: &[u8]) -> Option<usize> {
-        treskibben::relocate(section, &mut self.image, STACK, MoveTable::default(), self.frame).ok()
+        treskibben::relocate(
+            section,
+            &mut self.image,
+            STACK,
+            MoveTable::default(),
+            self.frame,
+        )
+        .ok()
     }
 }
 
@@ -145,15 +195,29 @@ mod tests {
     #[test]
     fn the_same_section_in_version_1() {
         let bytes = crate::section::build(100_000);
-        let Ok(read) = reference::section::read(&bytes) else { panic!("the section is refused") };
+        let Ok(read) = reference::section::read(&bytes) else {
+            panic!("the section is refused")
+        };
         let older = in_version_1(&read);
-        let Ok(again) = reference::section::read(&older) else { panic!("its version 1 is refused") };
-        assert_eq!((again.functions.len(), &again.constants), (read.functions.len(), &read.constants));
+        let Ok(again) = reference::section::read(&older) else {
+            panic!("its version 1 is refused")
+        };
+        assert_eq!(
+            (again.functions.len(), &again.constants),
+            (read.functions.len(), &read.constants)
+        );
         assert!(older.len() < bytes.len() && again.records.len() == read.records.len());
         for (number, (one, three)) in again.records.iter().zip(&read.records).enumerate() {
-            assert_eq!((&one.locations, &one.live_outs), (&three.locations, &three.live_outs));
-            let Place { function, offset, .. } = Place::of(&read, number);
-            let Ok(found) = reference::by_function(&older, function, offset) else { panic!("record {number}") };
+            assert_eq!(
+                (&one.locations, &one.live_outs),
+                (&three.locations, &three.live_outs)
+            );
+            let Place {
+                function, offset, ..
+            } = Place::of(&read, number);
+            let Ok(found) = reference::by_function(&older, function, offset) else {
+                panic!("record {number}")
+            };
             assert_eq!((found.record, found.sharing), (number as u64, 1));
         }
     }

@@ -80,7 +80,7 @@ pub enum Answer<'a> {
         output: &'a str,
         receipt: &'a str,
         frames: u64,
-        pairs: u64,
+        pointers: u64,
     },
 }
 

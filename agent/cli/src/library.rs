@@ -81,7 +81,7 @@ pub fn flat_find(section: &[u8], address: u64) -> Result<[usize; 2], Refusal> {
     Ok([found.frame as usize, found.record as usize])
 }
 
-/// Moves all frames of a thread or none, and gives the sum of their pairs. A refusal comes with the
+/// Moves all frames of a thread or none, and gives the sum of their pointers. A refusal comes with the
 /// position of the frame to blame, if it is one frame.
 pub fn relocate_thread(
     section: &[u8],
@@ -91,14 +91,14 @@ pub fn relocate_thread(
     frames: &[Frame],
 ) -> Result<u64, (Refusal, Option<usize>)> {
     let moves = MoveTable::new(&table.old, &table.new);
-    let pairs = treskibben::relocate_thread(section, image, first, moves, frames);
+    let pointers = treskibben::relocate_thread(section, image, first, moves, frames);
     let told = |refusal: ThreadRefusal| {
         (
             treskibben::Refusal::from(refusal).into(),
             refusal.position(),
         )
     };
-    pairs.map(|pairs| pairs as u64).map_err(told)
+    pointers.map(|pointers| pointers as u64).map_err(told)
 }
 
 /// The pair that a frame is refused by where it is moved by itself, which the refusal of a thread

@@ -103,6 +103,15 @@ impl<'a> Listing<'a> {
         })
     }
 
+    /// How many pointers a pair holds: of version 3 as many as its two equal sizes have room for, 1 to 256,
+    /// where both locations are Indirect. Of version 1 it is not said here: a pair is one pointer there.
+    pub fn pointers(&self, pair: &[Location]) -> Option<u64> {
+        let size = pair.first()?.size;
+        let equal = pair.iter().all(|one| one.kind == 3 && one.size == size);
+        let right = size.is_multiple_of(8) && (8..=2_048).contains(&size);
+        (equal && right && !self.version_1).then_some(u64::from(size / 8))
+    }
+
     /// The 64-bit constant of a location that is one, of kind 4 or 5.
     pub fn constant(&self, location: &Location) -> Option<u64> {
         match location.kind {
@@ -184,6 +193,11 @@ impl Record {
         let left = rest.len().checked_sub(deopt)?;
         let constant = constants.iter().all(|location| location.kind == 4);
         (constant && left % 2 == 0 && self.live_outs.is_empty()).then_some(deopt)
+    }
+
+    /// The two locations of a pair, in a statepoint with so many deopt locations.
+    pub fn pair(&self, number: usize, deopt: usize) -> &[Location] {
+        &self.locations[3 + deopt + 2 * number..][..2]
     }
 
     /// The number of pairs, if the record is a statepoint.

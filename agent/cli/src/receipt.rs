@@ -26,9 +26,11 @@ pub struct Receipt {
     pub first: String,
     pub before: Entry,
     pub after: Entry,
-    /// How many frames were moved, and how many pairs they have.
+    /// How many frames were moved, and how many pointers they have. Receipts from before pairs of several
+    /// pointers name the pairs, each of which was one.
     pub moved_frames: u64,
-    pub moved_pairs: u64,
+    #[serde(alias = "moved_pairs")]
+    pub moved_pointers: u64,
 }
 
 /// A file by its name, its length and its digest.

@@ -145,22 +145,22 @@ fn place(listing: &Listing, location: &Location, machine: Machine) -> String {
     }
 }
 
-/// What a location of a statepoint is for.
+/// What a location of a statepoint is for, and of a pair that it is null or holds several pointers.
 fn purpose(listing: &Listing, record: &Record, role: Role, deopt: usize) -> String {
-    let null = |pair: usize| {
-        let locations = &record.locations[3 + deopt + 2 * pair..][..2];
+    let holds = |pair: usize| {
+        let locations = record.pair(pair, deopt);
         let zero = |location| listing.constant(location) == Some(0);
-        if locations.iter().all(zero) {
-            " (null)"
-        } else {
-            ""
+        match listing.pointers(locations) {
+            _ if locations.iter().all(zero) => " (null)".to_string(),
+            Some(pointers @ 2..) => format!(" ({})", count(pointers, "pointer")),
+            _ => String::new(),
         }
     };
     match role {
         Role::Call => String::new(),
         Role::DeoptCount => ", deopt count".to_string(),
         Role::Deopt => ", deopt".to_string(),
-        Role::Base(pair) => format!(", base of pair {pair}{}", null(pair)),
-        Role::Derived(pair) => format!(", derived of pair {pair}{}", null(pair)),
+        Role::Base(pair) => format!(", base of pair {pair}{}", holds(pair)),
+        Role::Derived(pair) => format!(", derived of pair {pair}{}", holds(pair)),
     }
 }

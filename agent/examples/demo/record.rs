@@ -128,8 +128,9 @@ pub fn moved(section: &[u8], place: &Place, table: &Moved) -> Result<String, Ref
     let [old, new] = *table;
     let mut image = SLOTS.map(u64::to_le_bytes).concat();
     let moves = MoveTable::new(&table[..1], &table[1..]);
-    let pairs = treskibben::relocate(section, &mut image, STACK, moves, place.frame())?;
-    let mut text = format!("{pairs} pairs moved, as the object at {old:#x} is at {new:#x} now");
+    let pointers = treskibben::relocate(section, &mut image, STACK, moves, place.frame())?;
+    let mut text =
+        format!("{pointers} pointers moved, as the object at {old:#x} is at {new:#x} now");
     for (nth, (before, after)) in SLOTS.iter().zip(image.chunks_exact(8)).enumerate() {
         let after = u64::from_le_bytes(after.try_into().expect("eight bytes"));
         let words = match before.wrapping_sub(old) as i64 {

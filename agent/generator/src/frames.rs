@@ -24,8 +24,8 @@ pub use table::Table;
 pub const MOST_IMAGE: usize = 1_048_576;
 /// The most entries of a move table.
 pub const MOST_MOVES: usize = 65_536;
-/// The most pairs of a statepoint.
-pub const MOST_PAIRS: usize = 256;
+/// The most pointers of a statepoint, and of a pair. In version 1 each pair is one.
+pub const MOST_POINTERS: usize = 256;
 /// The most frames of a thread.
 pub const MOST_FRAMES: usize = 4_096;
 
@@ -60,29 +60,58 @@ pub struct Scene {
     pub stops: Vec<Stop>,
 }
 
-/// How large a frame is: how many slots it has for the pairs, and how many pairs.
+/// How large a frame is: how many slots it has, and how many pointers its pairs have, null pairs one
+/// each.
 #[derive(Clone, Copy, Debug)]
 pub struct Size {
     pub cells: usize,
-    pub pairs: usize,
+    pub pointers: usize,
+    /// Whether the slots stand one after the other and all hold bases, so that a pair of version 3 finds
+    /// room for many pointers.
+    pub wide: bool,
 }
 
 impl Size {
-    /// Mostly a few pairs in a few slots; now and then many, up to 256.
+    /// Mostly a few pointers in a few slots; now and then many, up to 256.
     pub fn any(rng: &mut Rng) -> Size {
-        let (cells, pairs) = match rng.below(40) {
-            0 => (rng.below(80), MOST_PAIRS - rng.below(2)),
+        let (cells, pointers) = match rng.below(40) {
+            0 => {
+                let cells = rng.pick(&[1, 20, 80, 256, 258]);
+                (cells, MOST_POINTERS - rng.below(2))
+            }
             1..=3 => (rng.below(40), rng.below(60)),
             _ => return Size::few(rng),
         };
-        Size { cells, pairs }
+        Size {
+            cells,
+            pointers,
+            wide: rng.one_in(4),
+        }
     }
 
-    /// A few pairs in a few slots.
+    /// Slots one after the other, for pairs of many pointers.
+    pub fn wide(rng: &mut Rng) -> Size {
+        let (cells, pointers) = match rng.below(6) {
+            0 => {
+                let cells = rng.pick(&[20, 130, 255, 256, 258]);
+                (cells, MOST_POINTERS - rng.below(2))
+            }
+            1 => (1 + rng.below(60), rng.below(60)),
+            _ => (1 + rng.below(12), rng.below(20)),
+        };
+        Size {
+            cells,
+            pointers,
+            wide: true,
+        }
+    }
+
+    /// A few pointers in a few slots.
     pub fn few(rng: &mut Rng) -> Size {
         Size {
             cells: rng.pick(&[0, 1, 1, 2, 3, 4, 6, 9]),
-            pairs: rng.below(8),
+            pointers: rng.below(10),
+            wide: rng.one_in(4),
         }
     }
 }
@@ -109,6 +138,16 @@ impl Scene {
     pub fn one(rng: &mut Rng) -> Scene {
         let (table, size) = (Table::any(rng), Size::any(rng));
         Scene::of(rng, table, &[size])
+    }
+
+    /// One frame, mostly of version 3, with pairs of many pointers.
+    pub fn wide(rng: &mut Rng) -> Scene {
+        let (table, size) = (Table::any(rng), Size::wide(rng));
+        let version = match rng.one_in(6) {
+            true => Version::One,
+            false => Version::Three,
+        };
+        Scene::of_version(rng, version, table, &[size])
     }
 
     /// So many frames, of which some stand at the same statepoint.

@@ -1,10 +1,12 @@
 //! Relocation of one stopped frame.
 //!
 //! A frame stands at one record, which has to be a statepoint. The statepoint
-//! lists pairs of stack slots, a base pointer and a pointer derived from it.
-//! Each derived slot is set to its old content plus the new start of its old
-//! base minus that old base, modulo 2^64, all read before any is written. No
-//! other byte is touched, and a refused call touches none.
+//! lists pairs of stack locations, a base and what is derived from it. A pair
+//! is one pointer, or in version 3 as many as its two equal sizes have room
+//! for, each with a base slot and a derived slot. Each derived slot is set to
+//! its old content plus the new start of its old base minus that old base,
+//! modulo 2^64, all read before any is written. No other byte is touched, and a
+//! refused call touches none.
 //!
 //! In version 1 no record is known to be a function's own. A frame then says
 //! its function too, and its offset in place of the address; it stands at the
@@ -17,13 +19,15 @@ mod tests;
 #[cfg(test)]
 mod tests_pairs;
 #[cfg(test)]
+mod tests_pointers;
+#[cfg(test)]
 mod tests_readings;
 #[cfg(test)]
 mod tests_version_1;
 
 use crate::section::{read, Function, Location, Record, Section, Version};
 use crate::Refusal;
-use pairs::{collision, locate, new_contents, MAX_PAIRS};
+use pairs::{collision, count, forms, locate, new_contents, MAX_POINTERS};
 use std::ops::Range;
 
 /// The greatest length of a stack image, in bytes.
@@ -48,7 +52,8 @@ pub struct Frame {
     pub function: u64,
 }
 
-/// Relocates one frame, and gives its number of pairs, null ones included.
+/// Relocates one frame, and gives its number of pointers, null pairs counting
+/// one each.
 ///
 /// `image` is the stack from address `first` on. The move table is
 /// `old_starts` and `new_starts`, entry by entry.
@@ -65,15 +70,15 @@ pub fn relocate(
     check_table(old_starts, new_starts)?;
     let plan = judge(&section, image, first, old_starts, new_starts, frame)?;
     plan.write(image);
-    Ok(plan.pairs)
+    Ok(plan.pointers)
 }
 
 /// What is to be written for an accepted frame.
 pub(crate) struct Plan {
     /// The frame's own stretch of the image.
     pub(crate) stretch: Range<usize>,
-    /// The number of pairs.
-    pub(crate) pairs: u64,
+    /// The number of pointers, null pairs counting one each.
+    pub(crate) pointers: u64,
     /// The new content of each derived slot, by its first byte in the stretch.
     contents: Vec<(usize, u64)>,
 }
@@ -95,7 +100,9 @@ impl Plan {
     }
 }
 
-/// The plan for a frame, or its own refusal: 10, 15, 12 and 16 to 21. Nothing is written.
+/// The plan for a frame, or its own refusal: 10, 15, 12, 16, then 18, 17 and 19
+/// to 21. In version 1, where each pair is one pointer, 17 comes before 18.
+/// Nothing is written.
 pub(crate) fn judge(
     section: &Section,
     image: &[u8],
@@ -107,17 +114,22 @@ pub(crate) fn judge(
     let (record, function) = standing(section, frame)?;
     let entries = statepoint_pairs(record).ok_or(Refusal::at(12, 0))?;
     let stretch = frame_stretch(image, first, function, frame).ok_or(Refusal::at(16, 0))?;
-    if entries.len() > MAX_PAIRS {
+    let bytes = image.get(stretch.clone()).ok_or(Refusal::at(16, 0))?;
+    if section.version == Version::One && entries.len() > MAX_POINTERS {
         return Err(Refusal::at(17, 0));
     }
-    let bytes = image.get(stretch.clone()).ok_or(Refusal::at(16, 0))?;
-    let pairs = locate(section, entries, bytes, frame)?;
+    let forms = forms(section, entries, frame)?;
+    let pointers = count(&forms);
+    if pointers > MAX_POINTERS {
+        return Err(Refusal::at(17, 0));
+    }
+    let pairs = locate(&forms, bytes, frame)?;
     if let Some(pair) = collision(&pairs) {
         return Err(Refusal::at(20, pair));
     }
     Ok(Plan {
         stretch,
-        pairs: entries.len() as u64,
+        pointers: pointers as u64,
         contents: new_contents(&pairs, old_starts, new_starts)?,
     })
 }

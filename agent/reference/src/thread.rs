@@ -19,8 +19,8 @@ use crate::Refusal;
 /// The most frames of a thread.
 pub const MAX_FRAMES: usize = 4_096;
 
-/// Relocates the frames of a list, and gives the sum of their pairs, null ones
-/// included.
+/// Relocates the frames of a list, and gives the sum of their pointers, null
+/// pairs counting one each.
 ///
 /// The list has four numbers a frame: address, RBP, RSP and function number. In
 /// version 1 the offset stands in place of the address; version 3 doesn't read
@@ -94,7 +94,7 @@ fn moved(
     for plan in &plans {
         plan.write(image);
     }
-    Ok(plans.iter().map(|plan| plan.pairs).sum())
+    Ok(plans.iter().map(|plan| plan.pointers).sum())
 }
 
 /// The first frame whose extent shares a byte with an earlier one's.

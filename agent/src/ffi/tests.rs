@@ -130,7 +130,7 @@ fn a_refused_conversion_has_length_0_and_an_accepted_one_no_place() {
 }
 
 #[test]
-fn a_refused_move_has_0_pairs_and_an_accepted_one_no_place() {
+fn a_refused_move_has_0_pointers_and_an_accepted_one_no_place() {
     let mut rng = Rng::new(1);
     let mut counts = [0; 22];
     for _ in 0..20_000 {
@@ -159,7 +159,7 @@ fn a_refused_move_has_0_pairs_and_an_accepted_one_no_place() {
 }
 
 #[test]
-fn a_refused_thread_has_0_pairs_and_an_accepted_one_no_place() {
+fn a_refused_thread_has_0_pointers_and_an_accepted_one_no_place() {
     let mut rng = Rng::new(1);
     let mut counts = [0; 30];
     for _ in 0..30_000 {

@@ -34,7 +34,7 @@ impl std::fmt::Debug for Outcome {
             count,
             image,
         } = self;
-        write!(f, "{number} at {place}, {count} pairs, image ")?;
+        write!(f, "{number} at {place}, {count} pointers, image ")?;
         image
             .iter()
             .take(4_096)
@@ -57,7 +57,7 @@ impl Outcome {
 
 /// What a call moves: one frame, or those of a list.
 pub trait Moves: Copy + Debug {
-    /// The number of pairs, or number and place of the refusal.
+    /// The number of pointers, or number and place of the refusal.
     fn by_library(call: &Call<Self>, image: &mut [u8]) -> Result<u64, (u64, u64)>;
     fn by_second(call: &Call<Self>, image: &mut [u8]) -> Result<u64, (u64, u64)>;
 }
@@ -66,7 +66,7 @@ impl Moves for Frame {
     fn by_library(call: &Call<Frame>, image: &mut [u8]) -> Result<u64, (u64, u64)> {
         let moved =
             treskibben::relocate(call.section, image, call.first, call.table(), call.frames);
-        let moved = moved.map(|pairs| pairs as u64);
+        let moved = moved.map(|pointers| pointers as u64);
         moved.map_err(|refusal| (refusal.number(), refusal.place()))
     }
 
@@ -100,7 +100,7 @@ impl Moves for &[u64] {
         let frames = Frames::of_numbers(call.frames);
         let moved =
             treskibben::relocate_thread(call.section, image, call.first, call.table(), frames);
-        let moved = moved.map(|pairs| pairs as u64);
+        let moved = moved.map(|pointers| pointers as u64);
         moved.map_err(|refusal| (refusal.number(), refusal.place()))
     }
 

@@ -35,7 +35,7 @@ impl Moves for Indexed<'_> {
         let index = Index::from_entries(call.section, index.to_vec());
         let frames = Frames::of_numbers(frames);
         let moved = index.relocate_thread(image, call.first, call.table(), frames);
-        let moved = moved.map(|pairs| pairs as u64);
+        let moved = moved.map(|pointers| pointers as u64);
         moved.map_err(|refusal| (refusal.number(), refusal.place()))
     }
 

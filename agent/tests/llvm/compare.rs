@@ -15,27 +15,57 @@ pub fn compare(section: &Section, printed: &Printed) -> Result<(), String> {
     records(section, printed)
 }
 
-pub fn same<T: PartialEq<U> + Debug, U: Debug>(what: &str, ours: T, printed: U) -> Result<(), String> {
-    if ours == printed { Ok(()) } else { Err(format!("{what}: we read {ours:?}, printed is {printed:?}")) }
+pub fn same<T: PartialEq<U> + Debug, U: Debug>(
+    what: &str,
+    ours: T,
+    printed: U,
+) -> Result<(), String> {
+    if ours == printed {
+        Ok(())
+    } else {
+        Err(format!("{what}: we read {ours:?}, printed is {printed:?}"))
+    }
 }
 
 fn functions(section: &Section, printed: &Printed) -> Result<(), String> {
-    same("number of functions", section.functions.len(), printed.functions.len())?;
+    same(
+        "number of functions",
+        section.functions.len(),
+        printed.functions.len(),
+    )?;
     for (number, (ours, theirs)) in section.functions.iter().zip(&printed.functions).enumerate() {
-        same(&format!("address of function {number}"), ours.address, theirs.address)?;
-        same(&format!("stack size of function {number}"), ours.stack_size, theirs.stack_size)?;
-        same(&format!("record count of function {number}"), ours.record_count, theirs.record_count)?;
+        same(
+            &format!("address of function {number}"),
+            ours.address,
+            theirs.address,
+        )?;
+        same(
+            &format!("stack size of function {number}"),
+            ours.stack_size,
+            theirs.stack_size,
+        )?;
+        same(
+            &format!("record count of function {number}"),
+            ours.record_count,
+            theirs.record_count,
+        )?;
     }
     Ok(())
 }
 
 fn records(section: &Section, printed: &Printed) -> Result<(), String> {
-    same("number of records", section.records.len(), printed.records.len())?;
+    same(
+        "number of records",
+        section.records.len(),
+        printed.records.len(),
+    )?;
     let mut owners = owners(printed);
     let mut first = 16 + 24 * printed.functions.len() + 8 * printed.constants.len();
     for (number, (ours, theirs)) in section.records.iter().zip(&printed.records).enumerate() {
         let within = |fault| format!("record {number}: {fault}");
-        let (function, start) = owners.next().ok_or_else(|| format!("record {number} has no function"))?;
+        let (function, start) = owners
+            .next()
+            .ok_or_else(|| format!("record {number} has no function"))?;
         same("function", ours.function, function).map_err(within)?;
         same("address", ours.address, start + u64::from(theirs.offset)).map_err(within)?;
         same("first byte", ours.first, first).map_err(within)?;
@@ -67,13 +97,25 @@ pub fn length(record: &readobj::Record) -> usize {
 fn record(ours: &Record, theirs: &readobj::Record, pool: &[u64]) -> Result<(), String> {
     same("ID", ours.id, theirs.id)?;
     same("instruction offset", ours.offset, theirs.offset)?;
-    same("number of locations", ours.locations.len(), theirs.locations.len())?;
+    same(
+        "number of locations",
+        ours.locations.len(),
+        theirs.locations.len(),
+    )?;
     for (number, (our, their)) in ours.locations.iter().zip(&theirs.locations).enumerate() {
         location(our, their, pool).map_err(|fault| format!("location {number}: {fault}"))?;
     }
-    same("number of live-outs", ours.live_outs.len(), theirs.live_outs.len())?;
+    same(
+        "number of live-outs",
+        ours.live_outs.len(),
+        theirs.live_outs.len(),
+    )?;
     for (number, (our, their)) in ours.live_outs.iter().zip(&theirs.live_outs).enumerate() {
-        same(&format!("register of live-out {number}"), our.register, their.register)?;
+        same(
+            &format!("register of live-out {number}"),
+            our.register,
+            their.register,
+        )?;
         same(&format!("size of live-out {number}"), our.size, their.size)?;
     }
     Ok(())
@@ -81,7 +123,11 @@ fn record(ours: &Record, theirs: &readobj::Record, pool: &[u64]) -> Result<(), S
 
 fn location(ours: &Location, theirs: &readobj::Location, pool: &[u64]) -> Result<(), String> {
     if let Value::ConstIndex(index, value) = theirs.value {
-        same("constant of the pool", pool.get(index as usize), Some(&value))?;
+        same(
+            "constant of the pool",
+            pool.get(index as usize),
+            Some(&value),
+        )?;
     }
     let (kind, register, offset, _) = fields(&theirs.value);
     same("kind", ours.kind, kind)?;

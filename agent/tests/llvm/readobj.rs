@@ -48,13 +48,21 @@ pub struct LiveOut {
 
 /// The whole text.
 pub fn parse(text: &str) -> Result<Printed, String> {
-    let mut lines = Lines { left: text.lines(), number: 0, line: "" };
+    let mut lines = Lines {
+        left: text.lines(),
+        number: 0,
+        line: "",
+    };
     head(&mut lines)?;
     let functions = counted(&mut lines, "Num Functions: ", function)?;
     let constants = counted(&mut lines, "Num Constants: ", constant)?;
     let records = counted(&mut lines, "Num Records: ", record)?;
     match lines.left.next() {
-        None => Ok(Printed { functions, constants, records }),
+        None => Ok(Printed {
+            functions,
+            constants,
+            records,
+        }),
         Some(more) => Err(format!("a line after the last record: {more:?}")),
     }
 }
@@ -69,9 +77,16 @@ struct Lines<'a> {
 impl<'a> Lines<'a> {
     /// The rest of the next line, which must begin so.
     fn next(&mut self, beginning: &str) -> Result<Rest<'a>, String> {
-        self.line = self.left.next().ok_or_else(|| format!("the text ends where {beginning:?} should stand"))?;
+        self.line = self
+            .left
+            .next()
+            .ok_or_else(|| format!("the text ends where {beginning:?} should stand"))?;
         self.number += 1;
-        let mut rest = Rest { text: self.line, number: self.number, line: self.line };
+        let mut rest = Rest {
+            text: self.line,
+            number: self.number,
+            line: self.line,
+        };
         rest.word(beginning)?;
         Ok(rest)
     }
@@ -86,7 +101,10 @@ struct Rest<'a> {
 
 impl<'a> Rest<'a> {
     fn wrong(&self, wanted: &str) -> String {
-        format!("line {}, {:?}: {wanted:?} should stand before {:?}", self.number, self.line, self.text)
+        format!(
+            "line {}, {:?}: {wanted:?} should stand before {:?}",
+            self.number, self.line, self.text
+        )
     }
 
     /// Whether the rest begins with these characters; if so, they are read.
@@ -97,21 +115,34 @@ impl<'a> Rest<'a> {
     }
 
     fn word(&mut self, word: &str) -> Result<(), String> {
-        if self.begins(word) { Ok(()) } else { Err(self.wrong(word)) }
+        if self.begins(word) {
+            Ok(())
+        } else {
+            Err(self.wrong(word))
+        }
     }
 
     /// A decimal number that fits its type, with a sign where it is negative.
     fn number<T: std::str::FromStr>(&mut self) -> Result<T, String> {
         let sign = usize::from(self.text.starts_with('-'));
-        let digits = self.text[sign..].bytes().take_while(u8::is_ascii_digit).count();
+        let digits = self.text[sign..]
+            .bytes()
+            .take_while(u8::is_ascii_digit)
+            .count();
         let (number, after) = self.text.split_at(sign + digits);
-        let value = number.parse().map_err(|_| self.wrong("a number in range"))?;
+        let value = number
+            .parse()
+            .map_err(|_| self.wrong("a number in range"))?;
         self.text = after;
         Ok(value)
     }
 
     fn end(&self) -> Result<(), String> {
-        if self.text.is_empty() { Ok(()) } else { Err(self.wrong("the end of the line")) }
+        if self.text.is_empty() {
+            Ok(())
+        } else {
+            Err(self.wrong("the end of the line"))
+        }
     }
 }
 
@@ -146,7 +177,11 @@ fn function(lines: &mut Lines, _number: usize) -> Result<Function, String> {
     rest.word(", callsite record count: ")?;
     let record_count = rest.number()?;
     rest.end()?;
-    Ok(Function { address, stack_size, record_count })
+    Ok(Function {
+        address,
+        stack_size,
+        record_count,
+    })
 }
 
 fn constant(lines: &mut Lines, number: usize) -> Result<u64, String> {
@@ -166,9 +201,16 @@ fn record(lines: &mut Lines, _number: usize) -> Result<Record, String> {
     let count: usize = rest.number()?;
     rest.word(" locations:")?;
     rest.end()?;
-    let locations = (1..=count).map(|number| location(lines, number)).collect::<Result<_, _>>()?;
+    let locations = (1..=count)
+        .map(|number| location(lines, number))
+        .collect::<Result<_, _>>()?;
     let live_outs = live_outs(lines)?;
-    Ok(Record { id, offset, locations, live_outs })
+    Ok(Record {
+        id,
+        offset,
+        locations,
+        live_outs,
+    })
 }
 
 fn location(lines: &mut Lines, number: usize) -> Result<Location, String> {
@@ -220,7 +262,10 @@ fn live_outs(lines: &mut Lines) -> Result<Vec<LiveOut>, String> {
         rest.word("R#")?;
         let register = rest.number()?;
         rest.word(" (")?;
-        live_outs.push(LiveOut { register, size: rest.number()? });
+        live_outs.push(LiveOut {
+            register,
+            size: rest.number()?,
+        });
         rest.word("-bytes) ")?;
     }
     rest.word("]")?;

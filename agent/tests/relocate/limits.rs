@@ -1,26 +1,30 @@
-//! Frames at the limits: of tables, of images, of the number of pairs, and of slots that pairs share.
+//! Frames at the limits: of tables, of images, of the number of pointers, and of slots that pairs share.
 
 use crate::calls::{Call, Outcome};
 use crate::common::seed;
 use generator::frames::{plain, Scene, Size, Stop, Table};
-use generator::frames::{MOST_IMAGE, MOST_MOVES, MOST_PAIRS};
+use generator::frames::{MOST_IMAGE, MOST_MOVES, MOST_POINTERS};
 use generator::layout::{Function, Location, Record, Section};
 use generator::{Rng, Version};
 
 /// Compares the move of the only frame, which is accepted exactly if no number is given.
-fn expect(scene: &Scene, number: u64) -> Outcome {
+pub fn expect(scene: &Scene, number: u64) -> Outcome {
     let section = scene.section.encode();
     let outcome = Call::of(scene, &section, 0).compare();
     let place = if number < 18 { 0 } else { outcome.place };
     assert_eq!((outcome.number, outcome.place), (number, place));
     if number == 0 {
-        assert_eq!(outcome.count, plain::slots(scene, 0).len() as u64);
+        assert_eq!(outcome.count, plain::pointers(scene, 0) as u64);
         assert!(outcome.image == plain::moved(scene, [0]));
     }
     outcome
 }
 
-const FEW: Size = Size { cells: 6, pairs: 8 };
+pub const FEW: Size = Size {
+    cells: 6,
+    pointers: 8,
+    wide: false,
+};
 
 #[test]
 fn tables_at_their_limit() {
@@ -62,7 +66,15 @@ fn set_bases(scene: &mut Scene, old: u64) {
 fn lists_of_every_two_lengths() {
     let mut rng = Rng::new(1);
     let lengths = [0, 1, 2, MOST_MOVES - 1, MOST_MOVES, MOST_MOVES + 1];
-    let mut scene = Scene::of(&mut rng, Table::default(), &[Size { cells: 0, pairs: 1 }]);
+    let mut scene = Scene::of(
+        &mut rng,
+        Table::default(),
+        &[Size {
+            cells: 0,
+            pointers: 1,
+            ..FEW
+        }],
+    );
     for olds in lengths {
         for news in lengths {
             scene.table.olds = (1..=olds as u64).collect();
@@ -83,7 +95,7 @@ fn images_at_their_limit() {
                 length > MOST_IMAGE || u128::from(first) + length as u128 > u128::from(u64::MAX);
             let cells = if length < 256 { 0 } else { 6 };
             let table = Table::of(&mut rng, 3);
-            let mut scene = Scene::of(&mut rng, table, &[Size { cells, pairs: 8 }]);
+            let mut scene = Scene::of(&mut rng, table, &[Size { cells, ..FEW }]);
             let stretch = stretch_of(&scene);
             let own = scene.stops[0].function;
             scene.section.functions[own].stack_size = stretch.len() as u64;
@@ -129,7 +141,7 @@ fn moved_to(scene: &Scene, first: u64, length: usize, rsp: u64) -> Scene {
     let record = &mut scene.section.records[scene.stops[0].record];
     let from = plain::first_pair(record).expect("a statepoint");
     for (pair, slots) in record.locations[from..].chunks_exact_mut(2).zip(slots) {
-        for (location, slot) in pair.iter_mut().zip(slots.into_iter().flatten()) {
+        for (location, slot) in pair.iter_mut().zip(slots.into_iter().take(1).flatten()) {
             location.register = 7;
             location.offset = slot as u32;
         }
@@ -142,27 +154,31 @@ fn moved_to(scene: &Scene, first: u64, length: usize, rsp: u64) -> Scene {
 }
 
 #[test]
-fn pairs_at_their_limit() {
-    let mut rng = Rng::new(seed("pairs at their limit"));
+fn pointers_at_their_limit() {
+    let mut rng = Rng::new(seed("pointers at their limit"));
     for count in [
         0,
         1,
         2,
-        MOST_PAIRS - 1,
-        MOST_PAIRS,
-        MOST_PAIRS + 1,
+        MOST_POINTERS - 1,
+        MOST_POINTERS,
+        MOST_POINTERS + 1,
         1_000,
         32_700,
     ] {
-        for cells in [0, 1, 40, 256] {
+        for (cells, wide) in [0, 1, 40, 256]
+            .into_iter()
+            .flat_map(|cells| [(cells, false), (cells, true)])
+        {
             let size = Size {
                 cells,
-                pairs: count,
+                pointers: count,
+                wide,
             };
             for version in Version::ALL {
                 let table = Table::of(&mut rng, 4);
                 let scene = Scene::of_version(&mut rng, version, table, &[size]);
-                expect(&scene, if count > MOST_PAIRS { 17 } else { 0 });
+                expect(&scene, if count > MOST_POINTERS { 17 } else { 0 });
             }
         }
     }
@@ -189,7 +205,7 @@ fn statepoint(pairs: &[[i32; 2]]) -> Record {
 
 /// A frame of these pairs of offsets from RSP, with these words on the stack, in a section of either
 /// version; 0x50000 is moved to 0x90000, and 0x60000 to 0x10.
-fn frame(version: Version, pairs: &[[i32; 2]], words: &[u64]) -> Scene {
+pub fn frame(version: Version, pairs: &[[i32; 2]], words: &[u64]) -> Scene {
     let (address, record_count) = match version {
         Version::One => (0x20, 0),
         Version::Three => (0x1020, 1),
@@ -269,30 +285,6 @@ fn every_offset_around_a_frame() {
             };
             let outcome = expect(&scene, number);
             assert_eq!(outcome.place, u64::from(number != 0));
-        }
-    }
-}
-
-/// Every size that a location of version 1 can have, of either slot of a pair, and of some in version
-/// 3.
-#[test]
-fn every_size_of_a_slot() {
-    for version in Version::ALL {
-        let right: &[u16] = match version {
-            Version::One => &[0, 8],
-            Version::Three => &[8],
-        };
-        for size in 0..=255 {
-            for (which, other) in [0, 1]
-                .into_iter()
-                .flat_map(|which| [(which, 0), (which, 8)])
-            {
-                let mut scene = frame(version, &[[0, 8]], &[0x50000, 0x50008]);
-                let pair = &mut scene.section.records[0].locations[3..];
-                (pair[which].size, pair[1 - which].size) = (size, other);
-                let fits = right.contains(&size) && right.contains(&other);
-                expect(&scene, if fits { 0 } else { 18 });
-            }
         }
     }
 }

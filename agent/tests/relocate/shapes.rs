@@ -5,7 +5,7 @@ use generator::layout::Location;
 use generator::Version;
 
 /// A shape: its name, and whether a frame with this number as answer has it.
-type Shape = (&'static str, fn(&Scene, u64) -> bool);
+pub type Shape = (&'static str, fn(&Scene, u64) -> bool);
 
 pub const SHAPES: [Shape; 22] = [
     ("accepted, a null pair of kind 5", |scene, number| {
@@ -60,8 +60,8 @@ pub const SHAPES: [Shape; 22] = [
     ("accepted, at the top of the addresses", |scene, number| {
         number == 0 && scene.first.checked_add(scene.image.len() as u64) == Some(u64::MAX)
     }),
-    ("accepted, 255 or 256 pairs", |scene, number| {
-        number == 0 && pairs(scene).len() >= 255
+    ("accepted, 255 or 256 pointers", |scene, number| {
+        number == 0 && plain::pointers(scene, 0) >= 255
     }),
     (
         "refused by 19, an offset that would wrap",
@@ -142,7 +142,7 @@ pub const SHAPES: [Shape; 22] = [
     ),
 ];
 
-fn first(scene: &Scene) -> bool {
+pub fn first(scene: &Scene) -> bool {
     scene.section.version == Version::One
 }
 
@@ -162,7 +162,7 @@ fn there(scene: &Scene) -> usize {
 }
 
 /// The pairs of the frame's statepoint.
-fn pairs(scene: &Scene) -> Vec<[Location; 2]> {
+pub fn pairs(scene: &Scene) -> Vec<[Location; 2]> {
     let record = &scene.section.records[scene.stops[0].record];
     let first = plain::first_pair(record).expect("a statepoint");
     let pairs = record.locations[first..].chunks_exact(2);

@@ -19,7 +19,7 @@ fn expect(thread: &Thread) -> Outcome {
         call.fail(&format!("{outcome:?}, known beforehand {known:?}"));
     }
     if outcome.number == 0 {
-        assert_eq!(outcome.count, thread.pairs());
+        assert_eq!(outcome.count, thread.pointers());
         assert!(outcome.image == thread.moved());
     }
     outcome
@@ -213,9 +213,9 @@ fn wide_lists_with_every_fault() {
         let mut thread = Thread::of(scene);
         shuffle(&mut rng, &mut thread.order);
         let records = thread.scene.section.records.len();
-        let pairs = expect(&thread).count;
+        let pointers = expect(&thread).count;
         say(&format!(
-            "{MOST_FRAMES} frames with {pairs} pairs, {records} records"
+            "{MOST_FRAMES} frames with {pointers} pointers, {records} records"
         ));
         for number in OWN {
             wide_fault(&mut rng, &thread, number);

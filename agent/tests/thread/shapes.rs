@@ -23,7 +23,7 @@ pub const POSITIONS: [Position; 5] = [
 /// A shape: its name, and whether a list with this answer has it.
 type Shape = (&'static str, fn(&Thread, (u64, u64)) -> bool);
 
-pub const SHAPES: [Shape; 15] = [
+pub const SHAPES: [Shape; 17] = [
     ("accepted, a list of none", |thread, answer| {
         answer.0 == 0 && thread.order.is_empty()
     }),
@@ -84,12 +84,24 @@ pub const SHAPES: [Shape; 15] = [
     (
         "a later frame has a number that would come first",
         |thread, answer| {
-            let order = [10, 15, 12, 16, 17, 18, 19, 20, 21];
+            let [one, two] = if first(thread) { [17, 18] } else { [18, 17] };
+            let order = [10, 15, 12, 16, one, two, 19, 20, 21];
             let rank = |number: u64| order.iter().position(|one| *one == number);
             let later = thread.order.iter().skip(answer.1 as usize + 1);
             let mut numbers = later.map(|stop| rank(plain::refusal(&thread.scene, *stop).0));
             rank(answer.0)
                 .is_some_and(|own| numbers.any(|other| other.is_some_and(|other| other < own)))
+        },
+    ),
+    (
+        "version 3, accepted, frames of pairs with several pointers",
+        |thread, answer| answer.0 == 0 && wide(thread) > 1,
+    ),
+    (
+        "version 3, 17 of a late frame that has at most 256 pairs",
+        |thread, answer| {
+            let late = !first(thread) && answer.0 == 17 && answer.1 > 0;
+            late && pairs(thread, answer.1 as usize) <= 256
         },
     ),
     (
@@ -123,6 +135,23 @@ pub const SHAPES: [Shape; 15] = [
 
 fn first(thread: &Thread) -> bool {
     thread.scene.section.version == Version::One
+}
+
+/// How many frames of an accepted list have a pair of several pointers.
+fn wide(thread: &Thread) -> usize {
+    let several = |stop: &&usize| {
+        let slots = plain::slots(&thread.scene, **stop);
+        slots.iter().any(|pair| pair.len() > 1)
+    };
+    thread.order.iter().filter(several).count()
+}
+
+/// The number of pairs of the frame at a position.
+fn pairs(thread: &Thread, position: usize) -> usize {
+    let stop = thread.scene.stops[thread.order[position]];
+    let record = &thread.scene.section.records[stop.record];
+    let first = plain::first_pair(record).expect("a statepoint");
+    (record.locations.len() - first) / 2
 }
 
 /// The function number that is handed in for a frame.

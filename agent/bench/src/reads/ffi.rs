@@ -4,8 +4,20 @@
 #[cfg(libreads)]
 mod linked {
     extern "C" {
-        fn reads_by_halves(bytes: *const u8, length: usize, places: *const usize, count: usize, number: u64) -> usize;
-        fn reads_by_bytes(bytes: *const u8, length: usize, places: *const usize, count: usize, number: u64) -> usize;
+        fn reads_by_halves(
+            bytes: *const u8,
+            length: usize,
+            places: *const usize,
+            count: usize,
+            number: u64,
+        ) -> usize;
+        fn reads_by_bytes(
+            bytes: *const u8,
+            length: usize,
+            places: *const usize,
+            count: usize,
+            number: u64,
+        ) -> usize;
     }
 
     pub fn by_halves(bytes: &[u8], places: &[usize], number: u64) -> usize {
@@ -13,12 +25,28 @@ mod linked {
         // can be read and nobody writes them meanwhile. The pointer of a slice is aligned and never null, also where
         // the slice is empty. Every place may be asked for, also one past the bytes. The function reads no other
         // memory, writes none and keeps no pointer, and its declaration above is that of `crates/reads/src/lib.rt`.
-        unsafe { reads_by_halves(bytes.as_ptr(), bytes.len(), places.as_ptr(), places.len(), number) }
+        unsafe {
+            reads_by_halves(
+                bytes.as_ptr(),
+                bytes.len(),
+                places.as_ptr(),
+                places.len(),
+                number,
+            )
+        }
     }
 
     pub fn by_bytes(bytes: &[u8], places: &[usize], number: u64) -> usize {
         // SAFETY: as in `by_halves`.
-        unsafe { reads_by_bytes(bytes.as_ptr(), bytes.len(), places.as_ptr(), places.len(), number) }
+        unsafe {
+            reads_by_bytes(
+                bytes.as_ptr(),
+                bytes.len(),
+                places.as_ptr(),
+                places.len(),
+                number,
+            )
+        }
     }
 }
 

@@ -25,7 +25,7 @@ use std::path::{Path, PathBuf};
 ///
 /// Refusals come in this order: an image that was restored already; 1 to 9 of the section, 13 of the
 /// image, 14 of the moves, 25 of the frames as a list; then the first frame of the list that is
-/// refused by itself, by 10, 15, 12, or 16 to 21; then 26 at the first frame whose extent shares a
+/// refused by itself, by 10, 15, 12, 16, 18, 17, or 19 to 21; then 26 at the first frame whose extent shares a
 /// byte with an earlier one's; last a list of no frames. The place of a frame's refusal is its
 /// position in the list, counted from 0.
 #[derive(clap::Args)]
@@ -87,7 +87,7 @@ struct Moved {
     before: Vec<u8>,
     after: Vec<u8>,
     frames: u64,
-    pairs: u64,
+    pointers: u64,
 }
 
 pub fn run(arguments: &Arguments, voice: Voice) -> Result<Status, Trouble> {
@@ -160,7 +160,7 @@ impl<'a> Inputs<'a> {
         let mut after = before.clone();
         let first = self.arguments.first;
         let moved = library::relocate_thread(&self.section, &mut after, first, &table, &frames);
-        let pairs =
+        let pointers =
             moved.map_err(|(refusal, position)| self.refused(refusal, position, &before))?;
         if frames.is_empty() && !self.arguments.allow_empty {
             let why = "an unwinder that failed leaves such a list; --allow-empty accepts it";
@@ -174,7 +174,7 @@ impl<'a> Inputs<'a> {
             before,
             after,
             frames: frames.len() as u64,
-            pairs,
+            pointers,
         })
     }
 
@@ -207,7 +207,7 @@ impl<'a> Inputs<'a> {
             before: entry(&arguments.image, &moved.before),
             after: entry(output, &moved.after),
             moved_frames: moved.frames,
-            moved_pairs: moved.pairs,
+            moved_pointers: moved.pointers,
         }
     }
 
@@ -217,15 +217,15 @@ impl<'a> Inputs<'a> {
         let _ = match voice {
             Voice::Text => {
                 let frames = count(moved.frames, "frame");
-                let pairs = count(moved.pairs, "pair");
-                output::line(&format!("{}: {frames} moved, {pairs}", shown(output)))
+                let pointers = count(moved.pointers, "pointer");
+                output::line(&format!("{}: {frames} moved, {pointers}", shown(output)))
             }
             Voice::Json => output::object(&json::Answer::Restored {
                 image: &json::name(&self.arguments.image),
                 output: &json::name(output),
                 receipt: &json::name(receipt),
                 frames: moved.frames,
-                pairs: moved.pairs,
+                pointers: moved.pointers,
             }),
         };
     }

@@ -1,8 +1,10 @@
 //! `list` and `find`: what a section says.
 
-use crate::fixtures::{constant, location, row_h, rsp, with, C};
+use crate::fixtures::{
+    constant, location, of_pairs, one_function, row_h, rsp, statepoint, with, C,
+};
 use crate::run::{sample, Folder};
-use generator::layout::{Function, LiveOut, Record, Section};
+use generator::layout::{Function, LiveOut, Record, Section, Version};
 use std::fs;
 
 /// What 10 says.
@@ -172,6 +174,58 @@ fn the_text_shows_everything() {
     folder.put("c", C);
     let nothing = "section: 16 bytes, 0 functions, 0 constants, 0 records\n";
     folder.run(["list", "--text", "c"]).done(nothing);
+}
+
+/// How many pointers a pair holds stands behind it, where they are several: of version 3, by two equal sizes
+/// of 16 to 2,048 in Indirect locations. The register is not looked at.
+#[test]
+fn the_text_shows_how_many_pointers_a_pair_holds() {
+    let folder = Folder::new();
+    let sized = |size, register, offset| location(3, size, register, offset);
+    for (pair, holds) in [
+        ([sized(8, 7, 0), sized(8, 7, 0)], ""),
+        ([sized(16, 7, 0), sized(16, 6, -8)], " (2 pointers)"),
+        ([sized(16, 29, 0), sized(16, 31, 8)], " (2 pointers)"),
+        ([sized(2_040, 7, 0), sized(2_040, 7, 0)], " (255 pointers)"),
+        ([sized(2_048, 7, 0), sized(2_048, 7, 0)], " (256 pointers)"),
+        ([sized(2_056, 7, 0), sized(2_056, 7, 0)], ""),
+        ([sized(0, 7, 0), sized(0, 7, 0)], ""),
+        ([sized(17, 7, 0), sized(17, 7, 0)], ""),
+        ([sized(16, 7, 0), sized(24, 7, 0)], ""),
+        ([sized(16, 7, 0), location(1, 16, 3, 0)], ""),
+        ([location(4, 16, 0, 0), location(4, 16, 0, 0)], " (null)"),
+        ([location(4, 16, 0, 0), location(4, 24, 0, 0)], " (null)"),
+        ([location(4, 16, 0, 1), location(4, 16, 0, 1)], ""),
+    ] {
+        folder.put("section", of_pairs(24, &[[rsp(8), rsp(8)], pair.clone()]));
+        let ran = folder.run(["list", "--text", "section"]);
+        let lines: Vec<String> = ran.text().lines().map(str::to_string).collect();
+        let size = |nth: usize| pair[nth].size;
+        let ends = |line: &str, end: &str| assert!(line.ends_with(end), "{line}, not {end}");
+        ends(&lines[6], "size 8, base of pair 0");
+        ends(
+            &lines[8],
+            &format!("size {}, base of pair 1{holds}", size(0)),
+        );
+        ends(
+            &lines[9],
+            &format!("size {}, derived of pair 1{holds}", size(1)),
+        );
+    }
+    // Of version 1 a pair is one pointer, or none of right form.
+    let mut older = one_function(
+        24,
+        vec![statepoint(0x20, &[[sized(16, 7, 0), sized(16, 7, 0)]])],
+    );
+    older.version = Version::One;
+    older.functions[0].record_count = 0;
+    folder.put("older", older.encode());
+    let ran = folder.run(["list", "--text", "older"]);
+    assert!(
+        ran.text().contains("size 16, base of pair 0\n"),
+        "{}",
+        ran.text()
+    );
 }
 
 #[test]

@@ -82,7 +82,7 @@ impl Restore {
         (ran, folder.get("image"))
     }
 
-    /// The image after a restore that is accepted, with what it says of frames and pairs.
+    /// The image after a restore that is accepted, with what it says of frames and pointers.
     #[track_caller]
     pub fn done(&self, says: &str) -> Vec<u8> {
         let (ran, image) = self.run();

@@ -159,11 +159,11 @@ part 2 from byte 264: 112 bytes, accepted
 #[test]
 fn row_i_and_sizes() {
     let moved = words(&[0xEEEE_EEEE_EEEE_EEEE, 0x90000, 0x94E20]);
-    assert_eq!(row_i().done("1 frame moved, 2 pairs"), moved);
+    assert_eq!(row_i().done("1 frame moved, 2 pointers"), moved);
     let mut row = row_i();
     for (base, derived) in [(0, 8), (8, 0), (0, 0)] {
         row.section = with(with(row_h_1(), 89, base), 97, derived);
-        assert_eq!(row.done("1 frame moved, 2 pairs"), moved);
+        assert_eq!(row.done("1 frame moved, 2 pointers"), moved);
     }
     row.section = with(row_h_1(), 97, 16);
     let words = row.refused(18, 0);
@@ -178,7 +178,7 @@ fn the_samples() {
     row.moves = fs::read_to_string(sample("i.moves")).unwrap();
     row.image = fs::read(sample("i.image")).unwrap();
     assert_eq!(
-        row.done("1 frame moved, 2 pairs"),
+        row.done("1 frame moved, 2 pointers"),
         words(&[0, 0x90000, 0x94E20])
     );
 }

@@ -11,7 +11,7 @@ use std::ops::Range;
 /// A frame that is laid out on the image.
 struct Laid<'a> {
     cells: &'a Cells,
-    pairs: usize,
+    pointers: usize,
     /// The frame whose statepoint it stands at: itself, or the first of those that stand there.
     of: usize,
     /// Its first byte in the image.
@@ -31,16 +31,16 @@ fn lay_out<'a>(rng: &mut Rng, cells: &'a [Cells], sizes: &[Size]) -> (Vec<u8>, V
     for (nth, cells) in cells.iter().enumerate() {
         // Sometimes the function of the frame before is called again, by itself.
         let before = frames.last().filter(|_| rng.one_in(6));
-        let (cells, pairs, of) = match before {
-            Some(before) => (before.cells, before.pairs, before.of),
-            None => (cells, sizes[nth].pairs, nth),
+        let (cells, pointers, of) = match before {
+            Some(before) => (before.cells, before.pointers, before.of),
+            None => (cells, sizes[nth].pointers, nth),
         };
         let at = image.len();
         image.resize(at + cells.length, 0);
         image.extend(gap(rng));
         frames.push(Laid {
             cells,
-            pairs,
+            pointers,
             of,
             at,
         });
@@ -92,10 +92,7 @@ pub(super) fn build(
 ) -> Option<Scene> {
     let mut constants = noise.constants.clone();
     constants.extend([0, rng.number(64).max(1)]);
-    let cells: Vec<Cells> = sizes
-        .iter()
-        .map(|size| Cells::any(rng, size.cells))
-        .collect();
+    let cells: Vec<Cells> = sizes.iter().map(|size| Cells::any(rng, size)).collect();
     let (image, frames) = lay_out(rng, &cells, sizes);
     let mut building = Building {
         table,
@@ -135,7 +132,7 @@ impl Building<'_> {
         let rbp = frame.cells.rbp(rng, rsp);
         frame.cells.pairs(
             rng,
-            frame.pairs,
+            frame.pointers,
             [rbp, rsp],
             pool,
             &self.image[frame.stretch()],

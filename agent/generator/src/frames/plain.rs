@@ -1,12 +1,13 @@
 //! How a frame is answered and what becomes of the image, worked out plainly from the scene: one more
 //! opinion beside those of the library and of the second implementation.
 
-use super::{keys, Scene, MOST_PAIRS, RBP, RSP};
+use super::{keys, Scene, MOST_POINTERS, RBP, RSP};
 use crate::layout::{Location, Record, Version};
 use crate::questions::addresses;
 
-/// The slots of a pair, base first, by their first byte counted from RSP; a null pair has none.
-pub type Slots = Option<[i128; 2]>;
+/// The slots of a pair's pointers, base first, by their first byte counted from RSP; a null pair has
+/// none.
+pub type Slots = Vec<[i128; 2]>;
 
 /// The number of the location that the pairs of a statepoint begin with; nothing where the record
 /// is no statepoint.
@@ -33,11 +34,35 @@ pub fn slots(scene: &Scene, stop: usize) -> Vec<Slots> {
         };
         i128::from(register) + i128::from(location.offset as i32) - i128::from(stop.rsp)
     };
-    let pair = |pair: &[Location]| (pair[0].kind == 3).then(|| [place(&pair[0]), place(&pair[1])]);
+    let slots = |pair: &[Location]| match pair[0].kind {
+        3 => (0..pointers_of(scene.section.version, pair))
+            .map(|nth| [&pair[0], &pair[1]].map(|one| place(one) + 8 * nth as i128))
+            .collect(),
+        _ => Vec::new(),
+    };
     record.locations[first..]
         .chunks_exact(2)
-        .map(pair)
+        .map(slots)
         .collect()
+}
+
+/// How many pointers a pair is that is null or has the right form.
+fn pointers_of(version: Version, pair: &[Location]) -> usize {
+    match (version, pair[0].kind) {
+        (Version::Three, 3) => usize::from(pair[0].size / 8),
+        _ => 1,
+    }
+}
+
+/// The number of a frame's pointers, null pairs counting one each. Its pairs are null or, in version 3,
+/// have the right form.
+pub fn pointers(scene: &Scene, stop: usize) -> usize {
+    let record = &scene.section.records[scene.stops[stop].record];
+    let first = first_pair(record).expect("a statepoint");
+    let pairs = record.locations[first..].chunks_exact(2);
+    pairs
+        .map(|pair| pointers_of(scene.section.version, pair))
+        .sum()
 }
 
 /// The content of a slot of a frame.
@@ -52,24 +77,34 @@ pub fn content(scene: &Scene, stop: usize, slot: i128) -> u64 {
 pub fn refusal(scene: &Scene, stop: usize) -> (u64, u64) {
     match whole(scene, stop) {
         Err(number) => (number, 0),
-        Ok(pairs) => {
-            let slot = |one: &Location| is_slot(scene.section.version, one);
-            let wrong = |pair: &[Location]| !is_null(scene, pair) && !pair.iter().all(slot);
-            if let Some(pair) = pairs.chunks_exact(2).position(wrong) {
-                return (18, pair as u64);
-            }
-            let size = i128::from(scene.stack_size(stop));
-            let outside = |slot: &i128| *slot < 0 || *slot + 8 > size;
-            let beyond = |pair: &Slots| pair.iter().flatten().any(outside);
-            match slots(scene, stop).iter().position(beyond) {
-                Some(pair) => (19, pair as u64),
-                None => answer(scene, stop),
-            }
-        }
+        Ok(pairs) => of_pairs(scene, stop, pairs),
     }
 }
 
-/// The locations of a frame's pairs, or what it is refused by as a whole: 10, 15, 12, 16, 17.
+/// The answer of a frame with these locations of pairs: 17 to 21, or accepted. Version 1 looks for 17
+/// before 18.
+fn of_pairs(scene: &Scene, stop: usize, pairs: &[Location]) -> (u64, u64) {
+    let version = scene.section.version;
+    if version == Version::One && pairs.len() / 2 > MOST_POINTERS {
+        return (17, 0);
+    }
+    let wrong = |pair: &[Location]| !is_null(scene, pair) && !is_form(version, pair);
+    if let Some(pair) = pairs.chunks_exact(2).position(wrong) {
+        return (18, pair as u64);
+    }
+    if version == Version::Three && pointers(scene, stop) > MOST_POINTERS {
+        return (17, 0);
+    }
+    let size = i128::from(scene.stack_size(stop));
+    let outside = |slot: &i128| *slot < 0 || *slot + 8 > size;
+    let beyond = |pair: &Slots| pair.iter().flatten().any(outside);
+    match slots(scene, stop).iter().position(beyond) {
+        Some(pair) => (19, pair as u64),
+        None => answer(scene, stop),
+    }
+}
+
+/// The locations of a frame's pairs, or what it is refused by as a whole: 10, 15, 12, 16.
 fn whole(scene: &Scene, stop: usize) -> Result<&[Location], u64> {
     let record = standing(scene, stop)?;
     let record = &scene.section.records[record];
@@ -78,11 +113,7 @@ fn whole(scene: &Scene, stop: usize) -> Result<&[Location], u64> {
     if size == u64::MAX || start < 0 || start + i128::from(size) > scene.image.len() as i128 {
         return Err(16);
     }
-    let pairs = &record.locations[first..];
-    match pairs.len() > 2 * MOST_PAIRS {
-        true => Err(17),
-        false => Ok(pairs),
-    }
+    Ok(&record.locations[first..])
 }
 
 /// The number of the one record that a frame stands at, or 10 or 15. In version 1 the function that is
@@ -114,33 +145,42 @@ fn is_null(scene: &Scene, pair: &[Location]) -> bool {
     })
 }
 
-/// Whether a location has the form of a slot. Its size is 8, in version 1 also 0.
-fn is_slot(version: Version, location: &Location) -> bool {
-    let sizes: &[u16] = match version {
-        Version::One => &[0, 8],
-        Version::Three => &[8],
+/// Whether a pair has the right form. Its sizes are 8 in version 1, each by itself also 0; in version 3
+/// they are equal, a multiple of 8, and of 1 to 256 pointers.
+fn is_form(version: Version, pair: &[Location]) -> bool {
+    let slot = |one: &Location| one.kind == 3 && [RBP, RSP].contains(&one.register);
+    let sizes = [pair[0].size, pair[1].size];
+    let right = match version {
+        Version::One => sizes.iter().all(|size| [0, 8].contains(size)),
+        Version::Three => {
+            let most = 8 * MOST_POINTERS as u16;
+            sizes[0] == sizes[1] && sizes[0].is_multiple_of(8) && (8..=most).contains(&sizes[0])
+        }
     };
-    location.kind == 3 && sizes.contains(&location.size) && [RBP, RSP].contains(&location.register)
+    right && pair.iter().all(slot)
 }
 
 /// The answer of a frame whose pairs all have slots inside it: 20, 21 or accepted.
 pub fn answer(scene: &Scene, stop: usize) -> (u64, u64) {
     let pairs = slots(scene, stop);
-    let base = |pair: [i128; 2]| content(scene, stop, pair[0]);
+    let base = |pointer: &[i128; 2]| content(scene, stop, pointer[0]);
     let near = |one: i128, two: i128| one != two && (one - two).abs() < 8;
+    let mut before: Vec<[i128; 2]> = Vec::new();
     for (nth, pair) in pairs.iter().enumerate() {
-        let Some(pair) = *pair else { continue };
-        for other in pairs[..=nth].iter().copied().flatten() {
-            let overlap = [pair[0], pair[1], other[0], other[1]]
-                .iter()
-                .any(|one| pair.iter().any(|two| near(*one, *two)));
-            if overlap || pair[1] == other[1] && base(pair) != base(other) {
-                return (20, nth as u64);
+        for pointer in pair {
+            before.push(*pointer);
+            for other in &before {
+                let overlap = [pointer[0], pointer[1], other[0], other[1]]
+                    .iter()
+                    .any(|one| pointer.iter().any(|two| near(*one, *two)));
+                if overlap || pointer[1] == other[1] && base(pointer) != base(other) {
+                    return (20, nth as u64);
+                }
             }
         }
     }
-    let lost = |pair: &Slots| pair.is_some_and(|pair| scene.table.moved(base(pair)).is_none());
-    match pairs.iter().position(lost) {
+    let lost = |pointer: &[i128; 2]| scene.table.moved(base(pointer)).is_none();
+    match pairs.iter().position(|pair| pair.iter().any(lost)) {
         Some(nth) => (21, nth as u64),
         None => (0, 0),
     }

@@ -19,19 +19,40 @@ impl Pool<'_> {
         }
     }
 
-    /// A size of a slot: 8, and in version 1 also 0.
-    pub(crate) fn slot_size(self, rng: &mut Rng) -> u16 {
+    /// A size of a location that is so many pointers, one in version 1: 8 for each, and in version 1
+    /// also 0.
+    pub(crate) fn slot_size(self, rng: &mut Rng, pointers: usize) -> u16 {
         match self.version {
             Version::One => rng.pick(&[0, 8]),
-            Version::Three => 8,
+            Version::Three => 8 * pointers as u16,
         }
     }
 
-    /// A size that no slot has.
-    pub(crate) fn wrong_size(self, rng: &mut Rng) -> u16 {
-        match self.version {
-            Version::One => rng.pick(&[1, 4, 7, 9, 16, 0x80, 0xf8, 0xff]),
-            Version::Three => rng.pick(&[0, 4, 7, 9, 16, 0x108, 0x800]),
+    /// Two sizes that the locations of a pair don't have together. In version 3 they are unequal, or no
+    /// number of pointers, or of more than 256.
+    pub(crate) fn wrong_sizes(self, rng: &mut Rng) -> [u16; 2] {
+        let many = 8 * (1 + rng.below(256)) as u16;
+        let no_slot = match self.version {
+            Version::One => rng.pick(&[16, 16, 1, 7, 9, 0x80, 0xf8, 0xff]),
+            Version::Three => rng.pick(&[0, 0, 4, 7, many - 1, many + 1, 2_056, 2_056, 0xfff8]),
+        };
+        let other = match self.version {
+            Version::One => self.slot_size(rng, 1),
+            Version::Three => many,
+        };
+        let unequal = match rng.below(3) {
+            0 => (many % 2_048) + 8,
+            1 => many + 8,
+            _ => many - 8,
+        };
+        let [one, two] = match (rng.below(4), self.version) {
+            (0, _) => [no_slot, other],
+            (1 | 2, Version::Three) => [many, unequal],
+            _ => [no_slot, no_slot],
+        };
+        match rng.one_in(2) {
+            true => [one, two],
+            false => [two, one],
         }
     }
 

@@ -112,10 +112,10 @@ impl Thread {
         })
     }
 
-    /// The sum of the pairs of a list that is accepted.
-    pub fn pairs(&self) -> u64 {
-        let pairs = |stop: &usize| plain::slots(&self.scene, *stop).len() as u64;
-        self.order.iter().map(pairs).sum()
+    /// The sum of the pointers of a list that is accepted.
+    pub fn pointers(&self) -> u64 {
+        let pointers = |stop: &usize| plain::pointers(&self.scene, *stop) as u64;
+        self.order.iter().map(pointers).sum()
     }
 
     /// The image after a list that is accepted.
@@ -124,7 +124,7 @@ impl Thread {
     }
 }
 
-/// So many frames. Many pairs take long to compare, so that few of the frames have many.
+/// So many frames. Many pointers take long to compare, so that few of the frames have many.
 fn scene(rng: &mut Rng, count: usize) -> Scene {
     let table = Table::any(rng);
     let size = |_| match rng.below(6) {

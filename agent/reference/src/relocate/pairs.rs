@@ -1,18 +1,33 @@
-//! The pairs of a statepoint: their form, their slots and their new contents.
+//! The pairs of a statepoint: their form, their pointers and the new contents.
+//!
+//! A pair of size 8N is N pointers one after another: the slots of pointer i
+//! are 8i bytes after the first bytes of its two locations. In version 1 a pair
+//! is always one pointer, and so is a null pair in both versions.
 //!
 //! The refusals 18, 19, 20 and 21 are each judged over all pairs before the
-//! next, and each is placed at the lowest pair with the fault.
+//! next, and each is placed at the lowest pair with the fault, whichever of its
+//! pointers has it.
 
 use super::Frame;
 use crate::questions::constant;
 use crate::section::{Location, Section, Version};
 use crate::Refusal;
 
-/// The most pairs of a statepoint, null ones included.
-pub(super) const MAX_PAIRS: usize = 256;
+/// The most pointers of a statepoint, null pairs counting one each; and the
+/// most of one pair.
+pub(super) const MAX_POINTERS: usize = 256;
 
 /// The length of a slot.
 const SLOT: usize = 8;
+
+/// A pair of right form that isn't null: the addresses of its two locations as
+/// whole numbers, which may lie outside the 64-bit addresses, and how many
+/// pointers it is.
+pub(super) struct Form {
+    base: i128,
+    derived: i128,
+    pointers: usize,
+}
 
 /// A slot inside the frame's extent.
 #[derive(Clone, Copy)]
@@ -23,61 +38,98 @@ pub(super) struct Slot {
     content: u64,
 }
 
-/// A pair of slots. A null pair has none.
-pub(super) struct Pair {
+/// A pointer: the slot of its base and its own.
+pub(super) struct Pointer {
     base: Slot,
     derived: Slot,
 }
 
-/// Finds the slots of all pairs and reads them: refusal 18 over all pairs,
-/// then 19 over all pairs. A null pair is `None`.
-pub(super) fn locate(
+/// The form of each pair, `None` for a null one: refusal 18 over all pairs.
+pub(super) fn forms(
     section: &Section,
     entries: &[[Location; 2]],
-    stretch: &[u8],
     frame: Frame,
-) -> Result<Vec<Option<Pair>>, Refusal> {
-    let mut addresses = Vec::new();
-    for (number, entry) in entries.iter().enumerate() {
-        if entry
-            .iter()
-            .all(|location| constant(section, location) == Some(0))
-        {
-            addresses.push(None);
-        } else {
-            let [base, derived] = entry;
-            let address = |location| slot_address(section.version, location, frame);
-            let slots = address(base).zip(address(derived));
-            addresses.push(Some(slots.ok_or(Refusal::at(18, number))?));
+) -> Result<Vec<Option<Form>>, Refusal> {
+    let numbered = entries.iter().enumerate();
+    numbered
+        .map(|(number, entry)| {
+            let zero = |location| constant(section, location) == Some(0);
+            if entry.iter().all(zero) {
+                return Ok(None);
+            }
+            let form = form(section.version, entry, frame);
+            form.map(Some).ok_or(Refusal::at(18, number))
+        })
+        .collect()
+}
+
+/// The form of a pair that isn't null, if it is right.
+fn form(version: Version, [base, derived]: &[Location; 2], frame: Frame) -> Option<Form> {
+    Some(Form {
+        pointers: pointers(version, base.size, derived.size)?,
+        base: address(base, frame)?,
+        derived: address(derived, frame)?,
+    })
+}
+
+/// How many pointers a pair of these two sizes is. In version 1 each of the
+/// sizes is 0 or 8; in version 3 both are equal and 8 to 2,048 by eights.
+fn pointers(version: Version, base: u16, derived: u16) -> Option<usize> {
+    match version {
+        Version::One => {
+            let one = |size| size == 0 || size == 8;
+            (one(base) && one(derived)).then_some(1)
+        }
+        Version::Three => {
+            let size = usize::from(base);
+            let whole = base == derived && size.is_multiple_of(SLOT);
+            let pointers = size / SLOT;
+            (whole && (1..=MAX_POINTERS).contains(&pointers)).then_some(pointers)
         }
     }
+}
+
+/// The address that an Indirect location of one of the two registers names.
+fn address(location: &Location, frame: Frame) -> Option<i128> {
+    let register = match (location.kind, location.register) {
+        (3, 6) => frame.rbp,
+        (3, 7) => frame.rsp,
+        _ => return None,
+    };
+    Some(i128::from(register) + i128::from(location.offset))
+}
+
+/// The number of pointers, null pairs counting one each.
+pub(super) fn count(forms: &[Option<Form>]) -> usize {
+    let pointers = |form: &Option<Form>| form.as_ref().map_or(1, |form| form.pointers);
+    forms.iter().map(pointers).sum()
+}
+
+/// Finds the slots of all pointers, pair by pair, and reads them: refusal 19
+/// over all pairs. A null pair has none.
+pub(super) fn locate(
+    forms: &[Option<Form>],
+    stretch: &[u8],
+    frame: Frame,
+) -> Result<Vec<Vec<Pointer>>, Refusal> {
     let mut pairs = Vec::new();
-    for (number, slots) in addresses.into_iter().enumerate() {
-        let Some((base, derived)) = slots else {
-            pairs.push(None);
-            continue;
-        };
-        let slots = slot_inside(stretch, frame, base).zip(slot_inside(stretch, frame, derived));
-        let (base, derived) = slots.ok_or(Refusal::at(19, number))?;
-        pairs.push(Some(Pair { base, derived }));
+    for (number, form) in forms.iter().enumerate() {
+        let slots = form.as_ref().map_or(Some(Vec::new()), |form| {
+            let nth = |nth| pointer_inside(form, nth, stretch, frame);
+            (0..form.pointers).map(nth).collect()
+        });
+        pairs.push(slots.ok_or(Refusal::at(19, number))?);
     }
     Ok(pairs)
 }
 
-/// The address of a slot, as a whole number that may lie outside the 64-bit
-/// addresses; none if the location doesn't have the form of a slot. A slot's
-/// size is given as 8, and in version 1 as 0 or 8.
-fn slot_address(version: Version, location: &Location, frame: Frame) -> Option<i128> {
-    let size = match (version, location.size) {
-        (Version::One, 0) => SLOT,
-        (_, size) => usize::from(size),
-    };
-    let register = match (location.kind, size, location.register) {
-        (3, SLOT, 6) => frame.rbp,
-        (3, SLOT, 7) => frame.rsp,
-        _ => return None,
-    };
-    Some(i128::from(register) + i128::from(location.offset))
+/// Reads the nth pointer of a pair, if both slots are wholly inside the extent.
+fn pointer_inside(form: &Form, nth: usize, stretch: &[u8], frame: Frame) -> Option<Pointer> {
+    let after = (SLOT * nth) as i128;
+    Some(Pointer {
+        base: slot_inside(stretch, frame, form.base + after)?,
+        derived: slot_inside(stretch, frame, form.derived + after)?,
+    })
 }
 
 /// Reads the slot at an address, if it is wholly inside the frame's extent.
@@ -90,51 +142,45 @@ fn slot_inside(stretch: &[u8], frame: Frame, address: i128) -> Option<Slot> {
     })
 }
 
-/// The lowest pair that collides with itself or an earlier one.
-pub(super) fn collision(pairs: &[Option<Pair>]) -> Option<usize> {
+/// The lowest pair that collides with itself or an earlier one: any pointer of
+/// the one with any of the other.
+pub(super) fn collision(pairs: &[Vec<Pointer>]) -> Option<usize> {
     pairs.iter().enumerate().position(|(number, pair)| {
         let up_to = pairs.iter().take(number + 1).flatten();
         pair.iter()
-            .any(|pair| up_to.clone().any(|earlier| collides(pair, earlier)))
+            .any(|pointer| up_to.clone().any(|other| collides(pointer, other)))
     })
 }
 
-/// Whether two of the slots of two pairs overlap without being equal, or the
+/// Whether two of the slots of two pointers overlap without being equal, or the
 /// derived slots are equal and the old bases differ.
-fn collides(pair: &Pair, other: &Pair) -> bool {
-    let slots = [
-        pair.base.at,
-        pair.derived.at,
-        other.base.at,
-        other.derived.at,
-    ];
+fn collides(one: &Pointer, other: &Pointer) -> bool {
+    let slots = [one.base.at, one.derived.at, other.base.at, other.derived.at];
     let overlap = slots.iter().any(|one| {
         slots
             .iter()
             .any(|two| one != two && one.abs_diff(*two) < SLOT)
     });
-    overlap || (pair.derived.at == other.derived.at && pair.base.content != other.base.content)
+    overlap || (one.derived.at == other.derived.at && one.base.content != other.base.content)
 }
 
 /// The new content of each derived slot, by the slot's first byte counted from
-/// RSP; refusal 21 at the lowest pair whose base is neither 0 nor an old start.
+/// RSP; refusal 21 at the lowest pair with a base that is neither 0 nor an old
+/// start.
 pub(super) fn new_contents(
-    pairs: &[Option<Pair>],
+    pairs: &[Vec<Pointer>],
     old_starts: &[u64],
     new_starts: &[u64],
 ) -> Result<Vec<(usize, u64)>, Refusal> {
     let mut contents = Vec::new();
     for (number, pair) in pairs.iter().enumerate() {
-        let Some(Pair { base, derived }) = pair else {
-            continue;
-        };
-        let old_base = base.content;
-        let new_base = moved(old_base, old_starts, new_starts).ok_or(Refusal::at(21, number))?;
-        let content = derived
-            .content
-            .wrapping_add(new_base)
-            .wrapping_sub(old_base);
-        contents.push((derived.at, content));
+        for Pointer { base, derived } in pair {
+            let old_base = base.content;
+            let new_base = moved(old_base, old_starts, new_starts);
+            let new_base = new_base.ok_or(Refusal::at(21, number))?;
+            let content = derived.content.wrapping_add(new_base);
+            contents.push((derived.at, content.wrapping_sub(old_base)));
+        }
     }
     Ok(contents)
 }

@@ -16,7 +16,8 @@ fn refusal_18_is_for_a_pair_of_wrong_form() {
         location(3, 4, 7, 8),
         location(3, 4, 6, 8),
         location(2, 8, 6, 8),
-        location(3, 16, 7, 8),
+        location(3, 9, 7, 8),
+        location(3, 0, 7, 8),
         location(3, 8, 5, 8),
         location(3, 8, 8, 8),
         small(1),
@@ -136,12 +137,6 @@ fn each_refusal_is_judged_over_all_pairs_before_the_next() {
     let mut row = Move::of_pairs(8, &five(&fine, &fine));
     row.set(0, 1);
     assert_eq!(row.run(), refusal(21, 0));
-}
-
-#[test]
-fn refusal_17_comes_before_18() {
-    assert_eq!(answer(&vec![(small(1), rsp(0)); 257]), refusal(17, 0));
-    assert_eq!(answer(&vec![(small(1), rsp(0)); 256]), refusal(18, 0));
 }
 
 #[test]

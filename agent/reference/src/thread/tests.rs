@@ -87,7 +87,7 @@ fn a_list_of_none_is_accepted() {
 }
 
 #[test]
-fn all_move_as_one_by_one_and_the_pairs_are_added() {
+fn all_move_as_one_by_one_and_the_pointers_are_added() {
     let lists = [
         vec![full(0x7000), full(0x7018)],
         vec![full(0x7018), full(0x7000)],
@@ -160,6 +160,22 @@ fn pairs_have_no_place() {
     let list = [full(0x7000), full(0x7018)].concat();
     let answer = thread(&section, &mut image, 0x7000, &[0x50000], &[0x90000], &list);
     assert_eq!(answer, refusal(19, 0), "19 of pair 1, in frame 0");
+}
+
+/// A thread's count is the pointers of its frames, a null pair one.
+#[test]
+fn pointers_are_added() {
+    let wide = |offset| location(3, 16, 7, offset);
+    let pairs = [(wide(0), wide(8)), (small(0), small(0))];
+    let section = one_function(24, &[], &[statepoint(0x20, &pairs)]);
+    let slots = [0x50000, 0, 0x60000, 0, 0x50000, 0x50008_u64];
+    let mut image: Vec<u8> = slots.into_iter().flat_map(u64::to_le_bytes).collect();
+    let list = [full(0x7000), full(0x7018)].concat();
+    let answer = thread(&section, &mut image, 0x7000, &[0x50000], &[0x90000], &list);
+    assert_eq!(answer, Ok(6));
+    let after = [0x50000, 0x40000, 0x60000, 0, 0x50000, 0x90008_u64];
+    let after: Vec<u8> = after.into_iter().flat_map(u64::to_le_bytes).collect();
+    assert_eq!(image, after);
 }
 
 /// Each frame is judged on the image as lent: the second of two equal ones is

@@ -72,7 +72,7 @@ fn a_folder_that_cannot_be_written() {
     ran.failed("image: cannot be replaced: ", "Permission denied");
     assert_eq!(folder.get("image"), row.image);
     assert!(!folder.names().contains(&BESIDE.to_string()));
-    Ran::of(&mut command).done("image: 1 frame moved, 2 pairs\n");
+    Ran::of(&mut command).done("image: 1 frame moved, 2 pointers\n");
     assert_eq!(folder.get("image"), moved());
 }
 
@@ -120,7 +120,7 @@ fn permissions_and_owner_are_kept() {
         chown(folder.at("image"), owner, owner).unwrap();
         set_mode(&folder.at("image"), mode);
         let before = fs::metadata(folder.at("image")).unwrap();
-        Ran::of(row.call(&mut folder.command())).done("image: 1 frame moved, 2 pairs\n");
+        Ran::of(row.call(&mut folder.command())).done("image: 1 frame moved, 2 pointers\n");
         let after = fs::metadata(folder.at("image")).unwrap();
         assert_ne!(before.ino(), after.ino(), "the file is a new one");
         assert_eq!(
@@ -137,7 +137,7 @@ fn a_link_is_followed_and_stays_a_link() {
     fs::create_dir(folder.at("elsewhere")).unwrap();
     fs::rename(folder.at("image"), folder.at("elsewhere/stack")).unwrap();
     symlink("elsewhere/stack", folder.at("image")).unwrap();
-    Ran::of(row.call(&mut folder.command())).done("image: 1 frame moved, 2 pairs\n");
+    Ran::of(row.call(&mut folder.command())).done("image: 1 frame moved, 2 pointers\n");
     assert!(fs::symlink_metadata(folder.at("image"))
         .unwrap()
         .is_symlink());
@@ -170,7 +170,7 @@ fn one_restore_at_a_time() {
     assert_eq!(folder.get("image"), row.image);
     // Closing it would not do: a process that another test is just starting has it open too.
     other.unlock().unwrap();
-    Ran::of(row.call(&mut folder.command())).done("image: 1 frame moved, 2 pairs\n");
+    Ran::of(row.call(&mut folder.command())).done("image: 1 frame moved, 2 pointers\n");
 }
 
 /// A killed run leaves its file, or a link stands in its place: it is taken away, never followed.
@@ -179,17 +179,17 @@ fn what_is_left_of_a_killed_run() {
     let (row, folder) = (Restore::row_i(), Folder::new());
     row.put(&folder);
     folder.put(BESIDE, "half an image");
-    Ran::of(row.call(&mut folder.command())).done("image: 1 frame moved, 2 pairs\n");
+    Ran::of(row.call(&mut folder.command())).done("image: 1 frame moved, 2 pointers\n");
     assert_eq!(folder.names(), DONE);
     row.put(&folder);
     folder.put("mine", "mine");
     symlink("mine", folder.at(BESIDE)).unwrap();
-    Ran::of(row.call(&mut folder.command())).done("image: 1 frame moved, 2 pairs\n");
+    Ran::of(row.call(&mut folder.command())).done("image: 1 frame moved, 2 pointers\n");
     assert_eq!(folder.get("mine"), b"mine");
     // The name may also be that of the image itself, as a second link: that is never written over.
     row.put(&folder);
     fs::hard_link(folder.at("mine"), folder.at(BESIDE)).unwrap();
-    Ran::of(row.call(&mut folder.command())).done("image: 1 frame moved, 2 pairs\n");
+    Ran::of(row.call(&mut folder.command())).done("image: 1 frame moved, 2 pointers\n");
     assert_eq!(folder.get("mine"), b"mine");
 }
 

@@ -16,7 +16,7 @@ const PAIRS: u64 = 24;
 pub const OLD: u64 = 0x5_0000_0000;
 pub const NEW: u64 = 0x9_0000_0000;
 pub const BESIDE: &str = ".image.treskibben-new";
-pub const SAYS: &str = "image: 1024 frames moved, 24576 pairs\n";
+pub const SAYS: &str = "image: 1024 frames moved, 24576 pointers\n";
 
 /// The image of 1 MiB whose objects start at `start`.
 pub fn image(start: u64) -> Vec<u8> {

@@ -12,7 +12,7 @@ fn all_that_a_list_may_have() {
         frames: "# ADDRESS RBP RSP\n\n  0x1020   0xFFFFFFFFFFFFFFFF 0x7000".into(),
         ..Restore::row_i()
     };
-    let image = row.done("1 frame moved, 2 pairs");
+    let image = row.done("1 frame moved, 2 pointers");
     assert_eq!(image[8..], words(&[0x90000, 0x94E20]));
 }
 
@@ -174,5 +174,5 @@ fn wrong_calls() {
     with("--force").failed("", "'--force'");
     with("--output=new").failed("", "'--in-place'");
     assert_eq!(folder.get("image"), row.image);
-    first("0X7000").done("image: 1 frame moved, 2 pairs\n");
+    first("0X7000").done("image: 1 frame moved, 2 pointers\n");
 }

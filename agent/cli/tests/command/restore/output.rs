@@ -17,7 +17,7 @@ fn a_new_file_and_its_receipt() {
     let (row, folder) = (Restore::row_i(), Folder::new());
     row.put(&folder);
     let before = fs::metadata(folder.at("image")).unwrap();
-    to(&row, &folder, "new").done("new: 1 frame moved, 2 pairs\n");
+    to(&row, &folder, "new").done("new: 1 frame moved, 2 pointers\n");
     assert_eq!(folder.get("new"), moved_once());
     assert_eq!(folder.get("image"), row.image);
     let after = fs::metadata(folder.at("image")).unwrap();
@@ -91,7 +91,7 @@ fn permissions_are_those_of_the_old_image() {
         if is_root() {
             chown(folder.at("image"), Some(NOBODY), Some(NOBODY)).unwrap();
         }
-        to(&row, &folder, "new").done("new: 1 frame moved, 2 pairs\n");
+        to(&row, &folder, "new").done("new: 1 frame moved, 2 pointers\n");
         let new = fs::metadata(folder.at("new")).unwrap();
         assert_eq!(new.mode() & 0o7777, mode);
         assert_eq!(new.uid(), fs::metadata(folder.path()).unwrap().uid());
@@ -114,7 +114,7 @@ fn standard_input() {
         let mut command = Command::new("sh");
         command.args(["-c", &line]).current_dir(folder.path());
         let ran = Ran::of(command.stdin(Stdio::null()));
-        ran.done(&format!("{output}: 1 frame moved, 2 pairs\n"));
+        ran.done(&format!("{output}: 1 frame moved, 2 pointers\n"));
         assert_eq!(folder.get(&output), moved_once());
     }
     let new = fs::metadata(folder.at("new1")).unwrap();

@@ -23,7 +23,7 @@ fn what_a_receipt_says() {
     row.put(&folder);
     let mut command = folder.command();
     let ran = Ran::of(row.inputs(&mut command).args(["--output", "new"]));
-    ran.done("new: 1 frame moved, 2 pairs\n");
+    ran.done("new: 1 frame moved, 2 pointers\n");
     let receipt = receipt(&folder, "new.receipt.json");
     let files = [
         ("section", "section", &row.section[..]),
@@ -38,7 +38,7 @@ fn what_a_receipt_says() {
         assert_eq!(receipt[field]["sha256"], digest(bytes), "{field}");
     }
     assert_eq!(receipt["moved_frames"], 1);
-    assert_eq!(receipt["moved_pairs"], 2);
+    assert_eq!(receipt["moved_pointers"], 2);
     assert_eq!(receipt["first"], "0x7000");
     assert_eq!(receipt["treskibben"], env!("CARGO_PKG_VERSION"));
 }
@@ -52,7 +52,7 @@ fn digests_are_sha_256() {
     row.frames = String::new();
     row.put(&folder);
     let ran = Ran::of(row.call(&mut folder.command()).arg("--allow-empty"));
-    ran.done("image: 0 frames moved, 0 pairs\n");
+    ran.done("image: 0 frames moved, 0 pointers\n");
     assert_eq!(receipt(&folder, RECEIPT)["frames"]["sha256"], empty);
 }
 
@@ -61,7 +61,7 @@ fn digests_are_sha_256() {
 fn no_image_is_moved_twice_by_accident() {
     let (row, folder) = (chain(), Folder::new());
     row.put(&folder);
-    Ran::of(row.call(&mut folder.command())).done("image: 1 frame moved, 2 pairs\n");
+    Ran::of(row.call(&mut folder.command())).done("image: 1 frame moved, 2 pointers\n");
     let ran = Ran::of(row.call(&mut folder.command()));
     assert_eq!((ran.status, ran.text()), (Some(1), ""));
     let start = "image: refused: it was restored already; ";
@@ -76,7 +76,7 @@ fn no_image_is_moved_twice_by_accident() {
     assert_eq!(ran.status, Some(1));
     assert_eq!(folder.names(), DONE);
     let ran = Ran::of(row.call(&mut folder.command()).arg("--again"));
-    ran.done("image: 1 frame moved, 2 pairs\n");
+    ran.done("image: 1 frame moved, 2 pointers\n");
     let twice = words(&[0xEEEE_EEEE_EEEE_EEEE, 0xA0000, 0xA4E20]);
     assert_eq!(folder.get("image"), twice);
 }
@@ -92,7 +92,7 @@ fn nor_is_one_that_was_written_as_a_new_file() {
         );
         folder.run(call.split(' '))
     };
-    call("image", "new").done("new: 1 frame moved, 2 pairs\n");
+    call("image", "new").done("new: 1 frame moved, 2 pointers\n");
     let ran = call("new", "newer");
     assert!(
         ran.err
@@ -102,7 +102,7 @@ fn nor_is_one_that_was_written_as_a_new_file() {
     );
     assert_eq!(ran.status, Some(1));
     // The old image is as it was, and may be restored as often as one likes.
-    call("image", "other").done("other: 1 frame moved, 2 pairs\n");
+    call("image", "other").done("other: 1 frame moved, 2 pointers\n");
     assert_eq!(folder.get("other"), folder.get("new"));
 }
 
@@ -112,18 +112,32 @@ fn nor_is_one_that_was_written_as_a_new_file() {
 fn a_receipt_without_its_image() {
     let (row, folder) = (chain(), Folder::new());
     row.put(&folder);
-    Ran::of(row.call(&mut folder.command())).done("image: 1 frame moved, 2 pairs\n");
+    Ran::of(row.call(&mut folder.command())).done("image: 1 frame moved, 2 pointers\n");
     folder.put("image", &row.image);
     assert_eq!(folder.names(), DONE);
-    Ran::of(row.call(&mut folder.command())).done("image: 1 frame moved, 2 pairs\n");
+    Ran::of(row.call(&mut folder.command())).done("image: 1 frame moved, 2 pointers\n");
     assert_eq!(folder.get("image"), moved_once());
 
     folder.put("image", &row.image);
     folder.put("new.receipt.json", folder.get(RECEIPT));
     let mut command = folder.command();
     let ran = Ran::of(row.inputs(&mut command).args(["--output", "new"]));
-    ran.done("new: 1 frame moved, 2 pairs\n");
+    ran.done("new: 1 frame moved, 2 pointers\n");
     assert_eq!(receipt(&folder, "new.receipt.json")["after"]["file"], "new");
+}
+
+/// Receipts that name pairs were written when each pair was one pointer. They still tell what was restored.
+#[test]
+fn a_receipt_from_before_several_pointers() {
+    let (row, folder) = (chain(), Folder::new());
+    row.put(&folder);
+    Ran::of(row.call(&mut folder.command())).done("image: 1 frame moved, 2 pointers\n");
+    let text = String::from_utf8(folder.get(RECEIPT)).unwrap();
+    assert!(text.contains("moved_pointers"));
+    folder.put(RECEIPT, text.replace("moved_pointers", "moved_pairs"));
+    let ran = Ran::of(row.call(&mut folder.command()));
+    assert_eq!(ran.status, Some(1), "{}", ran.err);
+    assert!(ran.err.contains("it was restored already"), "{}", ran.err);
 }
 
 #[test]
@@ -143,7 +157,7 @@ fn a_receipt_that_is_none() {
         assert_eq!(folder.get(RECEIPT), text.as_bytes());
     }
     let ran = Ran::of(row.call(&mut folder.command()).arg("--again"));
-    ran.done("image: 1 frame moved, 2 pairs\n");
+    ran.done("image: 1 frame moved, 2 pointers\n");
     assert_eq!(
         receipt(&folder, RECEIPT)["after"]["sha256"],
         digest(&moved_once())
@@ -178,7 +192,7 @@ fn long_names() {
             "restore --section section --image {name} --first 7000 --moves moves --frames frames"
         );
         let place = |more: &str| folder.run(format!("{call} {more}").split(' '));
-        place("--in-place").done(&format!("{name}: 1 frame moved, 2 pairs\n"));
+        place("--in-place").done(&format!("{name}: 1 frame moved, 2 pointers\n"));
         assert_eq!(folder.get(&name), moved_once());
         assert_eq!(folder.names().len(), 5, "{length}");
         assert_eq!(
@@ -188,7 +202,7 @@ fn long_names() {
         );
         folder.put(&name, &row.image);
         let new = "n".repeat(length);
-        place(&format!("--output {new}")).done(&format!("{new}: 1 frame moved, 2 pairs\n"));
+        place(&format!("--output {new}")).done(&format!("{new}: 1 frame moved, 2 pointers\n"));
         assert_eq!(folder.get(&new), moved_once());
     }
 }

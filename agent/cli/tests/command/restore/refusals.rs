@@ -54,7 +54,7 @@ fn refusals_of_the_section() {
 fn refusals_of_the_image() {
     let mut long = Restore::row_i();
     long.image.resize(1_048_576, 7);
-    long.done("1 frame moved, 2 pairs");
+    long.done("1 frame moved, 2 pointers");
     long.image.push(7);
     let words = long.refused(13, 0);
     assert!(
@@ -64,7 +64,7 @@ fn refusals_of_the_image() {
     let mut high = Restore::row_i();
     high.first = u64::MAX - 24;
     high.frames = format!("1020 0 {:x}", high.first);
-    high.done("1 frame moved, 2 pairs");
+    high.done("1 frame moved, 2 pointers");
     high.first += 1;
     high.frames = format!("1020 0 {:x}", high.first);
     high.refused(13, 0);
@@ -97,7 +97,7 @@ fn refusals_of_the_moves() {
             .map(|old| format!("{old:x} 90000\n"))
             .collect()
     };
-    moved_by(table(65_536)).done("1 frame moved, 2 pairs");
+    moved_by(table(65_536)).done("1 frame moved, 2 pointers");
     let words = moved_by(table(65_537)).refused(14, 0);
     assert!(words.starts_with("moves:65537: "), "{words}");
     assert!(words.ends_with("; entry 65537 of 65537"), "{words}");
@@ -185,7 +185,7 @@ fn null_pairs_and_bases_of_zero() {
         moves: "# nothing has moved\n".to_string(),
         ..Restore::row_i()
     };
-    assert_eq!(row.done("1 frame moved, 2 pairs"), row.image);
+    assert_eq!(row.done("1 frame moved, 2 pointers"), row.image);
 }
 
 /// Faults of what all frames share come before those of a frame, and they come in their order.
@@ -231,11 +231,11 @@ fn no_frames() {
     let folder = Folder::new();
     none.put(&folder);
     let ran = Ran::of(none.call(&mut folder.command()).arg("--allow-empty"));
-    ran.done("image: 0 frames moved, 0 pairs\n");
+    ran.done("image: 0 frames moved, 0 pointers\n");
     assert_eq!(folder.get("image"), none.image);
     // Nothing was moved, so that nothing can be moved twice.
     folder.put("frames", Restore::row_i().frames);
-    Ran::of(none.call(&mut folder.command())).done("image: 1 frame moved, 2 pairs\n");
+    Ran::of(none.call(&mut folder.command())).done("image: 1 frame moved, 2 pointers\n");
     none.moves = "1 0".to_string();
     none.refused(14, 0);
     none.image = vec![0; 1_048_577];

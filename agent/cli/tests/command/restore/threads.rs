@@ -45,11 +45,11 @@ fn shuffled(lines: &str, rng: &mut generator::Rng) -> String {
 fn many_frames_in_any_order() {
     let mut row = thread(500);
     let expected = moved(500);
-    assert!(row.done("500 frames moved, 1000 pairs") == expected);
+    assert!(row.done("500 frames moved, 1000 pointers") == expected);
     let mut rng = generator::Rng::part(5, 0);
     for _ in 0..5 {
         row.frames = shuffled(&row.frames, &mut rng);
-        assert!(row.done("500 frames moved, 1000 pairs") == expected);
+        assert!(row.done("500 frames moved, 1000 pointers") == expected);
     }
 }
 
@@ -93,7 +93,7 @@ fn the_first_refused_frame_is_named() {
 #[test]
 fn as_many_frames_as_there_may_be() {
     let mut row = thread(4_096);
-    assert!(row.done("4096 frames moved, 8192 pairs") == moved(4_096));
+    assert!(row.done("4096 frames moved, 8192 pointers") == moved(4_096));
     row.frames += "9999 0 0\n";
     let words = row.refused(25, 0);
     assert_eq!(
@@ -116,7 +116,7 @@ fn shared_extents_are_refused() {
     for (rsp, number) in [(0x7017, 26), (0x7019, 26), (0x702f, 26), (0x7030, 0)] {
         row.frames = format!("1020 0 7000\n1020 0 7018\n1020 0 {rsp:x}");
         match number {
-            0 => drop(row.done("3 frames moved, 0 pairs")),
+            0 => drop(row.done("3 frames moved, 0 pointers")),
             _ => drop(row.refused(number, 2)),
         }
     }
@@ -161,7 +161,7 @@ fn empty_extents_share_nothing() {
         frames: "2020 0 7000\n2020 0 7000\n1020 0 7000\n2020 0 7008\n2020 0 7018\n".to_string(),
         ..Restore::row_i()
     };
-    let image = row.done("5 frames moved, 1 pair");
+    let image = row.done("5 frames moved, 1 pointer");
     let rest = 0xEEEE_EEEE_EEEE_EEEE;
     assert_eq!(image, words(&[rest, 0x50000, 0x94E20]));
     let row = Restore {
@@ -170,7 +170,7 @@ fn empty_extents_share_nothing() {
         image: vec![],
         ..Restore::row_i()
     };
-    assert!(row.done("50 frames moved, 0 pairs").is_empty());
+    assert!(row.done("50 frames moved, 0 pointers").is_empty());
 }
 
 /// Frames without an extent are refused, by what is said of each by itself.
@@ -198,7 +198,7 @@ fn frames_without_an_extent() {
 #[test]
 fn twice() {
     let mut row = Restore::row_i();
-    row.image = row.done("1 frame moved, 2 pairs");
+    row.image = row.done("1 frame moved, 2 pointers");
     row.refused(21, 0);
     assert_eq!(row.section, row_h());
 }

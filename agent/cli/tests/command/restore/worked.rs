@@ -9,7 +9,7 @@ const REST: u64 = 0xEEEE_EEEE_EEEE_EEEE;
 
 #[test]
 fn row_i() {
-    let image = Restore::row_i().done("1 frame moved, 2 pairs");
+    let image = Restore::row_i().done("1 frame moved, 2 pointers");
     assert_eq!(image, words(&[REST, 0x90000, 0x94E20]));
 }
 
@@ -19,7 +19,7 @@ fn row_j_the_pairs_exchanged() {
         section: of_pairs(24, &[[rsp(8), rsp(16)], [rsp(8), rsp(8)]]),
         ..Restore::row_i()
     };
-    let image = row.done("1 frame moved, 2 pairs");
+    let image = row.done("1 frame moved, 2 pointers");
     assert_eq!(image, words(&[REST, 0x90000, 0x94E20]));
 }
 
@@ -29,7 +29,7 @@ fn row_k_a_derived_pointer_below_its_base() {
         image: words(&[REST, 0x50000, 0x4B1E0]),
         ..Restore::row_i()
     };
-    let image = row.done("1 frame moved, 2 pairs");
+    let image = row.done("1 frame moved, 2 pointers");
     assert_eq!(image, words(&[REST, 0x90000, 0x8B1E0]));
 }
 
@@ -40,7 +40,7 @@ fn row_l_below_zero() {
         moves: "50000 10".to_string(),
         ..Restore::row_i()
     };
-    let image = row.done("1 frame moved, 2 pairs");
+    let image = row.done("1 frame moved, 2 pointers");
     assert_eq!(image, words(&[REST, 0x10, 0xFFFF_FFFF_FFFF_FFF0]));
 }
 
@@ -84,11 +84,13 @@ fn also_256_pairs_and_257_and_none() {
         };
         match pairs {
             256 => {
-                let image = row.done("1 frame moved, 256 pairs");
+                let image = row.done("1 frame moved, 256 pointers");
                 assert_eq!(image, words(&[REST, 0x90000, 0x54E20]));
             }
-            257 => assert!(row.refused(17, 0).starts_with("frames:1: over 256 pairs; ")),
-            _ => assert_eq!(row.done("1 frame moved, 0 pairs"), row.image),
+            257 => assert!(row
+                .refused(17, 0)
+                .starts_with("frames:1: over 256 pointers; ")),
+            _ => assert_eq!(row.done("1 frame moved, 0 pointers"), row.image),
         }
     }
 }
@@ -113,7 +115,7 @@ fn the_samples() {
         &text("i.frames"),
         "--in-place",
     ]);
-    ran.done("i.image: 1 frame moved, 2 pairs\n");
+    ran.done("i.image: 1 frame moved, 2 pointers\n");
     assert_eq!(folder.get("i.image"), words(&[0, 0x90000, 0x94E20]));
     assert_eq!(
         fs::read(sample("i.image")).unwrap(),
