@@ -281,7 +281,7 @@ fn another_version_cannot_be_linked_in_c() {
 const AROUND_RUST: [&str; 2] = [
     "fn restore(section: Vec<u8>, mut image: Vec<u8>, first: u64, old_starts: Vec<u64>, new_starts: Vec<u64>,
          frame: Frame, frames: Vec<Frame>) -> Result<usize, Box<dyn std::error::Error>> {",
-    "    Ok(bytes.len() + listing.len() + pairs)
+    "    Ok(bytes.len() + listing.len() + pointers)
      }
      fn main() {
          let answer = restore(vec![], vec![], 0, vec![], vec![], Frame::new(0, 0, 0), vec![]);

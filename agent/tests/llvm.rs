@@ -101,8 +101,15 @@ fn every_section_has_the_index_that_llvm_prints() {
 /// them where all their slots are addressed by the frame pointer.
 fn planned(target: &str, beginning: &str) -> Seen {
     let mut all = Seen::default();
-    let sections = sections::single().filter(|built| built.target == target && built.name.starts_with(beginning));
-    for Built { name, bytes, printed, .. } in sections {
+    let sections = sections::single()
+        .filter(|built| built.target == target && built.name.starts_with(beginning));
+    for Built {
+        name,
+        bytes,
+        printed,
+        ..
+    } in sections
+    {
         let printed = readobj::parse(printed).unwrap();
         let target = Target::named(target);
         let seen = planned::compare(bytes, &printed, target);
@@ -110,7 +117,11 @@ fn planned(target: &str, beginning: &str) -> Seen {
         let (changed, text) = planned::by_frame_pointer(bytes, printed, target);
         let again = planned::compare(&changed, &text, target);
         let again = again.unwrap_or_else(|fault| panic!("{name}, by the frame pointer: {fault}"));
-        assert_eq!(changed != *bytes, seen.pointers > 0, "{name}: whether a slot is addressed by the stack pointer");
+        assert_eq!(
+            changed != *bytes,
+            seen.pointers > 0,
+            "{name}: whether a slot is addressed by the stack pointer"
+        );
         assert_eq!(again, seen, "{name}, by the frame pointer");
         all.moved += seen.moved;
         all.pointers += seen.pointers;
@@ -145,8 +156,16 @@ fn vectors_of_pointers_are_moved_pointer_by_pointer() {
         let each = LEVELS.len();
         assert_eq!(seen.moved, 5 * each, "{target}: {seen:?}");
         assert_eq!(seen.most, 256, "{target}: {seen:?}");
-        assert_eq!(seen.pointers, (5 + 3 + 8 + 256 + 4) * each, "{target}: {seen:?}");
-        assert_eq!(seen.refused, [(16, each), (17, each), (18, each)].into(), "{target}: {seen:?}");
+        assert_eq!(
+            seen.pointers,
+            (5 + 3 + 8 + 256 + 4) * each,
+            "{target}: {seen:?}"
+        );
+        assert_eq!(
+            seen.refused,
+            [(16, each), (17, each), (18, each)].into(),
+            "{target}: {seen:?}"
+        );
     }
 }
 

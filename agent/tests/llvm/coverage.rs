@@ -134,9 +134,18 @@ fn shapes_of_locations(locations: &[&Location]) -> Vec<Shape> {
         ),
         ("a location of size 4", any(|location| location.size == 4)),
         ("a location of size 16", any(|location| location.size == 16)),
-        ("a slot of three pointers", any(|location| location.kind == 3 && location.size == 24)),
-        ("a slot of 256 pointers", any(|location| location.kind == 3 && location.size == 2048)),
-        ("a slot of 257 pointers", any(|location| location.kind == 3 && location.size == 2056)),
+        (
+            "a slot of three pointers",
+            any(|location| location.kind == 3 && location.size == 24),
+        ),
+        (
+            "a slot of 256 pointers",
+            any(|location| location.kind == 3 && location.size == 2048),
+        ),
+        (
+            "a slot of 257 pointers",
+            any(|location| location.kind == 3 && location.size == 2056),
+        ),
     ]
 }
 

@@ -18,8 +18,18 @@ pub struct Target {
 impl Target {
     pub fn named(name: &str) -> Target {
         match name {
-            "x86_64" => Target { machine: Machine::Amd64, frame_pointer: 6, stack_pointer: 7, below_end: 8 },
-            "aarch64" => Target { machine: Machine::Aarch64, frame_pointer: 29, stack_pointer: 31, below_end: 16 },
+            "x86_64" => Target {
+                machine: Machine::Amd64,
+                frame_pointer: 6,
+                stack_pointer: 7,
+                below_end: 8,
+            },
+            "aarch64" => Target {
+                machine: Machine::Aarch64,
+                frame_pointer: 29,
+                stack_pointer: 31,
+                below_end: 16,
+            },
             _ => panic!("no target {name}"),
         }
     }
@@ -65,7 +75,11 @@ const BYTES: u16 = 8 * 256;
 
 /// How long a frame with a stack size is made.
 fn made_length(stack_size: u64) -> u64 {
-    if stack_size == UNKNOWN { 4096 } else { stack_size }
+    if stack_size == UNKNOWN {
+        4096
+    } else {
+        stack_size
+    }
 }
 
 /// How far the frame pointer of a made frame is above its stack pointer.
@@ -75,9 +89,17 @@ fn above(target: Target, stack_size: u64) -> u64 {
 
 impl Made {
     fn new(target: Target, address: u64, stack_size: u64) -> Made {
-        let image = (0..made_length(stack_size) + 2 * BEYOND).map(|at| (at * 37 + 11) as u8).collect();
+        let image = (0..made_length(stack_size) + 2 * BEYOND)
+            .map(|at| (at * 37 + 11) as u8)
+            .collect();
         let frame_pointer = STACK + above(target, stack_size);
-        Made { address, frame_pointer, stack_pointer: STACK, first: STACK - BEYOND, image }
+        Made {
+            address,
+            frame_pointer,
+            stack_pointer: STACK,
+            first: STACK - BEYOND,
+            image,
+        }
     }
 
     fn set(&mut self, address: u64, word: u64) {
@@ -88,13 +110,22 @@ impl Made {
     /// The addresses of all pointers of a location, where it is one of some.
     fn slots(&self, target: Target, location: &Location) -> Option<Vec<u64>> {
         let from = match location.value {
-            Value::Indirect(register, offset) if register == target.stack_pointer => (self.stack_pointer, offset),
-            Value::Indirect(register, offset) if register == target.frame_pointer => (self.frame_pointer, offset),
+            Value::Indirect(register, offset) if register == target.stack_pointer => {
+                (self.stack_pointer, offset)
+            }
+            Value::Indirect(register, offset) if register == target.frame_pointer => {
+                (self.frame_pointer, offset)
+            }
             _ => return None,
         };
         let sized = location.size.is_multiple_of(8) && (8..=BYTES).contains(&location.size);
         let address = from.0.wrapping_add_signed(from.1.into());
-        sized.then(|| (address..).step_by(8).take(usize::from(location.size) / 8).collect())
+        sized.then(|| {
+            (address..)
+                .step_by(8)
+                .take(usize::from(location.size) / 8)
+                .collect()
+        })
     }
 }
 
@@ -109,7 +140,12 @@ fn pairs(record: &Record) -> Option<Vec<[&Location; 2]>> {
     let deopt = count.collect::<Option<Vec<usize>>>()?[2];
     let pairs = record.locations.get(3 + deopt..)?;
     let is_statepoint = pairs.len().is_multiple_of(2) && record.live_outs.is_empty();
-    is_statepoint.then(|| pairs.chunks_exact(2).map(|pair| [&pair[0], &pair[1]]).collect())
+    is_statepoint.then(|| {
+        pairs
+            .chunks_exact(2)
+            .map(|pair| [&pair[0], &pair[1]])
+            .collect()
+    })
 }
 
 fn is_null(location: &Location) -> bool {
@@ -136,9 +172,15 @@ fn expected(target: Target, made: &Made, stack_size: u64, pairs: &[[&Location; 2
             _ if is_null(base) && is_null(derived) => nulls += 1,
             [Some(bases), Some(deriveds)] if bases.len() == deriveds.len() => {
                 let mut slots = bases.iter().chain(&deriveds);
-                let inside = slots.all(|slot| (made.stack_pointer..end).contains(slot) && end - slot >= 8);
+                let inside =
+                    slots.all(|slot| (made.stack_pointer..end).contains(slot) && end - slot >= 8);
                 outside = outside.or((!inside).then_some(number as u64));
-                pointers.extend(bases.into_iter().zip(deriveds).map(|(base, derived)| [base, derived]));
+                pointers.extend(
+                    bases
+                        .into_iter()
+                        .zip(deriveds)
+                        .map(|(base, derived)| [base, derived]),
+                );
             }
             _ => return Expected::Refused(18, number as u64),
         }
@@ -163,8 +205,14 @@ fn fill(made: &mut Made, pointers: &[[u64; 2]]) -> (Vec<u64>, Vec<u64>, Vec<u8>)
     for (base, number) in &objects {
         made.set(*base, OLD + APART * number);
     }
-    let mut after = Made { image: Vec::new(), ..*made };
-    let mut content = objects.iter().map(|(base, number)| (*base, OLD + APART * number)).collect::<BTreeMap<_, _>>();
+    let mut after = Made {
+        image: Vec::new(),
+        ..*made
+    };
+    let mut content = objects
+        .iter()
+        .map(|(base, number)| (*base, OLD + APART * number))
+        .collect::<BTreeMap<_, _>>();
     for (place, [base, derived]) in pointers.iter().enumerate() {
         let inside = OLD + APART * objects[base] + 8 * (place as u64 + 1);
         let old = *content.entry(*derived).or_insert(inside);
@@ -176,8 +224,12 @@ fn fill(made: &mut Made, pointers: &[[u64; 2]]) -> (Vec<u64>, Vec<u64>, Vec<u8>)
         let distance = (NEW + CLOSER * number).wrapping_sub(OLD + APART * number);
         after.set(*derived, content[derived].wrapping_add(distance));
     }
-    let old = (0..objects.len() as u64).map(|number| OLD + APART * number).collect();
-    let new = (0..objects.len() as u64).map(|number| NEW + CLOSER * number).collect();
+    let old = (0..objects.len() as u64)
+        .map(|number| OLD + APART * number)
+        .collect();
+    let new = (0..objects.len() as u64)
+        .map(|number| NEW + CLOSER * number)
+        .collect();
     (old, new, after.image)
 }
 
@@ -185,11 +237,15 @@ fn fill(made: &mut Made, pointers: &[[u64; 2]]) -> (Vec<u64>, Vec<u64>, Vec<u8>)
 /// in frames as they are made here. LLVM 14 takes the stack pointer for statepoints wherever it can.
 pub fn by_frame_pointer(bytes: &[u8], mut printed: Printed, target: Target) -> (Vec<u8>, Printed) {
     let mut bytes = bytes.to_vec();
-    let sizes: Vec<u64> = owners(&printed).map(|(function, _)| printed.functions[function].stack_size).collect();
+    let sizes: Vec<u64> = owners(&printed)
+        .map(|(function, _)| printed.functions[function].stack_size)
+        .collect();
     let mut first = 16 + 24 * printed.functions.len() + 8 * printed.constants.len();
     for (record, stack_size) in printed.records.iter_mut().zip(sizes) {
         for (number, location) in record.locations.iter_mut().enumerate() {
-            let Value::Indirect(register, offset) = location.value else { continue };
+            let Value::Indirect(register, offset) = location.value else {
+                continue;
+            };
             // Functions that call nothing have no frame at all.
             if register == target.stack_pointer && stack_size >= target.below_end {
                 let offset = offset - above(target, stack_size) as i32;
@@ -246,10 +302,17 @@ fn one(
         Expected::Moved(pointers, nulls) => {
             same("the count", proved, Ok(pointers.len() as u64 + nulls))?;
             same("the image after", made.image == after, true)?;
-            same("the image changed", made.image != before, !pointers.is_empty())?;
+            same(
+                "the image changed",
+                made.image != before,
+                !pointers.is_empty(),
+            )?;
             seen.moved += 1;
             seen.pointers += pointers.len();
-            let sizes = pairs.iter().filter(|[base, _]| !is_null(base)).map(|[base, _]| u64::from(base.size) / 8);
+            let sizes = pairs
+                .iter()
+                .filter(|[base, _]| !is_null(base))
+                .map(|[base, _]| u64::from(base.size) / 8);
             seen.most = seen.most.max(sizes.max().unwrap_or(0));
         }
     }
@@ -262,16 +325,35 @@ mod library {
 
     type Answer = Result<u64, (u64, u64)>;
 
-    pub fn proved(_machine: Machine, bytes: &[u8], made: &mut Made, old: &[u64], new: &[u64]) -> Answer {
+    pub fn proved(
+        _machine: Machine,
+        bytes: &[u8],
+        made: &mut Made,
+        old: &[u64],
+        new: &[u64],
+    ) -> Answer {
         let frame = treskibben::Frame::new(made.address, made.frame_pointer, made.stack_pointer);
         let table = treskibben::MoveTable::new(old, new);
         let moved = treskibben::relocate(bytes, &mut made.image, made.first, table, frame);
-        moved.map(|count| count as u64).map_err(|refusal| (refusal.number(), refusal.place()))
+        moved
+            .map(|count| count as u64)
+            .map_err(|refusal| (refusal.number(), refusal.place()))
     }
 
-    pub fn second(_machine: Machine, bytes: &[u8], made: &mut Made, old: &[u64], new: &[u64]) -> Answer {
+    pub fn second(
+        _machine: Machine,
+        bytes: &[u8],
+        made: &mut Made,
+        old: &[u64],
+        new: &[u64],
+    ) -> Answer {
         let (address, rbp, rsp) = (made.address, made.frame_pointer, made.stack_pointer);
-        let frame = reference::Frame { address, rbp, rsp, function: 0 };
+        let frame = reference::Frame {
+            address,
+            rbp,
+            rsp,
+            function: 0,
+        };
         let moved = reference::relocate(bytes, &mut made.image, made.first, old, new, frame);
         moved.map_err(|refusal| (refusal.number, refusal.place))
     }
