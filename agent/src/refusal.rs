@@ -47,6 +47,9 @@ const CAUSES: [&str; 29] = [
     "index isn't exactly the entries that the section yields",
 ];
 
+/// The cause of a machine's refusal, number 33. The safe calls know two machines alone, and never give it.
+const MACHINE_CAUSES: [&str; 1] = ["machine not known"];
+
 /// The causes of a flat section's refusals; the first is number 36.
 const FLAT_CAUSES: [&str; 6] = [
     "flat section under 32 or over 16,777,216 bytes",
@@ -85,6 +88,7 @@ impl Refusal {
     /// The cause in words.
     pub fn cause(&self) -> &'static str {
         cause_from(&CAUSES, 1, self.number)
+            .or_else(|| cause_from(&MACHINE_CAUSES, 33, self.number))
             .or_else(|| cause_from(&FLAT_CAUSES, 36, self.number))
             .unwrap_or("a cause that this version has no words for")
     }
@@ -110,7 +114,9 @@ mod tests {
 
     #[test]
     fn each_number_has_words_of_its_own() {
+        let machine = (33..).zip(MACHINE_CAUSES);
         let numbers = (1..).zip(CAUSES).chain((36..).zip(FLAT_CAUSES));
+        let numbers = numbers.chain(machine);
         let mut met: Vec<&str> = vec![];
         for (number, cause) in numbers {
             assert_eq!(Refusal::new(number, 0).cause(), cause);
@@ -136,6 +142,7 @@ mod tests {
             (27, "question by address"),
             (28, "version 1 listing"),
             (29, "index isn't exactly"),
+            (33, "machine not known"),
             (36, "under 32"),
             (37, "version not 2"),
             (38, "aligned place"),
