@@ -24,9 +24,6 @@ use planned::{Seen, Target};
 use reference::section::{self, Section};
 use sections::{Built, LEVELS, TARGETS};
 
-/// The targets whose statepoints are moved.
-const PLANNED: &[&str] = &["x86_64"];
-
 /// The section as the second implementation reads it; it must accept it.
 fn read(name: &str, bytes: &[u8]) -> Section {
     section::read(bytes)
@@ -136,7 +133,7 @@ fn planned(target: &str, beginning: &str) -> Seen {
 /// In a hand-made frame each statepoint is moved, or refused, as the printed text says.
 #[test]
 fn every_statepoint_is_moved_as_llvm_prints_it() {
-    for target in PLANNED {
+    for target in TARGETS {
         let seen = planned(target, "");
         assert!(seen.moved > 60, "{target}: {seen:?}");
         // The address of an alloca among the values before the pairs is no pair: nothing is refused but some vectors of
@@ -151,7 +148,7 @@ fn every_statepoint_is_moved_as_llvm_prints_it() {
 /// pointers in two pairs, and one with 257 in one.
 #[test]
 fn vectors_of_pointers_are_moved_pointer_by_pointer() {
-    for target in PLANNED {
+    for target in TARGETS {
         let seen = planned(target, "vectors.");
         let each = LEVELS.len();
         assert_eq!(seen.moved, 5 * each, "{target}: {seen:?}");

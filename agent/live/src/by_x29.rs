@@ -4,7 +4,6 @@
 //! a frame pointer, x29 is a fixed distance above sp, which its first instructions tell. So each slot can
 //! as well be addressed by x29, and a move of such maps has to do the same.
 
-use crate::frames::{frame_pointer, stack_pointer};
 use crate::library::{self, Machine};
 use crate::memory::Memory;
 use crate::prologue;
@@ -39,12 +38,12 @@ fn change(map: &mut [u8], memory: &dyn Memory) {
     for record in &section.records {
         let above = above_sp(&section, record.function, memory);
         for (number, location) in record.locations.iter().enumerate() {
-            let by_sp = location.register == stack_pointer(Machine::Aarch64);
+            let by_sp = location.register == Machine::Aarch64.stack_pointer();
             if location.kind != INDIRECT || !by_sp {
                 continue;
             }
             let at = record.first + LOCATIONS + LOCATION * number;
-            let register = frame_pointer(Machine::Aarch64).to_le_bytes();
+            let register = Machine::Aarch64.frame_pointer().to_le_bytes();
             map[at + REGISTER..at + REGISTER + 2].copy_from_slice(&register);
             let offset = (location.offset - above).to_le_bytes();
             map[at + OFFSET..at + OFFSET + 4].copy_from_slice(&offset);

@@ -10,22 +10,6 @@ use crate::maps::{Maps, Place, Site};
 use crate::memory::{word, Memory};
 use crate::prologue::{self, Saved};
 
-/// The DWARF number of a machine's frame pointer.
-pub fn frame_pointer(machine: Machine) -> u16 {
-    match machine {
-        Machine::Amd64 => 6,
-        Machine::Aarch64 => 29,
-    }
-}
-
-/// The DWARF number of a machine's stack pointer.
-pub fn stack_pointer(machine: Machine) -> u16 {
-    match machine {
-        Machine::Amd64 => 7,
-        Machine::Aarch64 => 31,
-    }
-}
-
 /// A frame that was found, with what the maps say of it.
 #[derive(Clone, Debug)]
 pub struct Stopped {
@@ -70,9 +54,9 @@ impl Stopped {
         let Place::Memory(register, offset, count) = place else {
             return Vec::new();
         };
-        let from = if register == frame_pointer(self.machine) {
+        let from = if register == self.machine.frame_pointer() {
             self.frame.frame_pointer
-        } else if register == stack_pointer(self.machine) {
+        } else if register == self.machine.stack_pointer() {
             self.frame.stack_pointer
         } else {
             return Vec::new();
@@ -83,7 +67,7 @@ impl Stopped {
 
     /// Whether a slot is addressed by the frame pointer.
     pub fn uses_frame_pointer(&self) -> bool {
-        let own = frame_pointer(self.machine);
+        let own = self.machine.frame_pointer();
         let mut places = self.site.pairs.iter().flatten();
         places.any(|place| matches!(place, Place::Memory(register, ..) if *register == own))
     }

@@ -8,60 +8,10 @@ use crate::image::Image;
 use treskibben::{Frames, MoveTable};
 
 /// The machine that a program runs on.
-#[derive(Clone, Copy, Debug, PartialEq, Eq)]
-pub enum Machine {
-    /// x86-64.
-    Amd64,
-    /// AArch64.
-    Aarch64,
-}
+pub use treskibben::Machine;
 
 /// A stopped frame. The maps are of version 3, which reads no function of it.
-#[derive(Clone, Copy, Debug, PartialEq, Eq)]
-pub struct Frame {
-    /// Its record's address.
-    pub address: u64,
-    /// The content of the machine's frame pointer.
-    pub frame_pointer: u64,
-    /// The content of the machine's stack pointer.
-    pub stack_pointer: u64,
-}
-
-impl Frame {
-    /// The frame of these.
-    pub fn new(address: u64, frame_pointer: u64, stack_pointer: u64) -> Frame {
-        Frame {
-            address,
-            frame_pointer,
-            stack_pointer,
-        }
-    }
-
-    fn plain(self) -> treskibben::Frame {
-        treskibben::Frame::new(self.address, self.frame_pointer, self.stack_pointer)
-    }
-}
-
-/// Until the library knows machines: the map with the registers of AMD64 and AArch64 exchanged.
-fn of_amd64(map: &[u8], machine: Machine) -> Vec<u8> {
-    let mut map = map.to_vec();
-    if machine == Machine::Aarch64 {
-        let section = reference::read(&map).unwrap();
-        for record in &section.records {
-            for number in 0..record.locations.len() {
-                let at = record.first + 16 + 12 * number + 4;
-                map[at] = match map[at] {
-                    29 => 6,
-                    31 => 7,
-                    6 => 29,
-                    7 => 31,
-                    other => other,
-                };
-            }
-        }
-    }
-    map
-}
+pub use treskibben::Frame;
 
 /// A refusal: its number and its place.
 pub type Refusal = (u64, u64);
@@ -137,8 +87,7 @@ pub fn relocate(
 ) -> Result<u64, Refusal> {
     let Image { first, bytes } = image;
     let table = MoveTable::new(&table.old, &table.new);
-    let map = &of_amd64(map, machine);
-    let moved = treskibben::relocate(map, bytes, *first, table, frame.plain());
+    let moved = treskibben::relocate(map, bytes, *first, table, machine, frame);
     let pointers = moved.map_err(plain)?;
     Ok(pointers as u64)
 }
@@ -153,9 +102,7 @@ pub fn thread(
 ) -> Result<u64, Refusal> {
     let Image { first, bytes } = image;
     let table = MoveTable::new(&table.old, &table.new);
-    let map = &of_amd64(map, machine);
-    let frames: Vec<treskibben::Frame> = frames.iter().map(|frame| frame.plain()).collect();
-    let moved = treskibben::relocate_thread(map, bytes, *first, table, &frames);
+    let moved = treskibben::relocate_thread(map, bytes, *first, table, machine, frames);
     let pointers = moved.map_err(|refusal| plain(refusal.into()))?;
     Ok(pointers as u64)
 }
@@ -169,10 +116,10 @@ pub fn second_thread(
     frames: &[Frame],
 ) -> Result<u64, Refusal> {
     let Image { first, bytes } = image;
-    let map = &of_amd64(map, machine);
-    let frames: Vec<treskibben::Frame> = frames.iter().map(|frame| frame.plain()).collect();
-    let list = Frames::new(&frames).numbers();
-    reference::thread(map, bytes, *first, &table.old, &table.new, list).map_err(second_plain)
+    let list = Frames::new(frames).numbers();
+    let Table { old, new } = table;
+    let moved = reference::thread(map, bytes, *first, old, new, machine.number(), list);
+    moved.map_err(second_plain)
 }
 
 fn plain(refusal: treskibben::Refusal) -> Refusal {

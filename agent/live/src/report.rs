@@ -1,6 +1,6 @@
 //! A live restore, told to people.
 
-use live::frames::{frame_pointer, Stopped};
+use live::frames::Stopped;
 use live::guest::DIED;
 use live::image::Image;
 use live::library::Machine;
@@ -224,7 +224,7 @@ fn place(machine: Machine, place: Place) -> String {
     let [by_frame_pointer, by_stack_pointer] = names(machine);
     match place {
         Place::Constant(constant) => constant.to_string(),
-        Place::Memory(register, offset, _) if register == frame_pointer(machine) => {
+        Place::Memory(register, offset, _) if register == machine.frame_pointer() => {
             format!("{by_frame_pointer}{offset:+}")
         }
         Place::Memory(_, offset, _) => format!("{by_stack_pointer}{offset:+}"),

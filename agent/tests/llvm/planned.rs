@@ -4,6 +4,7 @@
 use crate::compare::{length, owners, same};
 use crate::readobj::{Location, Printed, Record, Value};
 use std::collections::BTreeMap;
+use treskibben::Machine;
 
 /// What a target's frames are like: the DWARF numbers of the frame and the stack pointer, and how far below the end of
 /// a frame the frame pointer points, where it is one.
@@ -288,9 +289,9 @@ fn one(
     };
     let (old, new, after) = fill(&mut made, pointers);
     let before = made.image.clone();
-    let second = library::second(target.machine, bytes, &mut made, &old, &new);
+    let second = library::second(target, bytes, &mut made, &old, &new);
     let second_image = std::mem::replace(&mut made.image, before.clone());
-    let proved = library::proved(target.machine, bytes, &mut made, &old, &new);
+    let proved = library::proved(target, bytes, &mut made, &old, &new);
     same("the second answer", second, proved)?;
     same("the second image", second_image == made.image, true)?;
     match expected {
@@ -321,47 +322,40 @@ fn one(
 
 /// The two moves that are compared.
 mod library {
-    use super::{Machine, Made};
+    use super::{Made, Target};
 
     type Answer = Result<u64, (u64, u64)>;
 
     pub fn proved(
-        _machine: Machine,
+        target: Target,
         bytes: &[u8],
         made: &mut Made,
         old: &[u64],
         new: &[u64],
     ) -> Answer {
         let frame = treskibben::Frame::new(made.address, made.frame_pointer, made.stack_pointer);
+        let (image, first, machine) = (&mut made.image, made.first, target.machine);
         let table = treskibben::MoveTable::new(old, new);
-        let moved = treskibben::relocate(bytes, &mut made.image, made.first, table, frame);
-        moved
-            .map(|count| count as u64)
-            .map_err(|refusal| (refusal.number(), refusal.place()))
+        let moved = treskibben::relocate(bytes, image, first, table, machine, frame);
+        let moved = moved.map(|count| count as u64);
+        moved.map_err(|refusal| (refusal.number(), refusal.place()))
     }
 
     pub fn second(
-        _machine: Machine,
+        target: Target,
         bytes: &[u8],
         made: &mut Made,
         old: &[u64],
         new: &[u64],
     ) -> Answer {
-        let (address, rbp, rsp) = (made.address, made.frame_pointer, made.stack_pointer);
         let frame = reference::Frame {
-            address,
-            rbp,
-            rsp,
+            address: made.address,
+            frame_pointer: made.frame_pointer,
+            stack_pointer: made.stack_pointer,
             function: 0,
         };
-        let moved = reference::relocate(bytes, &mut made.image, made.first, old, new, frame);
+        let (image, first, machine) = (&mut made.image, made.first, target.machine.number());
+        let moved = reference::relocate(bytes, image, first, old, new, machine, frame);
         moved.map_err(|refusal| (refusal.number, refusal.place))
     }
-}
-
-/// The machine of a target.
-#[derive(Clone, Copy)]
-pub enum Machine {
-    Amd64,
-    Aarch64,
 }
