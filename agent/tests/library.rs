@@ -16,8 +16,8 @@ const LIBRARY: &str = concat!(
     "/../target/staticlib/libtreskibben.a"
 );
 
-const NAME: &[u8] = b"treskibben_version_1";
-const OTHER_NAME: &[u8] = b"treskibben_version_2";
+const NAME: &[u8] = b"treskibben_version_2";
+const OTHER_NAME: &[u8] = b"treskibben_version_3";
 
 /// A program that asks the library two things.
 const MAIN: &str = r#"fn main() {
@@ -25,7 +25,7 @@ const MAIN: &str = r#"fn main() {
 }
 "#;
 
-const ANSWER: &str = "version 1: Err(1)\n";
+const ANSWER: &str = "version 2: Err(1)\n";
 
 /// A fresh folder for a test.
 fn folder(name: &str) -> PathBuf {
@@ -118,10 +118,10 @@ fn a_relative_folder_counts_from_where_cargo_is_called() {
     let said = text(&ran.stderr);
     assert!(!ran.status.success(), "{said}");
     let path = there.join("lib/libtreskibben.a");
-    let words = format!("{} is of version 2,", path.display());
+    let words = format!("{} is of version 3,", path.display());
     assert!(said.contains(&words), "{said}");
     assert!(
-        said.contains("and this crate is written for version 1."),
+        said.contains("and this crate is written for version 2."),
         "{said}"
     );
     let ran = cargo_run(&here, &manifest, &target, Some("../here/lib"));
@@ -240,7 +240,7 @@ fn another_version_cannot_be_linked() {
     let other = link(NAME, OTHER_NAME);
     let said = text(&other.stderr);
     assert!(!other.status.success(), "{said}");
-    assert!(said.contains("treskibben_version_1"), "{said}");
+    assert!(said.contains("treskibben_version_2"), "{said}");
 }
 
 /// In C a program with TRESKIBBEN_REQUIRE_VERSION() is refused by the linker, and only such a one.
@@ -274,14 +274,14 @@ fn another_version_cannot_be_linked_in_c() {
     assert!(compile("", "libtreskibben.a").status.success());
     let other = compile("TRESKIBBEN_REQUIRE_VERSION();", "libtreskibben.a");
     assert!(!other.status.success());
-    assert!(text(&other.stderr).contains("treskibben_version_1"));
+    assert!(text(&other.stderr).contains("treskibben_version_2"));
 }
 
 /// What the README's lines of Rust leave open.
 const AROUND_RUST: [&str; 2] = [
     "fn restore(section: Vec<u8>, mut image: Vec<u8>, first: u64, old_starts: Vec<u64>, new_starts: Vec<u64>,
          frame: Frame, frames: Vec<Frame>) -> Result<usize, Box<dyn std::error::Error>> {",
-    "    Ok(bytes.len() + listing.len() + pairs)
+    "    Ok(bytes.len() + listing.len() + pointers)
      }
      fn main() {
          let answer = restore(vec![], vec![], 0, vec![], vec![], Frame::new(0, 0, 0), vec![]);

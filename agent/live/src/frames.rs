@@ -24,7 +24,7 @@ pub struct Stopped {
 impl Stopped {
     /// The byte after the frame's extent, where the caller's return address stands.
     pub fn end(&self) -> u64 {
-        self.frame.rsp + self.site.stack_size
+        self.frame.stack_pointer + self.site.stack_size
     }
 
     /// The addresses of a pair's slots, base first; nothing where it has none.
@@ -40,8 +40,8 @@ impl Stopped {
 
     fn slot(&self, place: Place) -> Option<u64> {
         let (from, offset) = match place {
-            Place::Memory(RBP, offset) => (self.frame.rbp, offset),
-            Place::Memory(RSP, offset) => (self.frame.rsp, offset),
+            Place::Memory(RBP, offset) => (self.frame.frame_pointer, offset),
+            Place::Memory(RSP, offset) => (self.frame.stack_pointer, offset),
             _ => return None,
         };
         Some(from.wrapping_add_signed(offset.into()))
@@ -83,7 +83,7 @@ pub unsafe fn walk(
     let mut frames = Vec::new();
     let mut frame = deepest;
     if !chained {
-        frame.rbp = 0;
+        frame.frame_pointer = 0;
     }
     while let Some(site) = maps.find(frame.address) {
         let stopped = Stopped { site, frame };
@@ -112,9 +112,13 @@ unsafe fn caller(stopped: &Stopped, chained: bool) -> Frame {
     let end = stopped.end();
     let mut rbp = 0;
     if chained {
-        assert_eq!(stopped.frame.rbp + 8, end, "RBP and the stack size");
+        assert_eq!(
+            stopped.frame.frame_pointer + 8,
+            end,
+            "RBP and the stack size"
+        );
         // SAFETY: the word is the last one of the frame.
-        rbp = unsafe { word(stopped.frame.rbp) };
+        rbp = unsafe { word(stopped.frame.frame_pointer) };
     }
     // SAFETY: the word is the one after the frame.
     let address = unsafe { word(end) };

@@ -5,7 +5,7 @@
 
 use crate::heap::Table;
 use crate::image::Image;
-use treskibben::{Frames, MoveTable};
+use treskibben::{Frames, Machine, MoveTable};
 
 /// A stopped frame: its address, RBP and RSP. The maps are of version 3, which reads no function of it.
 pub use treskibben::Frame;
@@ -74,7 +74,10 @@ pub fn location(map: &[u8], record: u64, number: u64) -> Result<Location, Refusa
     })
 }
 
-/// The library's move of one frame: its number of pairs.
+/// The machine that this runs on.
+const MACHINE: Machine = Machine::Amd64;
+
+/// The library's move of one frame: its number of pointers.
 pub fn relocate(
     map: &[u8],
     image: &mut Image,
@@ -83,11 +86,11 @@ pub fn relocate(
 ) -> Result<u64, Refusal> {
     let Image { first, bytes } = image;
     let table = MoveTable::new(&table.old, &table.new);
-    let pairs = treskibben::relocate(map, bytes, *first, table, frame).map_err(plain)?;
-    Ok(pairs as u64)
+    let moved = treskibben::relocate(map, bytes, *first, table, MACHINE, frame);
+    Ok(moved.map_err(plain)? as u64)
 }
 
-/// The library's move of all frames of a list, or none: the sum of their pairs.
+/// The library's move of all frames of a list, or none: the sum of their pointers.
 pub fn thread(
     map: &[u8],
     image: &mut Image,
@@ -96,9 +99,9 @@ pub fn thread(
 ) -> Result<u64, Refusal> {
     let Image { first, bytes } = image;
     let table = MoveTable::new(&table.old, &table.new);
-    let moved = treskibben::relocate_thread(map, bytes, *first, table, frames);
-    let pairs = moved.map_err(|refusal| plain(refusal.into()))?;
-    Ok(pairs as u64)
+    let moved = treskibben::relocate_thread(map, bytes, *first, table, MACHINE, frames);
+    let pointers = moved.map_err(|refusal| plain(refusal.into()))?;
+    Ok(pointers as u64)
 }
 
 /// The second implementation's move of all frames of a list.
@@ -109,8 +112,9 @@ pub fn second_thread(
     frames: &[Frame],
 ) -> Result<u64, Refusal> {
     let Image { first, bytes } = image;
-    let list = Frames::new(frames).numbers();
-    reference::thread(map, bytes, *first, &table.old, &table.new, list).map_err(second_plain)
+    let (machine, list) = (MACHINE.number(), Frames::new(frames).numbers());
+    let (old, new) = (&table.old, &table.new);
+    reference::thread(map, bytes, *first, old, new, machine, list).map_err(second_plain)
 }
 
 fn plain(refusal: treskibben::Refusal) -> Refusal {

@@ -155,7 +155,7 @@ fn show_stop(stop: &Stop) {
         println!(
             "  frame {number}: {}, RSP {:#x}, size {}, {} pairs",
             function(stopped.site.id),
-            stopped.frame.rsp,
+            stopped.frame.stack_pointer,
             stopped.site.stack_size,
             stopped.site.pairs.len(),
         );

@@ -159,9 +159,13 @@ impl Running {
         // the program.
         let walked = unsafe { walk(&self.maps, deepest, chained, stop::entered(), self.top) };
         let frames = walked.map_err(Trouble::Lost)?;
-        let end = frames.iter().map(Stopped::end).max().unwrap_or(deepest.rsp);
+        let end = frames
+            .iter()
+            .map(Stopped::end)
+            .max()
+            .unwrap_or(deepest.stack_pointer);
         // SAFETY: all these bytes are of the frames that were found, which wait.
-        let before = unsafe { Image::take(deepest.rsp, end) };
+        let before = unsafe { Image::take(deepest.stack_pointer, end) };
         let objects = self.heap.objects().to_vec();
         let (new, table) = self.heap.copy();
         let mut after = before.clone();
