@@ -329,7 +329,7 @@ fn the_readmes_lines_of_c_compile() {
     let folder = folder("readme-c");
     let lines = readme::code("From C");
     let (include, body) = lines.split_first().unwrap();
-    assert_eq!(body.len(), 8);
+    assert_eq!(body.len(), 10);
     let program = [include, AROUND_C[0], &body.join("\n"), AROUND_C[1], ""].join("\n");
     fs::write(folder.join("yours.c"), program).unwrap();
     let mut cc = Command::new("cc");

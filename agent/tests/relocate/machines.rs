@@ -132,7 +132,7 @@ fn frame_pointer_and_stack_pointer() {
             let locations = &mut scene.section.records[0].locations[3..];
             for (nth, location) in locations.iter_mut().enumerate() {
                 location.register = of_frame;
-                location.offset = [0, 0, 0, 16][nth] - distance as u32;
+                location.offset = [0, 0, 0, 16u32][nth].wrapping_sub(distance as u32);
             }
             let outcome = moved(&scene);
             assert_eq!(
