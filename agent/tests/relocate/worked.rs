@@ -21,8 +21,8 @@ fn image(slots: [u64; 2]) -> Vec<u8> {
 /// Row I's frame. Version 3 doesn't read the function.
 const I: Frame = Frame {
     address: 0x1020,
-    rbp: 0,
-    rsp: 0x7000,
+    frame_pointer: 0,
+    stack_pointer: 0x7000,
     function: 77,
 };
 
@@ -46,6 +46,7 @@ fn with_frame(section: &[u8], slots: [u64; 2], new: u64, frames: Frame) -> Outco
         first: 0x7000,
         olds: &[0x50000],
         news: &[new],
+        machine: 0,
         frames,
     };
     call.compare()

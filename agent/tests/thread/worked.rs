@@ -37,6 +37,7 @@ fn moved_on(section: &[u8], frames: &[[u64; 4]]) -> Outcome {
         first: 0x7000,
         olds: &[0x50000],
         news: &[0x90000],
+        machine: 0,
         frames: &frames.concat()[..],
     };
     call.compare()
@@ -137,6 +138,7 @@ fn lists_that_make_no_frames() {
             first: 0x7000,
             olds: &[0x50000],
             news: &[0x90000],
+            machine: 0,
             frames: numbers,
         };
         let outcome = call.compare();
