@@ -14,6 +14,7 @@
 enum { REGISTER = 96, LOCATION = 12, REGISTER_1 = 74, LOCATION_1 = 8, SLOTS = 3 };
 
 #define FIRST UINT64_C(0x7000)
+#define ABOVE 16 /* how far the frame pointer is above the stack pointer */
 #define OLD UINT64_C(0x50000)
 #define NEW UINT64_C(0x90000)
 
@@ -70,7 +71,7 @@ static treskibben_answer call(int which, const struct row *row, const uint8_t *s
     treskibben_frame frame;
 
     frame.address = address;
-    frame.frame_pointer = FIRST;
+    frame.frame_pointer = FIRST + ABOVE;
     frame.stack_pointer = FIRST;
     frame.function = 0;
     if (which == FRAME) {
@@ -93,17 +94,25 @@ static void put_slots(uint8_t *image, uint64_t base)
     put(image + 16, base + 0x4e20);
 }
 
-/* The section with the row's registers: row H, or the same as version 1 has it. Gives its length. */
+/* The section with the row's registers: row H, or the same as version 1 has it. Slots are counted from a
+ * frame pointer by offsets that are less by so much as it is above. Gives the section's length. */
 static size_t build(uint8_t *section, const struct row *row, int older)
 {
+    static const int slots[4] = {8, 8, 8, 16};
     const size_t length = older ? sizeof row_h_1 : sizeof row_h;
     const size_t step = older ? LOCATION_1 : LOCATION;
     uint8_t *at = section + (older ? REGISTER_1 : REGISTER);
-    size_t i;
+    size_t i, byte;
 
     memcpy(section, older ? row_h_1 : row_h, length);
-    for (i = 0; i < 4; i++) {
-        at[step * i] = i == 3 ? row->last : row->reg;
+    for (i = 0; i < 4; i++, at += step) {
+        const uint8_t reg = i == 3 ? row->last : row->reg;
+        const uint32_t offset = (uint32_t)(slots[i] - (reg == 6 || reg == 29 ? ABOVE : 0));
+
+        at[0] = reg;
+        for (byte = 0; byte < 4; byte++) {
+            at[(older ? 2 : 4) + byte] = (uint8_t)(offset >> 8 * byte);
+        }
     }
     return length - (row->cut ? 1 : 0);
 }
