@@ -19,14 +19,17 @@ extern "C" {
  * The version of this interface: of the names, structs and numbers below. It is raised by one with
  * every change that a program written for the version before could not live with.
  *
- * treskibben_version answers the version of the library that is linked. treskibben_version_1 answers
- * the same, and only a library of version 1 has it: a program that calls it, as
+ * treskibben_version answers the version of the library that is linked. treskibben_version_2 answers
+ * the same, and only a library of version 2 has it: a program that calls it, as
  * TRESKIBBEN_REQUIRE_VERSION() does, can't be linked with another.
+ *
+ * Version 2 moves frames of two machines: the calls that move frames are told which, and a frame's fields
+ * are named for both. In version 1 all frames were of AMD64.
  */
-#define TRESKIBBEN_VERSION 1
+#define TRESKIBBEN_VERSION 2
 uint32_t treskibben_version(void);
-uint32_t treskibben_version_1(void);
-#define TRESKIBBEN_REQUIRE_VERSION() ((void)treskibben_version_1())
+uint32_t treskibben_version_2(void);
+#define TRESKIBBEN_REQUIRE_VERSION() ((void)treskibben_version_2())
 
 /*
  * What a call answers. The answers to questions begin with the same two fields.
@@ -329,26 +332,39 @@ treskibben_answer treskibben_to_section(const uint8_t *listing, size_t length, u
 /*
  * The move of one frame.
  *
+ * The machine that frames stopped on. It says which two registers slots are counted from, by their DWARF
+ * numbers. A section doesn't say its machine.
+ *
+ *   number                 machine            frame pointer   stack pointer
+ *   TRESKIBBEN_AMD64    0  AMD64 (x86-64)     RBP, 6          RSP, 7
+ *   TRESKIBBEN_AARCH64  1  AArch64 (arm64)    X29, 29         SP, 31
+ *
+ * Any other number is answered by 33.
+ */
+#define TRESKIBBEN_AMD64 UINT64_C(0)
+#define TRESKIBBEN_AARCH64 UINT64_C(1)
+
+/*
  * A frame of a stopped thread: where its record is, and what two registers hold.
  *
- * address:  for version 3 the address that its record has, which is the one that the call in it returns
- *           to; for version 1 the instruction offset of its record, which is that address less the
- *           function's.
- * rbp:      the content of RBP, DWARF register 6.
- * rsp:      the content of RSP, DWARF register 7, where the frame's part of the stack begins; the stack
- *           size of its function says how long it is.
- * function: for version 1 the number of its function; for version 3 it is not read.
+ * address:        for version 3 the address that its record has, which is the one that the call in it
+ *                 returns to; for version 1 the instruction offset of its record, which is that address
+ *                 less the function's.
+ * frame_pointer:  the content of the machine's frame pointer.
+ * stack_pointer:  the content of the machine's stack pointer, where the frame's part of the stack begins;
+ *                 the stack size of its function says how long it is.
+ * function:       for version 1 the number of its function; for version 3 it is not read.
  */
 typedef struct treskibben_frame {
     uint64_t address;
-    uint64_t rbp;
-    uint64_t rsp;
+    uint64_t frame_pointer;
+    uint64_t stack_pointer;
     uint64_t function;
 } treskibben_frame;
 
 /*
- * Moves the pointers of one frame. `value` is the number of pointers that its statepoint lists, null
- * pairs counting one each.
+ * Moves the pointers of one frame of the machine with this number. `value` is the number of pointers that
+ * its statepoint lists, null pairs counting one each.
  *
  * `image` is a copy of the stack, `image_length` bytes from the address `first` on. The objects that
  * have moved are in two lists, entry by entry: where each was, `old_count` numbers at `old_starts`,
@@ -378,6 +394,7 @@ typedef struct treskibben_frame {
  *
  *   number  when                                                     place
  *   1 to 9  the refusal that treskibben_check gives the section      as there
+ *   33      machine neither 0 nor 1                                  0
  *   13      image over 1,048,576 bytes, or first address + length    0
  *           over 2^64 - 1
  *   14      lists unequal, over 65,536 entries, old starts not       0
@@ -390,8 +407,9 @@ typedef struct treskibben_frame {
  *   16      stack size unknown (2^64 - 1), or the frame not inside   0
  *           the image
  *   18      pair of wrong form: not null, and not two locations of   the pair
- *           kind 3, register 6 or 7 and equal sizes of 8N, N from
- *           1 to 256 (of version 1, sizes of 0 or 8 each)
+ *           kind 3, a register of the machine's two and equal
+ *           sizes of 8N, N from 1 to 256 (of version 1, sizes of
+ *           0 or 8 each)
  *   17      over 256 pointers, null pairs counting one each          0
  *   19      a slot not wholly inside the frame; nothing wraps        the pair
  *   20      collision: two slots overlap without being equal, or     the pair
@@ -404,19 +422,19 @@ treskibben_answer treskibben_relocate(const uint8_t *section, size_t length, uin
                                       size_t image_length, uint64_t first,
                                       const uint64_t *old_starts, size_t old_count,
                                       const uint64_t *new_starts, size_t new_count,
-                                      treskibben_frame frame);
+                                      uint64_t machine, treskibben_frame frame);
 
 /*
- * Moves the pointers of a whole thread, all of its frames or none. `value` is the sum of the pointers
- * that their statepoints list, null pairs counting one each.
+ * Moves the pointers of a whole thread, all of its frames or none, which are of one machine. `value` is
+ * the sum of the pointers that their statepoints list, null pairs counting one each.
  *
  * The frames are `frames_length` numbers at `frames`, four to a frame: address (of version 1, offset),
- * RBP, RSP, function. An array of treskibben_frame is such a list, of four times as many numbers as it
+ * frame pointer, stack pointer, function. An array of treskibben_frame is such a list, of four times as many numbers as it
  * has frames. Positions in the list are counted from 0. Everything else is lent as to
  * treskibben_relocate, and the list as its two lists are.
  *
- * A frame's extent is its part of the stack: the bytes from RSP on, as many as the stack size of its
- * function. Where the call is accepted, the image is the one that treskibben_relocate leaves when it
+ * A frame's extent is its part of the stack: the bytes from the stack pointer on, as many as the stack
+ * size of its function. Where the call is accepted, the image is the one that treskibben_relocate leaves when it
  * moves the frames one by one, in the order of the list or in any other. On a refusal all of the image
  * is left untouched.
  *
@@ -424,7 +442,8 @@ treskibben_answer treskibben_relocate(const uint8_t *section, size_t length, uin
  *
  *   number  when                                                     place
  *   1 to 9  the refusal that treskibben_check gives the section      as there
- *   13, 14  as for treskibben_relocate                               0
+ *   33, 13, 14                                                       0
+ *           as for treskibben_relocate
  *   25      frames_length not a multiple of four, or over 16,384     0
  *           (4,096 frames)
  *   10, 15, 12, 16, 18, 17, 19 to 21                                 the position of the frame
@@ -443,7 +462,8 @@ treskibben_answer treskibben_thread(const uint8_t *section, size_t length, uint8
                                     size_t image_length, uint64_t first,
                                     const uint64_t *old_starts, size_t old_count,
                                     const uint64_t *new_starts, size_t new_count,
-                                    const uint64_t *frames, size_t frames_length);
+                                    uint64_t machine, const uint64_t *frames,
+                                    size_t frames_length);
 
 /*
  * Moves the pointers of a whole thread as treskibben_thread does, all of its frames or none, with an index
@@ -453,7 +473,7 @@ treskibben_answer treskibben_thread(const uint8_t *section, size_t length, uint8
  * The index is tested once, between 14 and 25:
  *
  *   number  when                                                     place
- *   1 to 9, 13, 14                                                   as for treskibben_thread
+ *   1 to 9, 33, 13, 14                                               as for treskibben_thread
  *   27      the section is of version 1                              0
  *   29      index isn't exactly the entries that the section yields  0
  *   25, the first refused frame's own, 26, 0                         as for treskibben_thread
@@ -465,8 +485,9 @@ treskibben_answer treskibben_thread_by_index(const uint8_t *section, size_t leng
                                              size_t image_length, uint64_t first,
                                              const uint64_t *old_starts, size_t old_count,
                                              const uint64_t *new_starts, size_t new_count,
-                                             const uint64_t *frames, size_t frames_length,
-                                             const uint64_t *index, size_t index_length);
+                                             uint64_t machine, const uint64_t *frames,
+                                             size_t frames_length, const uint64_t *index,
+                                             size_t index_length);
 
 /*
  * Flat sections.

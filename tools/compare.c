@@ -3,7 +3,7 @@
  * section of version 3, and, where both builds take it, of version 1; and the check of sections of other kinds. tools/compare builds it.
  *
  * The functions of the two builds have the prefixes `before_` and `after_`. OLD_FRAME says that the first build's frame has no function
- * number yet, and that it refuses version 1.
+ * number yet, and that it refuses version 1; BEFORE_MACHINE and AFTER_MACHINE that a build is told the frame's machine.
  */
 #include <stdint.h>
 #include <stdio.h>
@@ -20,13 +20,28 @@ typedef struct { uint64_t address, rbp, rsp; } before_frame;
 typedef frame before_frame;
 #endif
 
-#define DECLARE(prefix, frame_type)                                                                   \
+#ifdef BEFORE_MACHINE
+#define BEFORE_TYPE uint64_t,
+#define BEFORE_AMD64 0,
+#else
+#define BEFORE_TYPE
+#define BEFORE_AMD64
+#endif
+#ifdef AFTER_MACHINE
+#define AFTER_TYPE uint64_t,
+#define AFTER_AMD64 0,
+#else
+#define AFTER_TYPE
+#define AFTER_AMD64
+#endif
+
+#define DECLARE(prefix, machine_type, frame_type)                                                                   \
     answer prefix##treskibben_check(const uint8_t *, size_t);                                         \
     found prefix##treskibben_find(const uint8_t *, size_t, uint64_t);                                 \
     answer prefix##treskibben_relocate(const uint8_t *, size_t, uint8_t *, size_t, uint64_t, const uint64_t *, size_t, \
-                                       const uint64_t *, size_t, frame_type);
-DECLARE(before_, before_frame)
-DECLARE(after_, frame)
+                                       const uint64_t *, size_t, machine_type frame_type);
+DECLARE(before_, BEFORE_TYPE, before_frame)
+DECLARE(after_, AFTER_TYPE, frame)
 
 enum { LIMIT = 16777216, ROUNDS_MOST = 1001, STACK = 0x7000000 };
 
@@ -119,11 +134,11 @@ static void move_before(void) {
     before_frame f = {0};
     f.address = last;
     f.rsp = STACK;
-    sink += before_treskibben_relocate(bytes, length, image, sizeof image, STACK, NULL, 0, NULL, 0, f).number;
+    sink += before_treskibben_relocate(bytes, length, image, sizeof image, STACK, NULL, 0, NULL, 0, BEFORE_AMD64 f).number;
 }
 static void move_after(void) {
     frame f = {last, 0, STACK, 0};
-    sink += after_treskibben_relocate(bytes, length, image, sizeof image, STACK, NULL, 0, NULL, 0, f).number;
+    sink += after_treskibben_relocate(bytes, length, image, sizeof image, STACK, NULL, 0, NULL, 0, AFTER_AMD64 f).number;
 }
 
 static int rising(const void *a, const void *b) {

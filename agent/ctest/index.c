@@ -184,7 +184,8 @@ static int passes_thread(const uint8_t *bytes, size_t length, uint64_t rsp, size
     put(after + 8, moved ? new_start : old_start);
     put(after + 16, (moved ? new_start : old_start) + 0x4e20);
     answer = treskibben_thread_by_index(bytes, length, image, sizeof image, 0x7000, &old_start,
-                                        old_count, &new_start, 1, list, numbers, index, count);
+                                        old_count, &new_start, 1, TRESKIBBEN_AMD64, list, numbers,
+                                        index, count);
     return passed("thread", expected, answer, memcmp(image, after, sizeof image) == 0);
 }
 

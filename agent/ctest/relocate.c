@@ -19,8 +19,8 @@
 
 typedef char whole_frame[sizeof(treskibben_frame) == 32 ? 1 : -1];
 FIELD(address, 0);
-FIELD(rbp, 8);
-FIELD(rsp, 16);
+FIELD(frame_pointer, 8);
+FIELD(stack_pointer, 16);
 FIELD(function, 24);
 
 /* Where the first pair of row H stands, and the bytes of a location and of a pair. */
@@ -101,7 +101,7 @@ static int passes(const struct row *row)
     put_slots(after, row->after);
     answer = treskibben_relocate(section, sizeof section, image, sizeof image, row->first,
                                  &old_start, row->old_count, &row->new_start, row->new_count,
-                                 row->frame);
+                                 TRESKIBBEN_AMD64, row->frame);
     same = memcmp(image, after, sizeof image) == 0 && memcmp(section, copy, sizeof copy) == 0;
     return passed(row->name, row->answer, answer, same);
 }
@@ -132,7 +132,7 @@ static int passes_with(size_t count, uint64_t number)
     put_slots(image, slots);
     put_slots(after, moved);
     answer = treskibben_relocate(section, length, image, sizeof image, 0x7000, &old_start, 1,
-                                 &new_start, 1, frame);
+                                 &new_start, 1, TRESKIBBEN_AMD64, frame);
     free(section);
     sprintf(name, "%u pairs", (unsigned)count);
     return passed(name, expected, answer, memcmp(image, after, sizeof image) == 0);
@@ -183,7 +183,7 @@ static int passes_wide(const struct wide *wide)
     put_slots(image, wide->slots);
     put_slots(after, wide->after);
     answer = treskibben_relocate(section, sizeof section, image, sizeof image, 0x7000, &old_start, 1,
-                                 &new_start, 1, frame);
+                                 &new_start, 1, TRESKIBBEN_AMD64, frame);
     sprintf(name, "sizes %u and %u", (unsigned)wide->sizes[0], (unsigned)wide->sizes[1]);
     return passed(name, wide->answer, answer, memcmp(image, after, sizeof image) == 0);
 }

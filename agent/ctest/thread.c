@@ -76,7 +76,7 @@ static int passes(const struct row *row)
     put_frame(image, OLD);
     put_frame(after, row->moved ? NEW : OLD);
     answer = treskibben_thread(row_h, sizeof row_h, image, sizeof image, FIRST, &old_start, 1,
-                               &new_start, 1, list, row->length);
+                               &new_start, 1, TRESKIBBEN_AMD64, list, row->length);
     same = memcmp(image, after, sizeof image) == 0 && memcmp(list, row->list, sizeof list) == 0;
     return passed(row->name, row->answer, answer, same);
 }
@@ -95,12 +95,13 @@ static int passes_with(size_t count, size_t more, size_t bad, const uint64_t *ex
         put_frame(image + EXTENT * i, OLD);
         put_frame(after + EXTENT * i, expected[0] == 0 && i < count ? NEW : OLD);
         frames[i].address = i == bad ? 0x1021 : 0x1020;
-        frames[i].rbp = 0;
-        frames[i].rsp = FIRST + EXTENT * i;
+        frames[i].frame_pointer = 0;
+        frames[i].stack_pointer = FIRST + EXTENT * i;
         frames[i].function = i;
     }
     answer = treskibben_thread(row_h, sizeof row_h, image, sizeof image, FIRST, &old_start, 1,
-                               &new_start, 1, (const uint64_t *)frames, 4 * count + more);
+                               &new_start, 1, TRESKIBBEN_AMD64, (const uint64_t *)frames,
+                               4 * count + more);
     sprintf(name, "%u frames and %u numbers", (unsigned)count, (unsigned)more);
     return passed(name, expected, answer, memcmp(image, after, sizeof image) == 0);
 }
@@ -113,7 +114,7 @@ static int passes_before(size_t length, size_t old_count, uint64_t first, uint64
     treskibben_answer answer;
 
     answer = treskibben_thread(row_h, length, image, sizeof image, first, &old_start, old_count,
-                               &new_start, 1, list, 3);
+                               &new_start, 1, TRESKIBBEN_AMD64, list, 3);
     return passed("before the list", expected, answer, memcmp(image, after, sizeof image) == 0);
 }
 

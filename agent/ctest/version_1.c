@@ -123,7 +123,7 @@ static int passes(const struct row *row)
     put_stack(image, OLD);
     put_stack(after, row->moved ? NEW : OLD);
     answer = treskibben_relocate(section, length, image, sizeof image, FIRST, &old_start, 1,
-                                 &new_start, 1, row->frame);
+                                 &new_start, 1, TRESKIBBEN_AMD64, row->frame);
     return passed(row->name, row->answer, answer, memcmp(image, after, sizeof image) == 0);
 }
 
@@ -135,7 +135,7 @@ static int list_passes(const struct list *list)
     put_stack(image, OLD);
     put_stack(after, list->moved ? NEW : OLD);
     answer = treskibben_thread(row_h_1, sizeof row_h_1, image, sizeof image, FIRST, &old_start, 1,
-                               &new_start, 1, list->numbers, list->length);
+                               &new_start, 1, TRESKIBBEN_AMD64, list->numbers, list->length);
     return passed(list->name, list->answer, answer, memcmp(image, after, sizeof image) == 0);
 }
 

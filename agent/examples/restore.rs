@@ -10,7 +10,7 @@ use std::collections::HashMap;
 use std::error::Error;
 use std::fs;
 use std::process::ExitCode;
-use treskibben::{Frame, MoveTable};
+use treskibben::{Frame, Machine, MoveTable};
 
 type Outcome<T> = Result<T, Box<dyn Error>>;
 
@@ -56,7 +56,9 @@ fn restore() -> Outcome<String> {
     let frame = |&[address, rbp, rsp]: &[u64; 3]| Frame::new(address, rbp, rsp);
     let frames: Vec<Frame> = frames.iter().map(frame).collect();
     let table = MoveTable::new(&old, &new);
-    let pointers = treskibben::relocate_thread(&section, &mut image, first, table, &frames)?;
+    let machine = Machine::Amd64;
+    let pointers =
+        treskibben::relocate_thread(&section, &mut image, first, table, machine, &frames)?;
 
     let output = option("--output")?;
     fs::write(output, &image)?;

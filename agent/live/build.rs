@@ -5,7 +5,7 @@ use std::path::PathBuf;
 use std::process::{exit, Command};
 
 const FOLDER: &str = "../../llvm/live";
-const FILES: [&str; 4] = ["build", "walk.ll", "pairs.ll", "vectors.ll"];
+const FILES: [&str; 5] = ["build", "guest.c", "walk.ll", "pairs.ll", "vectors.ll"];
 
 fn main() {
     println!("cargo:rerun-if-changed=build.rs");

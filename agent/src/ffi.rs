@@ -93,14 +93,14 @@ const _: () = {
     assert!(size_of::<LiveOut>() == 24 && offset_of!(LiveOut, register) == 16);
     assert!(offset_of!(LiveOut, size) == 18);
     assert!(size_of::<Frame>() == 32 && offset_of!(Frame, address) == 0);
-    assert!(offset_of!(Frame, rbp) == 8 && offset_of!(Frame, rsp) == 16);
+    assert!(offset_of!(Frame, frame_pointer) == 8 && offset_of!(Frame, stack_pointer) == 16);
     assert!(offset_of!(Frame, function) == 24);
     assert!(align_of::<Frame>() == align_of::<u64>());
 };
 
 extern "C" {
     fn treskibben_version() -> u32;
-    fn treskibben_version_1() -> u32;
+    fn treskibben_version_2() -> u32;
     fn treskibben_check(section: *const u8, length: usize) -> Answer;
     fn treskibben_find(section: *const u8, length: usize, address: u64) -> Found;
     fn treskibben_find_in_function(
@@ -144,6 +144,7 @@ extern "C" {
         old_count: usize,
         news: *const u64,
         new_count: usize,
+        machine: u64,
         frame: Frame,
     ) -> Answer;
     fn treskibben_thread(
@@ -156,6 +157,7 @@ extern "C" {
         old_count: usize,
         news: *const u64,
         new_count: usize,
+        machine: u64,
         frames: *const u64,
         frames_length: usize,
     ) -> Answer;
@@ -164,7 +166,7 @@ extern "C" {
 /// The name is of the version that this crate is written for alone: with a library of another version,
 /// what uses the crate can't be linked. `build.rs` says so earlier and in words.
 #[used]
-static OF_THIS_VERSION: unsafe extern "C" fn() -> u32 = treskibben_version_1;
+static OF_THIS_VERSION: unsafe extern "C" fn() -> u32 = treskibben_version_2;
 
 /// The version of the library.
 pub(crate) fn version() -> u32 {
@@ -230,13 +232,14 @@ pub(crate) fn to_section(listing: &[u8], output: &mut [u8]) -> Answer {
     unsafe { treskibben_to_section(listing.as_ptr(), listing.len(), to, room) }
 }
 
-/// The move of one frame.
+/// The move of one frame, on the machine of this number.
 pub(crate) fn relocate(
     section: &[u8],
     image: &mut [u8],
     first: u64,
     olds: &[u64],
     news: &[u64],
+    machine: u64,
     frame: Frame,
 ) -> Answer {
     let (stack, bytes) = (image.as_mut_ptr(), image.len());
@@ -244,8 +247,8 @@ pub(crate) fn relocate(
     // shares no byte with the section or with a list. Each list's pointer and number of entries are
     // those of one slice of `u64`, which is borrowed for the whole call; the pointer is aligned and
     // never null. The two numbers are handed over each by itself, so that lists of unequal length
-    // are read as far as each goes. Every first address and every frame may be asked for, and the
-    // frame, a struct of `treskibben.h`, is handed over by value.
+    // are read as far as each goes. Every first address, every number of a machine and every frame
+    // may be asked for, and the frame, a struct of `treskibben.h`, is handed over by value.
     unsafe {
         treskibben_relocate(
             section.as_ptr(),
@@ -257,18 +260,20 @@ pub(crate) fn relocate(
             olds.len(),
             news.as_ptr(),
             news.len(),
+            machine,
             frame,
         )
     }
 }
 
-/// The move of a whole thread.
+/// The move of a whole thread, on the machine of this number.
 pub(crate) fn thread(
     section: &[u8],
     image: &mut [u8],
     first: u64,
     olds: &[u64],
     news: &[u64],
+    machine: u64,
     frames: &[u64],
 ) -> Answer {
     let (stack, bytes) = (image.as_mut_ptr(), image.len());
@@ -285,6 +290,7 @@ pub(crate) fn thread(
             olds.len(),
             news.as_ptr(),
             news.len(),
+            machine,
             frames.as_ptr(),
             frames.len(),
         )

@@ -1,7 +1,7 @@
 //! An address index of a section, and what is asked through it.
 
 use crate::questions::found;
-use crate::{ffi, thread, Found, Frames, MoveTable, Refusal, ThreadRefusal};
+use crate::{ffi, thread, Found, Frames, Machine, MoveTable, Refusal, ThreadRefusal};
 use std::ops::Range;
 
 #[cfg(test)]
@@ -223,7 +223,7 @@ impl<'a> Index<'a> {
     /// # Examples
     ///
     /// ```
-    /// use treskibben::{Frame, Index, MoveTable};
+    /// use treskibben::{Frame, Index, Machine, MoveTable};
     /// # fn main() -> Result<(), Box<dyn std::error::Error>> {
     /// let section = std::fs::read("../samples/h-statepoint.section")?;
     /// let index = Index::of(&section)?;
@@ -231,7 +231,8 @@ impl<'a> Index<'a> {
     /// let mut image = [7, 0x50000, 0x54e20_u64].map(u64::to_le_bytes).concat();
     ///
     /// let frames = [Frame::new(0x1020, 0, 0x7000)];
-    /// assert_eq!(index.relocate_thread(&mut image, 0x7000, table, &frames), Ok(2));
+    /// let moved = index.relocate_thread(&mut image, 0x7000, table, Machine::Amd64, &frames);
+    /// assert_eq!(moved, Ok(2));
     /// assert_eq!(image, [7, 0x90000, 0x94e20_u64].map(u64::to_le_bytes).concat());
     /// # Ok(())
     /// # }
@@ -241,13 +242,14 @@ impl<'a> Index<'a> {
         image: &mut [u8],
         first: u64,
         table: MoveTable,
+        machine: Machine,
         frames: impl Into<Frames<'f>>,
     ) -> Result<usize, ThreadRefusal> {
         let (olds, news) = (table.old_starts(), table.new_starts());
-        let frames = frames.into().numbers();
+        let (machine, frames) = (machine.number(), frames.into().numbers());
         let (section, index) = (self.section, &self.entries);
         thread::pointers(ffi::index::thread(
-            section, image, first, olds, news, frames, index,
+            section, image, first, olds, news, machine, frames, index,
         ))
     }
 }

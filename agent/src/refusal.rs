@@ -56,6 +56,9 @@ const EDITION_CAUSES: [&str; 3] = [
 const SETTINGS_CAUSES: [&str; 1] =
     ["pointer count not 1 to 256, machine unknown, or no version allowed"];
 
+/// The cause of a machine's refusal, number 33. The safe calls know two machines alone, and never give it.
+const MACHINE_CAUSES: [&str; 1] = ["machine not known"];
+
 /// The causes of a flat section's refusals; the first is number 36.
 const FLAT_CAUSES: [&str; 6] = [
     "flat section under 32 or over 16,777,216 bytes",
@@ -95,6 +98,7 @@ impl Refusal {
     pub fn cause(&self) -> &'static str {
         cause_from(&CAUSES, 1, self.number)
             .or_else(|| cause_from(&EDITION_CAUSES, 30, self.number))
+            .or_else(|| cause_from(&MACHINE_CAUSES, 33, self.number))
             .or_else(|| cause_from(&SETTINGS_CAUSES, 51, self.number))
             .or_else(|| cause_from(&FLAT_CAUSES, 36, self.number))
             .unwrap_or("a cause that this version has no words for")
@@ -122,9 +126,10 @@ mod tests {
     #[test]
     fn each_number_has_words_of_its_own() {
         let editions = (30..).zip(EDITION_CAUSES);
+        let machine = (33..).zip(MACHINE_CAUSES);
         let settings = (51..).zip(SETTINGS_CAUSES);
         let numbers = (1..).zip(CAUSES).chain((36..).zip(FLAT_CAUSES));
-        let numbers = numbers.chain(editions).chain(settings);
+        let numbers = numbers.chain(editions).chain(machine).chain(settings);
         let mut met: Vec<&str> = vec![];
         for (number, cause) in numbers {
             assert_eq!(Refusal::new(number, 0).cause(), cause);
@@ -154,6 +159,7 @@ mod tests {
             (31, "unknown or retired"),
             (32, "2^32 - 1"),
             (51, "pointer count"),
+            (33, "machine not known"),
             (36, "under 32"),
             (37, "version not 2"),
             (38, "aligned place"),

@@ -1,6 +1,6 @@
 //! The move of one frame.
 
-use crate::{ffi, Refusal};
+use crate::{ffi, Machine, Refusal};
 
 /// A frame of a stopped thread: where its record is, and what two registers hold.
 ///
@@ -14,10 +14,11 @@ use crate::{ffi, Refusal};
 /// use treskibben::Frame;
 ///
 /// let frame = Frame::new(0x1020, 0, 0x7000);
-/// assert_eq!(frame, Frame { address: 0x1020, rbp: 0, rsp: 0x7000, function: 0 });
+/// let whole = Frame { address: 0x1020, frame_pointer: 0, stack_pointer: 0x7000, function: 0 };
+/// assert_eq!(frame, whole);
 ///
 /// let frame = Frame::in_function(5, 0x20, 0, 0x7000);
-/// assert_eq!(frame, Frame { address: 0x20, rbp: 0, rsp: 0x7000, function: 5 });
+/// assert_eq!(frame, Frame { address: 0x20, function: 5, ..whole });
 /// ```
 #[derive(Clone, Copy, Debug, PartialEq, Eq, Hash)]
 #[repr(C)]
@@ -25,10 +26,11 @@ pub struct Frame {
     /// For version 3 the address of its record: the one that the call in it returns to. For version 1
     /// the instruction offset of its record: that address less the function's.
     pub address: u64,
-    /// The content of RBP (DWARF 6).
-    pub rbp: u64,
-    /// The content of RSP (DWARF 7), where the frame's part of the stack begins.
-    pub rsp: u64,
+    /// The content of the frame pointer: of RBP on AMD64, and of X29 on AArch64.
+    pub frame_pointer: u64,
+    /// The content of the stack pointer, where the frame's part of the stack begins: of RSP on AMD64, and
+    /// of SP on AArch64.
+    pub stack_pointer: u64,
     /// For version 1 the number of its function in the section, counted from 0. For version 3 it is not
     /// read.
     pub function: u64,
@@ -37,22 +39,27 @@ pub struct Frame {
 impl Frame {
     /// The frame whose record has this address, for a section of version 3. Its function is 0, which is
     /// not read.
-    pub const fn new(address: u64, rbp: u64, rsp: u64) -> Frame {
+    pub const fn new(address: u64, frame_pointer: u64, stack_pointer: u64) -> Frame {
         Frame {
             address,
-            rbp,
-            rsp,
+            frame_pointer,
+            stack_pointer,
             function: 0,
         }
     }
 
     /// The frame of the function with this number whose record is at this offset, for a section of
     /// version 1.
-    pub const fn in_function(function: u64, offset: u64, rbp: u64, rsp: u64) -> Frame {
+    pub const fn in_function(
+        function: u64,
+        offset: u64,
+        frame_pointer: u64,
+        stack_pointer: u64,
+    ) -> Frame {
         Frame {
             address: offset,
-            rbp,
-            rsp,
+            frame_pointer,
+            stack_pointer,
             function,
         }
     }
@@ -128,7 +135,9 @@ impl<'a> From<&'a (Vec<u64>, Vec<u64>)> for MoveTable<'a> {
 /// 2^64; everything is taken from the image as it was before the call. A base of 0 stays 0. All other
 /// bytes of the image are left as they are, also those of a base slot that no pointer is derived in.
 ///
-/// The frame's part of the stack begins at RSP and is as long as the stack size of its function says.
+/// Slots are counted from the frame pointer or the stack pointer of the machine; a pair with any other
+/// register is of wrong form, also with one of the other machine. The frame's part of the stack begins
+/// at the stack pointer and is as long as the stack size of its function says.
 /// The function is that of the record in version 3, and the one that the frame names in version 1, which
 /// doesn't say whether the record is that function's: the caller has to know. Both locations of a pair have
 /// the same size, 8 to 2,048 by eights; in version 1 each has 0 or 8.
@@ -159,10 +168,10 @@ impl<'a> From<&'a (Vec<u64>, Vec<u64>)> for MoveTable<'a> {
 /// # Examples
 ///
 /// ```
-/// use treskibben::{relocate, Frame, MoveTable};
+/// use treskibben::{relocate, Frame, Machine, MoveTable};
 /// # fn main() -> Result<(), Box<dyn std::error::Error>> {
-/// // A statepoint at 0x1020 in a function with 24 bytes of stack. It has two pairs: the slot at
-/// // RSP + 8 with itself as base, and the one at RSP + 16, which is derived from that.
+/// // A statepoint of AMD64 at 0x1020 in a function with 24 bytes of stack. It has two pairs: the slot
+/// // at RSP + 8 with itself as base, and the one at RSP + 16, which is derived from that.
 /// let section = std::fs::read("../samples/h-statepoint.section")?;
 /// let frame = Frame::new(0x1020, 0, 0x7000);
 ///
@@ -170,19 +179,24 @@ impl<'a> From<&'a (Vec<u64>, Vec<u64>)> for MoveTable<'a> {
 /// let table = MoveTable::new(&[0x50000], &[0x90000]);
 /// let stack = |slots: [u64; 3]| slots.map(u64::to_le_bytes).concat();
 /// let mut image = stack([7, 0x50000, 0x54e20]);
-/// assert_eq!(relocate(&section, &mut image, 0x7000, table, frame), Ok(2));
+/// assert_eq!(relocate(&section, &mut image, 0x7000, table, Machine::Amd64, frame), Ok(2));
 /// assert_eq!(image, stack([7, 0x90000, 0x94e20]));
 ///
 /// // The frame is moved now: its base is no old start any more.
-/// let refusal = relocate(&section, &mut image, 0x7000, table, frame).unwrap_err();
+/// let moved = relocate(&section, &mut image, 0x7000, table, Machine::Amd64, frame);
+/// let refusal = moved.unwrap_err();
 /// assert_eq!(refusal.to_string(), "refused 21 at 0: base neither 0 nor an old start");
 /// assert_eq!(image, stack([7, 0x90000, 0x94e20]));
+///
+/// // RSP is no register that AArch64 counts slots from.
+/// let moved = relocate(&section, &mut image, 0x7000, table, Machine::Aarch64, frame);
+/// assert_eq!(moved.unwrap_err().to_string(), "refused 18 at 0: pair of wrong form");
 ///
 /// // The same statepoint in a section of version 1, at offset 0x20 of function 0.
 /// let older = std::fs::read("../samples/h-version-1.section")?;
 /// let frame = Frame::in_function(0, 0x20, 0, 0x7000);
 /// let mut image = stack([7, 0x50000, 0x54e20]);
-/// assert_eq!(relocate(&older, &mut image, 0x7000, table, frame), Ok(2));
+/// assert_eq!(relocate(&older, &mut image, 0x7000, table, Machine::Amd64, frame), Ok(2));
 /// assert_eq!(image, stack([7, 0x90000, 0x94e20]));
 /// # Ok(())
 /// # }
@@ -192,10 +206,12 @@ pub fn relocate(
     image: &mut [u8],
     first: u64,
     table: MoveTable,
+    machine: Machine,
     frame: Frame,
 ) -> Result<usize, Refusal> {
-    let pointers = ffi::relocate(section, image, first, table.old, table.new, frame).outcome()?;
-    Ok(number(pointers, 1))
+    let machine = machine.number();
+    let answer = ffi::relocate(section, image, first, table.old, table.new, machine, frame);
+    Ok(number(answer.outcome()?, 1))
 }
 
 /// The number of pointers of so many frames, each of which the library is proved to accept with at most

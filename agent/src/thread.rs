@@ -1,6 +1,6 @@
 //! The move of a whole thread.
 
-use crate::{ffi, relocate, Frame, MoveTable, Refusal};
+use crate::{ffi, relocate, Frame, Machine, MoveTable, Refusal};
 use std::error::Error;
 use std::fmt;
 
@@ -10,7 +10,8 @@ mod tests;
 /// The most frames of a thread.
 const MOST_FRAMES: usize = 4_096;
 
-/// The frames of a stopped thread as one list of numbers, four to a frame: address, RBP, RSP, function.
+/// The frames of a stopped thread as one list of numbers, four to a frame: address, frame pointer, stack
+/// pointer, function.
 ///
 /// The numbers are the fields of a [`Frame`]: for version 1 the first is the instruction offset, and for
 /// version 3 the last is not read. Nothing is tested here. [`relocate_thread`] refuses a list by 25 whose
@@ -37,7 +38,8 @@ impl<'a> Frames<'a> {
         Frames { numbers }
     }
 
-    /// The list of these numbers: address, RBP, RSP and function of the first frame, then of the next.
+    /// The list of these numbers: address, frame pointer, stack pointer and function of the first frame,
+    /// then of the next.
     pub fn of_numbers(numbers: &'a [u64]) -> Frames<'a> {
         Frames { numbers }
     }
@@ -119,8 +121,9 @@ impl Error for ThreadRefusal {}
 /// Moves the pointers of a whole thread, all of its frames or none, and gives their number, null pairs
 /// counting one each.
 ///
-/// The other arguments are those of [`relocate`](crate::relocate()). A frame's extent is its part of the
-/// stack: the bytes from RSP on, as many as the stack size of its function. Where the call is accepted,
+/// The other arguments are those of [`relocate`](crate::relocate()): all frames are of one machine. A
+/// frame's extent is its part of the stack: the bytes from the stack pointer on, as many as the stack size
+/// of its function. Where the call is accepted,
 /// the image is the one that `relocate` leaves when it moves the frames one by one, in the order of the
 /// list or in any other. A list of no frames is accepted, with 0 pointers.
 ///
@@ -143,23 +146,25 @@ impl Error for ThreadRefusal {}
 /// # Examples
 ///
 /// ```
-/// use treskibben::{relocate_thread, Frame, MoveTable};
+/// use treskibben::{relocate_thread, Frame, Machine, MoveTable};
 /// # fn main() -> Result<(), Box<dyn std::error::Error>> {
 /// // A statepoint at 0x1020 in a function with 24 bytes of stack, which has called itself. It has two
 /// // pairs: the slot at RSP + 8 with itself as base, and the one at RSP + 16, derived from that.
 /// let section = std::fs::read("../samples/h-statepoint.section")?;
 /// let frame = |rsp| Frame::new(0x1020, 0, rsp);
+/// let machine = Machine::Amd64;
 /// let table = MoveTable::new(&[0x50000], &[0x90000]);
 /// let stack = |slots: [u64; 6]| slots.map(u64::to_le_bytes).concat();
 /// let mut image = stack([7, 0x50000, 0x54e20, 8, 0, 0x1234]);
 ///
 /// // The second frame would be moved where the first is: nothing is.
 /// let frames = [frame(0x7000), frame(0x7000)];
-/// let refusal = relocate_thread(&section, &mut image, 0x7000, table, &frames).unwrap_err();
+/// let moved = relocate_thread(&section, &mut image, 0x7000, table, machine, &frames);
+/// let refusal = moved.unwrap_err();
 /// assert_eq!((refusal.number(), refusal.position()), (26, Some(1)));
 ///
 /// let frames = vec![frame(0x7000), frame(0x7018)];
-/// assert_eq!(relocate_thread(&section, &mut image, 0x7000, table, &frames), Ok(4));
+/// assert_eq!(relocate_thread(&section, &mut image, 0x7000, table, machine, &frames), Ok(4));
 /// assert_eq!(image, stack([7, 0x90000, 0x94e20, 8, 0, 0x1234]));
 /// # Ok(())
 /// # }
@@ -169,11 +174,14 @@ pub fn relocate_thread<'a>(
     image: &mut [u8],
     first: u64,
     table: MoveTable,
+    machine: Machine,
     frames: impl Into<Frames<'a>>,
 ) -> Result<usize, ThreadRefusal> {
     let (olds, news) = (table.old_starts(), table.new_starts());
-    let frames = frames.into().numbers;
-    pointers(ffi::thread(section, image, first, olds, news, frames))
+    let (machine, frames) = (machine.number(), frames.into().numbers);
+    pointers(ffi::thread(
+        section, image, first, olds, news, machine, frames,
+    ))
 }
 
 /// The number of the pointers of a thread that is moved, or the refusal.

@@ -16,8 +16,8 @@ const LIBRARY: &str = concat!(
     "/../target/staticlib/libtreskibben.a"
 );
 
-const NAME: &[u8] = b"treskibben_version_1";
-const OTHER_NAME: &[u8] = b"treskibben_version_2";
+const NAME: &[u8] = b"treskibben_version_2";
+const OTHER_NAME: &[u8] = b"treskibben_version_3";
 
 /// A program that asks the library two things.
 const MAIN: &str = r#"fn main() {
@@ -25,7 +25,7 @@ const MAIN: &str = r#"fn main() {
 }
 "#;
 
-const ANSWER: &str = "version 1: Err(1)\n";
+const ANSWER: &str = "version 2: Err(1)\n";
 
 /// A fresh folder for a test.
 fn folder(name: &str) -> PathBuf {
@@ -118,10 +118,10 @@ fn a_relative_folder_counts_from_where_cargo_is_called() {
     let said = text(&ran.stderr);
     assert!(!ran.status.success(), "{said}");
     let path = there.join("lib/libtreskibben.a");
-    let words = format!("{} is of version 2,", path.display());
+    let words = format!("{} is of version 3,", path.display());
     assert!(said.contains(&words), "{said}");
     assert!(
-        said.contains("and this crate is written for version 1."),
+        said.contains("and this crate is written for version 2."),
         "{said}"
     );
     let ran = cargo_run(&here, &manifest, &target, Some("../here/lib"));
@@ -240,7 +240,7 @@ fn another_version_cannot_be_linked() {
     let other = link(NAME, OTHER_NAME);
     let said = text(&other.stderr);
     assert!(!other.status.success(), "{said}");
-    assert!(said.contains("treskibben_version_1"), "{said}");
+    assert!(said.contains("treskibben_version_2"), "{said}");
 }
 
 /// In C a program with TRESKIBBEN_REQUIRE_VERSION() is refused by the linker, and only such a one.
@@ -274,7 +274,7 @@ fn another_version_cannot_be_linked_in_c() {
     assert!(compile("", "libtreskibben.a").status.success());
     let other = compile("TRESKIBBEN_REQUIRE_VERSION();", "libtreskibben.a");
     assert!(!other.status.success());
-    assert!(text(&other.stderr).contains("treskibben_version_1"));
+    assert!(text(&other.stderr).contains("treskibben_version_2"));
 }
 
 /// What the README's lines of Rust leave open.
@@ -329,7 +329,7 @@ fn the_readmes_lines_of_c_compile() {
     let folder = folder("readme-c");
     let lines = readme::code("From C");
     let (include, body) = lines.split_first().unwrap();
-    assert_eq!(body.len(), 8);
+    assert_eq!(body.len(), 10);
     let program = [include, AROUND_C[0], &body.join("\n"), AROUND_C[1], ""].join("\n");
     fs::write(folder.join("yours.c"), program).unwrap();
     let mut cc = Command::new("cc");

@@ -24,9 +24,6 @@ use planned::{Seen, Target};
 use reference::section::{self, Section};
 use sections::{Built, LEVELS, TARGETS};
 
-/// The targets whose statepoints are moved.
-const PLANNED: &[&str] = &["x86_64"];
-
 /// The section as the second implementation reads it; it must accept it.
 fn read(name: &str, bytes: &[u8]) -> Section {
     section::read(bytes)
@@ -97,7 +94,8 @@ fn every_section_has_the_index_that_llvm_prints() {
     assert!(records > 100, "only {records} records");
 }
 
-/// What came of all statepoints of the sections of a target with this beginning of their names.
+/// What came of all statepoints of the sections of a target with this beginning of their names. The same must come of
+/// them where all their slots are addressed by the frame pointer.
 fn planned(target: &str, beginning: &str) -> Seen {
     let mut all = Seen::default();
     let sections = sections::single()
@@ -110,8 +108,18 @@ fn planned(target: &str, beginning: &str) -> Seen {
     } in sections
     {
         let printed = readobj::parse(printed).unwrap();
-        let seen = planned::compare(bytes, &printed, Target::named(target));
+        let target = Target::named(target);
+        let seen = planned::compare(bytes, &printed, target);
         let seen = seen.unwrap_or_else(|fault| panic!("{name}: {fault}"));
+        let (changed, text) = planned::by_frame_pointer(bytes, printed, target);
+        let again = planned::compare(&changed, &text, target);
+        let again = again.unwrap_or_else(|fault| panic!("{name}, by the frame pointer: {fault}"));
+        assert_eq!(
+            changed != *bytes,
+            seen.pointers > 0,
+            "{name}: whether a slot is addressed by the stack pointer"
+        );
+        assert_eq!(again, seen, "{name}, by the frame pointer");
         all.moved += seen.moved;
         all.pointers += seen.pointers;
         all.most = all.most.max(seen.most);
@@ -125,15 +133,14 @@ fn planned(target: &str, beginning: &str) -> Seen {
 /// In a hand-made frame each statepoint is moved, or refused, as the printed text says.
 #[test]
 fn every_statepoint_is_moved_as_llvm_prints_it() {
-    for target in PLANNED {
+    for target in TARGETS {
         let seen = planned(target, "");
         assert!(seen.moved > 60, "{target}: {seen:?}");
-        // The address of an alloca among the values before the pairs is no pair: nothing but vectors is refused.
-        assert_eq!(
-            seen.refused,
-            planned(target, "vectors.").refused,
-            "{target}"
-        );
+        // The address of an alloca among the values before the pairs is no pair: nothing is refused but some vectors of
+        // pointers, and a slot that lies outside because a vector of unknown length is left out of the stack size.
+        let mut refused = planned(target, "vectors.").refused;
+        refused.extend((*target == "aarch64").then_some((19, 1)));
+        assert_eq!(seen.refused, refused, "{target}");
     }
 }
 
@@ -141,7 +148,7 @@ fn every_statepoint_is_moved_as_llvm_prints_it() {
 /// pointers in two pairs, and one with 257 in one.
 #[test]
 fn vectors_of_pointers_are_moved_pointer_by_pointer() {
-    for target in PLANNED {
+    for target in TARGETS {
         let seen = planned(target, "vectors.");
         let each = LEVELS.len();
         assert_eq!(seen.moved, 5 * each, "{target}: {seen:?}");

@@ -5,7 +5,7 @@ use generator::frames::Scene;
 use generator::Rng;
 use std::collections::{BTreeMap, HashSet};
 use std::error::Error;
-use treskibben::{check, flat, Frame, MoveTable, Refusal};
+use treskibben::{check, flat, Frame, Machine, MoveTable, Refusal};
 
 /// A section of 16 bytes with these counts, `rest` after it.
 fn section(counts: [u8; 3], rest: &[u8]) -> Vec<u8> {
@@ -147,6 +147,9 @@ fn refused_listings() -> [Refusal; 4] {
     ]
 }
 
+/// The number that no safe call gives: they take no number that is no machine.
+const NO_MACHINE: u64 = 33;
+
 /// A refusal of a frame for each number that a frame can get by itself.
 fn refused_frames() -> Vec<Refusal> {
     let mut rng = Rng::new(14);
@@ -155,16 +158,26 @@ fn refused_frames() -> Vec<Refusal> {
         if aim(&mut rng, number, &mut scene, 0).is_some() {
             let (section, stop) = (scene.section.encode(), scene.stops[0]);
             let frame = match section[0] {
-                1 => Frame::in_function(stop.named, stop.address, stop.rbp, stop.rsp),
-                _ => Frame::new(stop.address, stop.rbp, stop.rsp),
+                1 => Frame::in_function(
+                    stop.named,
+                    stop.address,
+                    stop.frame_pointer,
+                    stop.stack_pointer,
+                ),
+                _ => Frame::new(stop.address, stop.frame_pointer, stop.stack_pointer),
             };
             let table = MoveTable::new(&scene.table.olds, &scene.table.news);
             let first = scene.first;
-            break treskibben::relocate(&section, &mut scene.image, first, table, frame)
-                .unwrap_err();
+            let machine = match scene.machine {
+                0 => Machine::Amd64,
+                _ => Machine::Aarch64,
+            };
+            let image = &mut scene.image;
+            break treskibben::relocate(&section, image, first, table, machine, frame).unwrap_err();
         }
     };
-    NUMBERS.map(&mut refused).to_vec()
+    let safe = NUMBERS.into_iter().filter(|number| *number != NO_MACHINE);
+    safe.map(&mut refused).collect()
 }
 
 /// A thread of too many frames, and one with a frame that stands in it twice.
@@ -173,7 +186,9 @@ fn refused_threads() -> [Refusal; 2] {
     let table = MoveTable::new(&[0x50000], &[0x90000]);
     let refused = |count| {
         let frames = vec![Frame::new(0x1020, 0, 0x7000); count];
-        let moved = treskibben::relocate_thread(section, &mut [0; 24], 0x7000, table, &frames);
+        let machine = Machine::Amd64;
+        let moved =
+            treskibben::relocate_thread(section, &mut [0; 24], 0x7000, table, machine, &frames);
         Refusal::from(moved.unwrap_err())
     };
     [refused(4_097), refused(2)]
@@ -210,7 +225,9 @@ fn refused_flat() -> [Refusal; 6] {
 /// other number.
 #[test]
 fn the_words_are_those_of_the_table() {
-    let table = table(include_str!("../../docs/REFUSALS.md"));
+    let mut table = table(include_str!("../../docs/REFUSALS.md"));
+    let no_machine = table.remove(&NO_MACHINE);
+    assert_eq!(no_machine.as_deref(), Some("machine not known"));
     assert_eq!(
         table.keys().copied().collect::<Vec<u64>>(),
         (1..=29).chain(36..=41).collect::<Vec<u64>>()

@@ -19,7 +19,7 @@ mod worked;
 
 use calls::{Call, Outcome};
 use common::{count_random, nth_version, say};
-use generator::frames::faults::aim;
+use generator::frames::faults::{aim, other_machine};
 use generator::frames::shuffle;
 use generator::frames::thread::Thread;
 use generator::{aimed, damage, section_in, Rng, Version};
@@ -33,17 +33,17 @@ const LISTS_A_PART: u64 = 200;
 const OF_FRAME: [u64; 10] = [10, 12, 15, 16, 17, 18, 19, 20, 21, 26];
 
 /// The other numbers that are no refusal of the section itself: acceptance, and what all frames share.
-const OF_LIST: [u64; 4] = [0, 13, 14, 25];
+const OF_LIST: [u64; 5] = [0, 13, 14, 25, 33];
 
 /// The numbers that a list of frames never gets.
-const NEVER: [usize; 4] = [11, 22, 23, 24];
+const NEVER: [usize; 10] = [11, 22, 23, 24, 27, 28, 29, 30, 31, 32];
 
 /// How often a number must occur at a sort of position at least.
 const LEAST_AT: u64 = 80;
 
-/// How often each number was the answer, 0 to 26, for each version that sections were made of; how often
+/// How often each number was the answer, 0 to 33, for each version that sections were made of; how often
 /// each number of a frame was one at each sort of position; and how often each shape was seen.
-const ANSWERS: usize = 27;
+const ANSWERS: usize = 34;
 const NUMBERS: usize = 2 * ANSWERS;
 const AT: usize = OF_FRAME.len() * POSITIONS.len();
 type Counts = [u64; NUMBERS + AT + SHAPES.len()];
@@ -51,9 +51,12 @@ type Counts = [u64; NUMBERS + AT + SHAPES.len()];
 /// A random list, the bytes of its section, and what is known of it: number and place.
 fn case(rng: &mut Rng) -> (Thread, Vec<u8>, Option<(u64, u64)>) {
     let mut thread = Thread::any(rng);
+    if rng.one_in(16) {
+        other_machine(&mut thread.scene);
+    }
     let mut known = Some(thread.answer());
-    // What all frames share; 13 is looked for before 14, and the section's own before both.
-    for number in [14, 13] {
+    // What all frames share; 33 is looked for before 13, 13 before 14, and the section's own before all.
+    for number in [14, 13, 33] {
         if rng.one_in(24) && aim(rng, number, &mut thread.scene, 0).is_some() {
             known = Some((number, 0));
         }
@@ -145,7 +148,7 @@ fn random_lists() {
             "{lists} lists of version {of}, {} accepted",
             numbers[0]
         ));
-        say(&format!("refused by 1 to 26: {:?}", &numbers[1..]));
+        say(&format!("refused by 1 to 33: {:?}", &numbers[1..]));
         for number in NEVER {
             assert_eq!(numbers[number], 0, "{number} is no answer of a thread");
         }

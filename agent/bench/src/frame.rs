@@ -4,7 +4,7 @@
 use crate::measure::{measure, say, table, Row};
 use crate::section::{statepoint_with_pairs, STATEPOINT};
 use std::hint::black_box;
-use treskibben::{Frame, MoveTable};
+use treskibben::{Frame, Machine, MoveTable};
 
 const CHECK: &str = "treskibben check";
 const LARGE: &str = "one frame on the large section";
@@ -67,6 +67,7 @@ fn on_large(rounds: usize, bytes: &[u8]) -> Vec<Row> {
             &mut image,
             STACK,
             MoveTable::default(),
+            Machine::Amd64,
             frame,
         )
     };
@@ -80,7 +81,7 @@ fn on_large(rounds: usize, bytes: &[u8]) -> Vec<Row> {
     let Some((address, count)) = addresses.take(100).find_map(moved) else {
         panic!("no frame can be moved")
     };
-    println!("\nthe frame on the large section has {count} pairs");
+    println!("\nthe frame on the large section has {count} pointers");
     measure(
         rounds,
         &mut [
@@ -117,7 +118,8 @@ impl Stack {
         let table = MoveTable::new(&self.olds, &self.news);
         for _ in 0..TIMES {
             let section = black_box(&self.section);
-            let moved = treskibben::relocate(section, &mut self.image, STACK, table, self.frame);
+            let (image, machine) = (&mut self.image, Machine::Amd64);
+            let moved = treskibben::relocate(section, image, STACK, table, machine, self.frame);
             assert!(black_box(moved).is_ok(), "the library refuses the frame");
         }
     }
@@ -125,14 +127,14 @@ impl Stack {
     fn by_reference(&mut self) {
         let Frame {
             address,
-            rbp,
-            rsp,
+            frame_pointer,
+            stack_pointer,
             function,
         } = self.frame;
         let frame = reference::Frame {
             address,
-            rbp,
-            rsp,
+            frame_pointer,
+            stack_pointer,
             function,
         };
         for _ in 0..TIMES {
@@ -143,6 +145,7 @@ impl Stack {
                 STACK,
                 &self.olds,
                 &self.news,
+                Machine::Amd64.number(),
                 frame,
             );
             assert!(
@@ -157,7 +160,8 @@ fn on_small(rounds: usize) -> Vec<Row> {
     let (mut many, mut second, mut few) = (Stack::new(PAIRS), Stack::new(PAIRS), Stack::new(0));
     let before = many.image.clone();
     let table = MoveTable::new(&many.olds, &many.news);
-    let moved = treskibben::relocate(&many.section, &mut many.image, STACK, table, many.frame);
+    let (image, machine) = (&mut many.image, Machine::Amd64);
+    let moved = treskibben::relocate(&many.section, image, STACK, table, machine, many.frame);
     assert_eq!(moved, Ok(PAIRS), "the frame on the small section");
     assert!(many
         .image

@@ -4,7 +4,7 @@
 use crate::measure::{measure, say, table};
 use crate::section;
 use std::hint::black_box;
-use treskibben::{Frame, Index, MoveTable};
+use treskibben::{Frame, Index, Machine, MoveTable};
 
 const CHECK: &str = "treskibben check";
 const FIND: &str = "question by address";
@@ -110,6 +110,7 @@ fn on(rounds: usize, name: &str, bytes: &[u8]) {
             &mut image,
             STACK,
             stack.table(),
+            Machine::Amd64,
             one[0],
         ));
     };
@@ -205,8 +206,9 @@ impl Stack {
     }
 
     pub fn moved(&self, section: &[u8], frames: &[Frame], image: &mut [u8]) -> usize {
-        let moved =
-            treskibben::relocate_thread(black_box(section), image, STACK, self.table(), frames);
+        let (table, machine) = (self.table(), Machine::Amd64);
+        let section = black_box(section);
+        let moved = treskibben::relocate_thread(section, image, STACK, table, machine, frames);
         moved.unwrap_or_else(|refusal| panic!("the library refuses the thread: {refusal}"))
     }
 
@@ -226,7 +228,8 @@ impl Stack {
 
     /// Moves the frames with an index of the section.
     pub fn moved_by(&self, index: &Index, frames: &[Frame], image: &mut [u8]) -> usize {
-        let moved = black_box(index).relocate_thread(image, STACK, self.table(), frames);
+        let (table, machine) = (self.table(), Machine::Amd64);
+        let moved = black_box(index).relocate_thread(image, STACK, table, machine, frames);
         moved.unwrap_or_else(|refusal| panic!("the library refuses the thread: {refusal}"))
     }
 }
@@ -282,6 +285,7 @@ mod tests {
                     STACK,
                     &stack.objects,
                     &stack.objects,
+                    Machine::Amd64.number(),
                     numbers,
                 );
                 assert!(

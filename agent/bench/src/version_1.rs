@@ -4,7 +4,7 @@
 use crate::measure::{measure, say, table, Row};
 use reference::{RecordData, Section};
 use std::hint::black_box;
-use treskibben::{Frame, MoveTable};
+use treskibben::{Frame, Machine, MoveTable};
 
 const CHECK_3: &str = "check, version 3";
 const CHECK: &str = "check, version 1";
@@ -168,7 +168,7 @@ impl Stack {
             let place = Place::of(section, number);
             stack.frame = Frame::in_function(place.function, place.offset, 0, STACK);
             if let Some(count) = stack.moved(older).filter(|count| *count > 0) {
-                println!("\nthe frame on the version 1 section has {count} pairs");
+                println!("\nthe frame on the version 1 section has {count} pointers");
                 return stack;
             }
         }
@@ -181,6 +181,7 @@ impl Stack {
             &mut self.image,
             STACK,
             MoveTable::default(),
+            Machine::Amd64,
             self.frame,
         )
         .ok()

@@ -192,7 +192,7 @@ impl<'a> Sizes<'a> {
     /// The first byte of a frame's extent and the first after it.
     fn extent(&self, frame: &Frame) -> Option<(u128, u128)> {
         let (_, size) = self.function(frame).filter(|(_, size)| *size != UNKNOWN)?;
-        let first = u128::from(frame.rsp);
+        let first = u128::from(frame.stack_pointer);
         Some((first, first + u128::from(size)))
     }
 

@@ -2,9 +2,10 @@
 //! 1, by the number of its function and an offset: each version has lines of its own.
 
 use crate::found::not_in_function;
-use crate::library::Frame;
+use crate::library::{self, Frame};
 use crate::lists::{is_not, number, read, Entry, Form};
 use crate::numbers::in_function;
+use crate::registers::Machine;
 use crate::trouble::Trouble;
 use std::path::Path;
 
@@ -15,7 +16,7 @@ pub enum Naming {
     InFunction,
 }
 
-/// The numbers of a line in the library's order: address or offset, RBP, RSP, function.
+/// The numbers of a line in the library's order: address or offset, frame pointer, stack pointer, function.
 type Numbers = [u64; 4];
 
 impl Naming {
@@ -29,15 +30,21 @@ impl Naming {
     }
 
     /// What a line looks like.
-    fn form(self) -> Form<Numbers> {
+    fn form(self, machine: Machine) -> Form<Numbers> {
+        let names = match (self, machine) {
+            (Naming::Address, Machine::X86_64) => "ADDRESS RBP RSP",
+            (Naming::Address, Machine::Aarch64) => "ADDRESS X29 SP",
+            (Naming::InFunction, Machine::X86_64) => "FUNCTION+OFFSET RBP RSP",
+            (Naming::InFunction, Machine::Aarch64) => "FUNCTION+OFFSET X29 SP",
+        };
         match self {
             Naming::Address => Form {
-                names: "ADDRESS RBP RSP",
+                names,
                 words: 3,
                 take: other_word,
             },
             Naming::InFunction => Form {
-                names: "FUNCTION+OFFSET RBP RSP",
+                names,
                 words: 3,
                 take: |numbers, nth, word| match nth {
                     0 => first_word(numbers, word),
@@ -48,14 +55,19 @@ impl Naming {
     }
 
     /// The frames of a list.
-    pub fn read(self, path: &Path, text: &[u8]) -> Result<Vec<Entry<Frame>>, Trouble> {
-        let entries = read(path, text, &self.form())?;
+    pub fn read(
+        self,
+        machine: Machine,
+        path: &Path,
+        text: &[u8],
+    ) -> Result<Vec<Entry<Frame>>, Trouble> {
+        let entries = read(path, text, &self.form(machine))?;
         let frame = |Entry { line, value }: Entry<Numbers>| {
-            let [address, rbp, rsp, function] = value;
+            let [address, frame_pointer, stack_pointer, function] = value;
             let value = Frame {
                 address,
-                rbp,
-                rsp,
+                frame_pointer,
+                stack_pointer,
                 function,
             };
             Entry { line, value }
@@ -71,19 +83,22 @@ impl Naming {
         }
     }
 
-    /// A frame in words.
-    pub fn words(self, frame: &Frame) -> String {
+    /// A frame in words, with the machine's names of its registers.
+    pub fn words(self, machine: Machine, frame: &Frame) -> String {
         let Frame {
             address,
-            rbp,
-            rsp,
+            frame_pointer,
+            stack_pointer,
             function,
         } = frame;
+        let [of_frame, of_stack] = library::pointers_of(machine);
+        let of_frame = machine.register(of_frame);
+        let of_stack = machine.register(of_stack);
         let place = match self {
             Naming::Address => format!("address {address:#x}"),
             Naming::InFunction => format!("function {function}, offset {address:#x}"),
         };
-        format!("{place}, RBP {rbp:#x}, RSP {rsp:#x}")
+        format!("{place}, {of_frame} {frame_pointer:#x}, {of_stack} {stack_pointer:#x}")
     }
 }
 
@@ -110,7 +125,7 @@ mod tests {
     use crate::lists::entry;
 
     fn numbers(naming: Naming, line: &str) -> Result<Option<Numbers>, String> {
-        entry(line.as_bytes(), &naming.form())
+        entry(line.as_bytes(), &naming.form(Machine::Aarch64))
     }
 
     #[test]
@@ -162,9 +177,11 @@ mod tests {
     #[test]
     fn frames_in_words() {
         let frame = Frame::in_function(10, 0x20, 1, 0x7000);
-        let words = Naming::InFunction.words(&frame);
+        let words = Naming::InFunction.words(Machine::X86_64, &frame);
         assert_eq!(words, "function 10, offset 0x20, RBP 0x1, RSP 0x7000");
-        let words = Naming::Address.words(&frame);
+        let words = Naming::Address.words(Machine::X86_64, &frame);
         assert_eq!(words, "address 0x20, RBP 0x1, RSP 0x7000");
+        let words = Naming::Address.words(Machine::Aarch64, &frame);
+        assert_eq!(words, "address 0x20, X29 0x1, SP 0x7000");
     }
 }

@@ -2,6 +2,7 @@
 //!
 //! Every answer on a section, a listing or a frame comes from the crate `treskibben`.
 
+use crate::registers::Machine;
 use treskibben::{MoveTable, ThreadRefusal};
 
 /// Why a call was refused: number, place and cause.
@@ -81,6 +82,20 @@ pub fn flat_find(section: &[u8], address: u64) -> Result<[usize; 2], Refusal> {
     Ok([found.frame as usize, found.record as usize])
 }
 
+/// A machine as the library knows it.
+fn of_library(machine: Machine) -> treskibben::Machine {
+    match machine {
+        Machine::X86_64 => treskibben::Machine::Amd64,
+        Machine::Aarch64 => treskibben::Machine::Aarch64,
+    }
+}
+
+/// The DWARF numbers of a machine's frame pointer and stack pointer.
+pub fn pointers_of(machine: Machine) -> [u16; 2] {
+    let machine = of_library(machine);
+    [machine.frame_pointer(), machine.stack_pointer()]
+}
+
 /// Moves all frames of a thread or none, and gives the sum of their pointers. A refusal comes with the
 /// position of the frame to blame, if it is one frame.
 pub fn relocate_thread(
@@ -88,10 +103,11 @@ pub fn relocate_thread(
     image: &mut [u8],
     first: u64,
     table: &Table,
+    machine: Machine,
     frames: &[Frame],
 ) -> Result<u64, (Refusal, Option<usize>)> {
-    let moves = MoveTable::new(&table.old, &table.new);
-    let pointers = treskibben::relocate_thread(section, image, first, moves, frames);
+    let (moves, machine) = (MoveTable::new(&table.old, &table.new), of_library(machine));
+    let pointers = treskibben::relocate_thread(section, image, first, moves, machine, frames);
     let told = |refusal: ThreadRefusal| {
         (
             treskibben::Refusal::from(refusal).into(),
@@ -108,10 +124,12 @@ pub fn pair_at_fault(
     image: &[u8],
     first: u64,
     table: &Table,
+    machine: Machine,
     frame: Frame,
 ) -> Option<u64> {
-    let moves = MoveTable::new(&table.old, &table.new);
-    let refused = treskibben::relocate(section, &mut image.to_vec(), first, moves, frame).err()?;
+    let (moves, machine) = (MoveTable::new(&table.old, &table.new), of_library(machine));
+    let image = &mut image.to_vec();
+    let refused = treskibben::relocate(section, image, first, moves, machine, frame).err()?;
     matches!(refused.number(), 18..=21).then_some(refused.place())
 }
 

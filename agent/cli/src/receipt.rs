@@ -22,6 +22,9 @@ pub struct Receipt {
     pub section: Entry,
     pub moves: Entry,
     pub frames: Entry,
+    /// The machine that the frames are of. Receipts from before there were two have none.
+    #[serde(default)]
+    pub machine: String,
     /// The address of the image's first byte.
     pub first: String,
     pub before: Entry,

@@ -1,12 +1,12 @@
 //! The names of registers by their DWARF numbers.
 
-/// A machine whose registers have names here.
+/// A machine whose registers have names here, and whose frames are moved.
 #[derive(Clone, Copy, Debug, Default, PartialEq, Eq, clap::ValueEnum)]
 pub enum Machine {
     #[default]
-    #[value(name = "x86-64")]
+    #[value(name = "x86-64", aliases = ["amd64", "x86_64"])]
     X86_64,
-    #[value(name = "aarch64")]
+    #[value(name = "aarch64", alias = "arm64")]
     Aarch64,
 }
 
@@ -85,6 +85,14 @@ const AARCH64_BANKS: &[Bank] = &[
 ];
 
 impl Machine {
+    /// How it is called.
+    pub fn name(self) -> &'static str {
+        match self {
+            Machine::X86_64 => "x86-64",
+            Machine::Aarch64 => "aarch64",
+        }
+    }
+
     /// The name of a register; its number where it has no name.
     pub fn register(self, number: u16) -> String {
         let (rows, banks) = match self {

@@ -2,7 +2,7 @@
 
 use std::ffi::OsString;
 use std::fmt;
-use treskibben::{Found, Frame, Location, LocationKind, MoveTable, Refusal};
+use treskibben::{Found, Frame, Location, LocationKind, Machine, MoveTable, Refusal};
 
 /// The place of a record: an address or, for version 1, a function's number and an offset.
 pub enum Place {
@@ -128,7 +128,8 @@ pub fn moved(section: &[u8], place: &Place, table: &Moved) -> Result<String, Ref
     let [old, new] = *table;
     let mut image = SLOTS.map(u64::to_le_bytes).concat();
     let moves = MoveTable::new(&table[..1], &table[1..]);
-    let pointers = treskibben::relocate(section, &mut image, STACK, moves, place.frame())?;
+    let (machine, frame) = (Machine::Amd64, place.frame());
+    let pointers = treskibben::relocate(section, &mut image, STACK, moves, machine, frame)?;
     let mut text =
         format!("{pointers} pointers moved, as the object at {old:#x} is at {new:#x} now");
     for (nth, (before, after)) in SLOTS.iter().zip(image.chunks_exact(8)).enumerate() {

@@ -29,17 +29,23 @@ pub const MOST_POINTERS: usize = 256;
 /// The most frames of a thread.
 pub const MOST_FRAMES: usize = 4_096;
 
-/// The DWARF numbers of the two registers.
-pub(crate) const RBP: u16 = 6;
-pub(crate) const RSP: u16 = 7;
+/// The numbers of the machines, AMD64 and AArch64, each with the DWARF numbers of its frame pointer and its
+/// stack pointer.
+pub const MACHINES: [(u64, [u16; 2]); 2] = [(0, [6, 7]), (1, [29, 31])];
+
+/// The DWARF numbers of frame pointer and stack pointer of the machine with this number.
+pub fn registers(machine: u64) -> [u16; 2] {
+    let own = MACHINES.iter().find(|(number, _)| *number == machine);
+    own.expect("a machine").1
+}
 
 /// A frame, and where its statepoint stands in the section.
 #[derive(Clone, Copy, Debug, PartialEq, Eq)]
 pub struct Stop {
     /// The address of its record; in version 1 the offset.
     pub address: u64,
-    pub rbp: u64,
-    pub rsp: u64,
+    pub frame_pointer: u64,
+    pub stack_pointer: u64,
     /// The number of its record, and that of its function.
     pub record: usize,
     pub function: usize,
@@ -56,6 +62,8 @@ pub struct Scene {
     /// The address of the image's first byte.
     pub first: u64,
     pub table: Table,
+    /// The number of the machine that is handed in.
+    pub machine: u64,
     /// The frames. Their extents share no byte.
     pub stops: Vec<Stop>,
 }
@@ -163,11 +171,12 @@ impl Scene {
         Scene::of_version(rng, version, table, sizes)
     }
 
-    /// Frames of these sizes, with a section of this version.
+    /// Frames of these sizes, with a section of this version, on either machine.
     pub fn of_version(rng: &mut Rng, version: Version, table: Table, sizes: &[Size]) -> Scene {
         let noise = functions::noise(rng, version);
+        let (machine, _) = rng.pick(&MACHINES);
         loop {
-            if let Some(scene) = building::build(rng, &table, sizes, &noise) {
+            if let Some(scene) = building::build(rng, &table, sizes, &noise, machine) {
                 return scene;
             }
         }
@@ -175,14 +184,15 @@ impl Scene {
 
     /// The place of a frame's first byte in the image, as a whole number.
     pub(crate) fn start(&self, stop: usize) -> i128 {
-        i128::from(self.stops[stop].rsp) - i128::from(self.first)
+        i128::from(self.stops[stop].stack_pointer) - i128::from(self.first)
     }
 
-    /// The constants of the section, and its version.
+    /// The constants of the section, its version, and the machine's registers.
     pub(crate) fn pool(&self) -> Pool<'_> {
         Pool {
             version: self.section.version,
             constants: &self.section.constants,
+            registers: registers(self.machine),
         }
     }
 
@@ -196,6 +206,25 @@ impl Scene {
         };
         let function = handed_in.and_then(|named| functions.get(named));
         function.unwrap_or(&functions[own.function]).stack_size
+    }
+
+    /// The same frames on the other machine: its frame pointer stands in every location where this one's
+    /// did, and its stack pointer likewise, and the other way round. All is answered as before.
+    pub fn on_other_machine(&self) -> Scene {
+        let mut scene = self.clone();
+        faults::other_machine(&mut scene);
+        let (own, other) = (registers(self.machine), registers(scene.machine));
+        let exchanged = |register: u16| {
+            let both = own.into_iter().zip(other);
+            let mut both = both.flat_map(|(one, two)| [(one, two), (two, one)]);
+            let found = both.find(|(from, _)| *from == register);
+            found.map_or(register, |(_, to)| to)
+        };
+        let records = scene.section.records.iter_mut();
+        for location in records.flat_map(|record| &mut record.locations) {
+            location.register = exchanged(location.register);
+        }
+        scene
     }
 
     /// The section with the pairs of every statepoint in another order.

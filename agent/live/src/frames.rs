@@ -1,30 +1,32 @@
 //! Finding the frames of a stopped thread.
 //!
-//! A frame's record has its return address; the function's stack size leads from the frame's RSP
-//! to the place where the caller's return address stands, and the caller's RSP is eight above it.
+//! A frame's record has its return address, and the function's stack size leads from the frame's
+//! stack pointer to its end. On AMD64 the caller's return address stands there, and the caller's RSP
+//! is eight above it. On AArch64 the end is the caller's sp, and the return address is in the frame,
+//! where the function's first instructions put it.
 
-use crate::library::Frame;
+use crate::library::{Frame, Machine};
 use crate::maps::{Maps, Place, Site};
-
-/// The DWARF number of RBP.
-pub const RBP: u16 = 6;
-
-/// The DWARF number of RSP.
-pub const RSP: u16 = 7;
+use crate::memory::{word, Memory};
+use crate::prologue::{self, Saved};
 
 /// A frame that was found, with what the maps say of it.
 #[derive(Clone, Debug)]
 pub struct Stopped {
+    /// The machine.
+    pub machine: Machine,
     /// The statepoint.
     pub site: Site,
-    /// Address, RBP and RSP.
+    /// Address, frame pointer and stack pointer.
     pub frame: Frame,
+    /// What the function saved.
+    pub saved: Saved,
 }
 
 impl Stopped {
-    /// The byte after the frame's extent, where the caller's return address stands.
+    /// The byte after the frame's extent.
     pub fn end(&self) -> u64 {
-        self.frame.rsp + self.site.stack_size
+        self.frame.stack_pointer + self.site.stack_size
     }
 
     /// The slots of each pointer of a pair, base first; none where it has none.
@@ -49,19 +51,25 @@ impl Stopped {
 
     /// The addresses of the pointers at a place, which rise.
     fn pointers(&self, place: Place) -> Vec<u64> {
-        let (from, offset, count) = match place {
-            Place::Memory(RBP, offset, count) => (self.frame.rbp, offset, count),
-            Place::Memory(RSP, offset, count) => (self.frame.rsp, offset, count),
-            _ => return Vec::new(),
+        let Place::Memory(register, offset, count) = place else {
+            return Vec::new();
+        };
+        let from = if register == self.machine.frame_pointer() {
+            self.frame.frame_pointer
+        } else if register == self.machine.stack_pointer() {
+            self.frame.stack_pointer
+        } else {
+            return Vec::new();
         };
         let first = from.wrapping_add_signed(offset.into());
         (first..).step_by(8).take(count.into()).collect()
     }
 
-    /// Whether a slot is addressed by RBP.
-    pub fn uses_rbp(&self) -> bool {
+    /// Whether a slot is addressed by the frame pointer.
+    pub fn uses_frame_pointer(&self) -> bool {
+        let own = self.machine.frame_pointer();
         let mut places = self.site.pairs.iter().flatten();
-        places.any(|place| matches!(place, Place::Memory(RBP, ..)))
+        places.any(|place| matches!(place, Place::Memory(register, ..) if *register == own))
     }
 }
 
@@ -74,69 +82,93 @@ pub struct Lost {
     pub address: u64,
 }
 
-/// All frames of a program from the stopped call up, deepest first. The walk ends at the first
-/// address that no map has, which has to be `entered`, the return address of the program itself.
-///
-/// With frame pointers RBP is taken from the chain of saved ones. Without, no slot may be
-/// addressed by RBP, and the frames get 0 for it: RBP is then a register like any other.
-///
-/// # Safety
-///
-/// `deepest` is a frame of this thread that waits for the stopped call, and all bytes from its RSP
-/// to `top` belong to frames that wait.
-pub unsafe fn walk(
-    maps: &Maps,
-    deepest: Frame,
-    chained: bool,
-    entered: u64,
-    top: u64,
-) -> Result<Vec<Stopped>, Lost> {
-    let mut frames = Vec::new();
-    let mut frame = deepest;
-    if !chained {
-        frame.rbp = 0;
-    }
-    while let Some(site) = maps.find(frame.address) {
-        let stopped = Stopped { site, frame };
-        let number = frames.len();
-        assert!(stopped.end() + 8 <= top, "frame {number} has no end");
-        assert!(chained || !stopped.uses_rbp(), "frame {number} uses RBP");
-        // SAFETY: the frame waits, and its caller's return address is below `top`.
-        frame = unsafe { caller(&stopped, chained) };
-        frames.push(stopped);
-    }
-    if frame.address == entered {
-        return Ok(frames);
-    }
-    Err(Lost {
-        frames: frames.len(),
-        address: frame.address,
-    })
+/// A stopped program, as a walk needs it.
+pub struct Thread<'a> {
+    /// The machine.
+    pub machine: Machine,
+    /// Its memory.
+    pub memory: &'a dyn Memory,
+    /// Whether the frame pointer is one in every function.
+    pub chained: bool,
+    /// The return address of the program itself.
+    pub entered: u64,
+    /// An address above all its frames.
+    pub top: u64,
 }
 
-/// The frame above, whether it is one of the program or not.
-///
-/// # Safety
-///
-/// The frame waits, and so does the one that its return address leads to.
-unsafe fn caller(stopped: &Stopped, chained: bool) -> Frame {
-    let end = stopped.end();
-    let mut rbp = 0;
-    if chained {
-        assert_eq!(stopped.frame.rbp + 8, end, "RBP and the stack size");
-        // SAFETY: the word is the last one of the frame.
-        rbp = unsafe { word(stopped.frame.rbp) };
+impl Thread<'_> {
+    /// All frames of a program from the stopped call up, deepest first. The walk ends at the first
+    /// address that no map has, which has to be `entered`.
+    ///
+    /// With frame pointers the frame pointer is taken from the chain of saved ones. Without, no slot
+    /// may be addressed by it, and the frames get 0 for it: it is then a register like any other.
+    ///
+    /// # Safety
+    ///
+    /// `deepest` is a frame of the program that waits for the stopped call, and all bytes from its
+    /// stack pointer to `top` belong to frames that wait.
+    pub unsafe fn walk(&self, maps: &Maps, deepest: Frame) -> Result<Vec<Stopped>, Lost> {
+        let mut frames = Vec::new();
+        let mut frame = deepest;
+        if !self.chained {
+            frame.frame_pointer = 0;
+        }
+        while let Some(site) = maps.find(frame.address) {
+            let stopped = self.stopped(site, frame);
+            let number = frames.len();
+            assert!(stopped.end() + 8 <= self.top, "frame {number} has no end");
+            let by_stack_pointer = self.chained || !stopped.uses_frame_pointer();
+            assert!(by_stack_pointer, "frame {number} uses the frame pointer");
+            // SAFETY: the frame waits, and its caller's return address is below `top`.
+            frame = unsafe { self.caller(&stopped) };
+            frames.push(stopped);
+        }
+        if frame.address == self.entered {
+            return Ok(frames);
+        }
+        Err(Lost {
+            frames: frames.len(),
+            address: frame.address,
+        })
     }
-    // SAFETY: the word is the one after the frame.
-    let address = unsafe { word(end) };
-    Frame::new(address, rbp, end + 8)
-}
 
-/// # Safety
-///
-/// The word belongs to a frame of this thread that waits.
-unsafe fn word(address: u64) -> u64 {
-    let pointer: *const u64 = std::ptr::with_exposed_provenance(address as usize);
-    // SAFETY: the caller's.
-    unsafe { pointer.read_volatile() }
+    fn stopped(&self, site: Site, frame: Frame) -> Stopped {
+        let mut code = vec![0; prologue::length(self.machine)];
+        // SAFETY: the map says that a function of the program is there, and each has more bytes.
+        unsafe { self.memory.read(site.function, &mut code) };
+        Stopped {
+            machine: self.machine,
+            site,
+            frame,
+            saved: prologue::saved(self.machine, &code),
+        }
+    }
+
+    /// The frame above, whether it is one of the program or not.
+    ///
+    /// # Safety
+    ///
+    /// The frame waits, and so does the one that its return address leads to.
+    unsafe fn caller(&self, stopped: &Stopped) -> Frame {
+        let end = stopped.end();
+        // Where the return address stands, and the stack pointer above. The frame pointer points to
+        // the saved one, which stands before the return address.
+        let (at, above) = match self.machine {
+            Machine::Amd64 => (end, end + 8),
+            Machine::Aarch64 => {
+                let below = stopped.saved.return_address;
+                (end - below.expect("a function that calls saves x30"), end)
+            }
+        };
+        let mut chain = 0;
+        if self.chained {
+            let own = stopped.frame.frame_pointer;
+            assert_eq!(own + 8, at, "the frame pointer and the return address");
+            // SAFETY: the word is one of the frame.
+            chain = unsafe { word(self.memory, own) };
+        }
+        // SAFETY: the word is one of the frame or the one after it.
+        let address = unsafe { word(self.memory, at) };
+        Frame::new(address, chain, above)
+    }
 }

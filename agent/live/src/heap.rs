@@ -3,7 +3,9 @@
 //! An object is words of eight bytes: the next object or 0, the side object or 0, the number of
 //! values, and the values.
 
-use crate::system;
+use crate::image::Image;
+use crate::memory::Memory;
+use std::rc::Rc;
 
 /// The length of a heap's mapping in bytes.
 const LENGTH: usize = 8192;
@@ -70,6 +72,7 @@ impl Table {
 
 /// A heap in a mapping of its own, with objects ordered by their addresses.
 pub struct Heap {
+    memory: Rc<dyn Memory>,
     start: u64,
     root: u64,
     objects: Vec<Object>,
@@ -78,8 +81,8 @@ pub struct Heap {
 impl Heap {
     /// The first heap. Its objects touch: one past the end of one is the start of the next, and
     /// before the start of one is inside the one before.
-    pub fn first() -> Heap {
-        let start = system::map(LENGTH);
+    pub fn first(memory: &Rc<dyn Memory>) -> Heap {
+        let start = memory.map(LENGTH);
         let mut objects = Vec::new();
         let mut at = start + LENGTH as u64 / 2;
         for (values, _, _) in OBJECTS {
@@ -87,32 +90,27 @@ impl Heap {
             objects.push(Object { start: at, length });
             at += length;
         }
-        let heap = Heap {
-            start,
-            root: objects[0].start,
-            objects,
-        };
-        heap.fill();
+        let mut words = filled(start);
         let mut value = 1_u64;
-        for (object, (values, next, side)) in heap.objects.iter().zip(OBJECTS) {
-            let address = |number: Option<usize>| number.map_or(0, |n| heap.objects[n].start);
-            heap.set(object.start, address(next));
-            heap.set(object.start + WORD, address(side));
-            heap.set(object.start + 2 * WORD, values as u64);
+        for (object, (values, next, side)) in objects.iter().zip(OBJECTS) {
+            let address = |number: Option<usize>| number.map_or(0, |n| objects[n].start);
+            words.set(object.start, address(next));
+            words.set(object.start + WORD, address(side));
+            words.set(object.start + 2 * WORD, values as u64);
             for at in (object.start..).step_by(8).skip(HEAD).take(values) {
                 value = value
                     .wrapping_mul(6_364_136_223_846_793_005)
                     .wrapping_add(1_442_695);
-                heap.set(at, value >> 20);
+                words.set(at, value >> 20);
             }
         }
-        heap
+        Heap::written(memory, objects[0].start, objects, &words)
     }
 
     /// A copy at other addresses, and the table that leads there. The objects stand in the other
     /// order and apart, so that each moves by a distance of its own.
     pub fn copy(&self) -> (Heap, Table) {
-        let start = system::map(LENGTH);
+        let start = self.memory.map(LENGTH);
         let mut at = start + LENGTH as u64 / 4;
         let mut objects = Vec::new();
         for (number, object) in self.objects.iter().rev().enumerate() {
@@ -127,27 +125,45 @@ impl Heap {
             new: objects.iter().rev().map(|object| object.start).collect(),
         };
         let moved = |old| table.moved(old).expect("objects hold starts of objects");
-        let copy = Heap {
-            start,
-            root: moved(self.root),
-            objects,
-        };
-        copy.fill();
+        let old = self.words();
+        let mut words = filled(start);
         for object in &self.objects {
             let to = moved(object.start);
             for at in (0..object.length).step_by(8) {
-                let word = self.word(object.start + at);
-                copy.set(to + at, if at < 2 * WORD { moved(word) } else { word });
+                let word = old.word(object.start + at);
+                words.set(to + at, if at < 2 * WORD { moved(word) } else { word });
             }
         }
-        (copy, table)
+        let root = moved(self.root);
+        (Heap::written(&self.memory, root, objects, &words), table)
+    }
+
+    /// The heap with these words, of which nothing is in memory yet but its mapping.
+    fn written(memory: &Rc<dyn Memory>, root: u64, objects: Vec<Object>, words: &Image) -> Heap {
+        // SAFETY: the mapping was made for this heap and is as long as the words; no reference
+        // points into it.
+        unsafe { memory.write(words.first, &words.bytes) };
+        Heap {
+            memory: Rc::clone(memory),
+            start: words.first,
+            root,
+            objects,
+        }
+    }
+
+    /// All words of the mapping.
+    fn words(&self) -> Image {
+        let mut words = filled(self.start);
+        // SAFETY: the mapping is this heap's own and can be read until `retire` takes the heap.
+        unsafe { self.memory.read(self.start, &mut words.bytes) };
+        words
     }
 
     /// Makes the heap unreadable for good.
     pub fn retire(self) {
         // SAFETY: the mapping is this heap's own; nothing but words is taken from it, never a
         // reference, and as the heap is given away here, no word is taken any more.
-        unsafe { system::retire(self.start, LENGTH) };
+        unsafe { self.memory.retire(self.start, LENGTH) };
     }
 
     /// The objects, ordered by their addresses.
@@ -159,44 +175,33 @@ impl Heap {
     pub fn root(&self) -> u64 {
         self.root
     }
+}
 
-    fn fill(&self) {
-        for at in (0..LENGTH as u64).step_by(8) {
-            self.set(self.start + at, FILLER);
-        }
-    }
-
-    fn word(&self, address: u64) -> u64 {
-        // SAFETY: the pointer is one to a word of this heap's mapping, which can be read and
-        // written until `retire` takes the heap; no reference points into it.
-        unsafe { self.pointer(address).read() }
-    }
-
-    fn set(&self, address: u64, word: u64) {
-        // SAFETY: as in `word`.
-        unsafe { self.pointer(address).write(word) };
-    }
-
-    /// A pointer to a word, which is wholly inside the mapping.
-    fn pointer(&self, address: u64) -> *mut u64 {
-        assert_eq!(address % WORD, 0, "a word at {address:#x}");
-        assert!(
-            (self.start..self.start + LENGTH as u64).contains(&address),
-            "outside the heap"
-        );
-        std::ptr::with_exposed_provenance_mut(address as usize)
+/// The words of a mapping that no object has yet.
+fn filled(start: u64) -> Image {
+    let words = [FILLER; LENGTH / WORD as usize];
+    Image {
+        first: start,
+        bytes: words.into_iter().flat_map(u64::to_le_bytes).collect(),
     }
 }
 
 #[cfg(test)]
 mod tests {
     use super::*;
+    use crate::system::Own;
+
+    fn first() -> Heap {
+        let memory: Rc<dyn Memory> = Rc::new(Own);
+        Heap::first(&memory)
+    }
 
     /// Each object moves by a distance of its own, its pointers are moved and its values are not.
     #[test]
     fn a_copy_is_the_same_at_other_addresses() {
-        let first = Heap::first();
+        let first = first();
         let (second, table) = first.copy();
+        let (first_words, second_words) = (first.words(), second.words());
         assert!(table.old.is_sorted_by(|one, next| one < next));
         assert!(second.objects.is_sorted_by_key(|object| object.start));
         let distances = table
@@ -214,8 +219,8 @@ mod tests {
             );
             for at in (0..object.length).step_by(8) {
                 let (old, new) = (
-                    first.word(object.start + at),
-                    second.word(copied.start + at),
+                    first_words.word(object.start + at),
+                    second_words.word(copied.start + at),
                 );
                 let expected = if at < 16 { table.moved(old) } else { Some(old) };
                 assert_eq!(Some(new), expected, "object {number}, byte {at}");
@@ -226,7 +231,7 @@ mod tests {
     /// The objects of the first heap touch, so that a pointer out of one is a pointer into another.
     #[test]
     fn the_first_objects_touch() {
-        let objects = Heap::first().objects;
+        let objects = first().objects;
         for two in objects.windows(2) {
             assert_eq!(two[0].start + two[0].length, two[1].start);
         }

@@ -1,5 +1,7 @@
 //! A copy of the bytes of a stack, on which the frames are moved.
 
+use crate::memory::Memory;
+
 /// The bytes of a stack from an address on.
 #[derive(Clone, Debug, PartialEq, Eq)]
 pub struct Image {
@@ -14,14 +16,13 @@ impl Image {
     ///
     /// # Safety
     ///
-    /// The bytes belong to frames of this thread that wait for a call to return.
-    pub unsafe fn take(first: u64, end: u64) -> Image {
+    /// The bytes belong to frames of the program that wait for a call to return.
+    pub unsafe fn take(memory: &dyn Memory, first: u64, end: u64) -> Image {
         let length = usize::try_from(end - first).expect("the end is above the first byte");
         let mut bytes = vec![0; length];
-        let stack: *const u8 = std::ptr::with_exposed_provenance(first as usize);
         // SAFETY: the caller says that the bytes are of frames that wait; the vector is new, so
         // that it is elsewhere.
-        unsafe { stack.copy_to_nonoverlapping(bytes.as_mut_ptr(), length) };
+        unsafe { memory.read(first, &mut bytes) };
         Image { first, bytes }
     }
 
@@ -31,10 +32,9 @@ impl Image {
     ///
     /// As for [`Image::take`]; and the image differs from the stack only in slots that the
     /// compiler expects to change during the calls that the frames wait for.
-    pub unsafe fn put_back(&self) {
-        let stack: *mut u8 = std::ptr::with_exposed_provenance_mut(self.first as usize);
-        // SAFETY: as in `take`.
-        unsafe { stack.copy_from_nonoverlapping(self.bytes.as_ptr(), self.bytes.len()) };
+    pub unsafe fn put_back(&self, memory: &dyn Memory) {
+        // SAFETY: as in `take`, and the caller's.
+        unsafe { memory.write(self.first, &self.bytes) };
     }
 
     /// The word at an address.

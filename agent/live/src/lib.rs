@@ -7,21 +7,27 @@
 //! place ([`library`]), and what is done with its answers is in [`mover`]. Movers that leave
 //! something out are there too: with them the same run has to die.
 //!
-//! The programs are `llvm/live/*.ll`, compiled at -O0 and -O2, with and without frame pointers.
-//! It all works on x86-64 Linux only.
+//! The programs are `llvm/live/*.ll`, compiled at -O0 and -O2, with and without frame pointers, for
+//! x86-64 and for AArch64. Those for x86-64 run in this process ([`system`]). Those for AArch64 run
+//! under qemu ([`guest`]), and their frames are found, and moved by the library, on this side. It all
+//! works on x86-64 Linux only.
 
 #![deny(missing_docs, unsafe_op_in_unsafe_fn)]
 
 #[cfg(not(all(target_arch = "x86_64", target_os = "linux")))]
 compile_error!("the live restore is for x86-64 Linux only");
 
+mod by_x29;
 pub mod frames;
+pub mod guest;
 pub mod heap;
 pub mod image;
 pub mod library;
 pub mod maps;
+pub mod memory;
 pub mod mover;
 pub mod program;
+pub mod prologue;
 pub mod run;
 pub mod shapes;
 mod stop;

@@ -7,7 +7,10 @@ use crate::heap::Table;
 use crate::image::Image;
 use treskibben::{Frames, MoveTable};
 
-/// A stopped frame: its address, RBP and RSP. The maps are of version 3, which reads no function of it.
+/// The machine that a program runs on.
+pub use treskibben::Machine;
+
+/// A stopped frame. The maps are of version 3, which reads no function of it.
 pub use treskibben::Frame;
 
 /// A refusal: its number and its place.
@@ -79,11 +82,13 @@ pub fn relocate(
     map: &[u8],
     image: &mut Image,
     table: &Table,
+    machine: Machine,
     frame: Frame,
 ) -> Result<u64, Refusal> {
     let Image { first, bytes } = image;
     let table = MoveTable::new(&table.old, &table.new);
-    let pointers = treskibben::relocate(map, bytes, *first, table, frame).map_err(plain)?;
+    let moved = treskibben::relocate(map, bytes, *first, table, machine, frame);
+    let pointers = moved.map_err(plain)?;
     Ok(pointers as u64)
 }
 
@@ -92,11 +97,12 @@ pub fn thread(
     map: &[u8],
     image: &mut Image,
     table: &Table,
+    machine: Machine,
     frames: &[Frame],
 ) -> Result<u64, Refusal> {
     let Image { first, bytes } = image;
     let table = MoveTable::new(&table.old, &table.new);
-    let moved = treskibben::relocate_thread(map, bytes, *first, table, frames);
+    let moved = treskibben::relocate_thread(map, bytes, *first, table, machine, frames);
     let pointers = moved.map_err(|refusal| plain(refusal.into()))?;
     Ok(pointers as u64)
 }
@@ -106,11 +112,14 @@ pub fn second_thread(
     map: &[u8],
     image: &mut Image,
     table: &Table,
+    machine: Machine,
     frames: &[Frame],
 ) -> Result<u64, Refusal> {
     let Image { first, bytes } = image;
     let list = Frames::new(frames).numbers();
-    reference::thread(map, bytes, *first, &table.old, &table.new, list).map_err(second_plain)
+    let Table { old, new } = table;
+    let moved = reference::thread(map, bytes, *first, old, new, machine.number(), list);
+    moved.map_err(second_plain)
 }
 
 fn plain(refusal: treskibben::Refusal) -> Refusal {

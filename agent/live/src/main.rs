@@ -1,12 +1,14 @@
 //! Shows a live restore to people, or does one run for the tests.
 //!
-//! `live [PROGRAM]` stops a program (O0, O0-fp, O2, O2-fp), moves its heap and its frames, and
-//! prints what it does. `live brief PROGRAM` stops it once, with the move and without, and says in a
-//! few lines how both end; exit status 0 where they end as they should, else 1.
+//! `live [PROGRAM]` stops a program (O0, O0-fp, O2, O2-fp, each also with `vectors-`, `aarch64-` or
+//! `aarch64-vectors-` before it), moves its heap and its frames, and prints what it does. `live brief
+//! PROGRAM` stops it once, with the move and without, and says in a few lines how both end; exit
+//! status 0 where they end as they should, else 1.
 //!
 //! `live run PROGRAM MOVER STOPS` does one run and prints its counts. STOPS is `all`, or the
 //! number of one stop. Exit status: 0 where the checksum is that of a run without any stop, 1 where
-//! it is another, 2 where the call is wrong, 3 where nothing was moved at some stop.
+//! it is another, 2 where the call is wrong, 3 where nothing was moved at some stop, 4 where a program
+//! for AArch64 died under the emulator. A program of this machine dies with this process.
 
 mod report;
 
@@ -42,7 +44,7 @@ fn one_run(program: &str, mover: &str, stops: &str) -> Option<ExitCode> {
         "all" => Stops::All,
         number => Stops::Only(number.parse().ok()?),
     };
-    let maps = maps();
+    let maps = maps(program);
     let plain = run(&maps, program, mover, Stops::None);
     let moved = run(&maps, program, mover, stops);
     println!("maps {}", maps.count());

@@ -6,7 +6,7 @@
 use crate::frames::Stopped;
 use crate::heap::{Object, Table};
 use crate::image::Image;
-use crate::library::{self, Frame, Refusal};
+use crate::library::{self, Frame, Machine, Refusal};
 use std::collections::BTreeSet;
 
 /// Who moves the frames.
@@ -22,6 +22,8 @@ pub enum Mover {
     ShortTable,
     /// The library, with the deepest frame once more at the end of the list.
     Twice,
+    /// The library, told that the frames are of the other machine.
+    OtherMachine,
     /// Accepts all frames and writes nothing.
     Nothing,
     /// Writes only pair 0 of each frame.
@@ -42,7 +44,7 @@ pub enum Mover {
 pub const RIGHT: [Mover; 3] = [Mover::Library, Mover::Backwards, Mover::Second];
 
 /// The movers that are refused.
-pub const REFUSED: [Mover; 2] = [Mover::ShortTable, Mover::Twice];
+pub const REFUSED: [Mover; 3] = [Mover::ShortTable, Mover::Twice, Mover::OtherMachine];
 
 /// The movers that leave old pointers: the program dies where it follows one.
 pub const FATAL: [Mover; 4] = [
@@ -87,6 +89,7 @@ impl Mover {
             Mover::Second => "second",
             Mover::ShortTable => "short-table",
             Mover::Twice => "twice",
+            Mover::OtherMachine => "other-machine",
             Mover::Nothing => "nothing",
             Mover::PairZero => "pair-0",
             Mover::FirstPointer => "first-pointer",
@@ -117,6 +120,7 @@ impl Mover {
                 by_map(library::thread, image, frames, &all, &table.without_first())
             }
             Mover::Twice => by_map(library::thread, image, frames, &twice(), table),
+            Mover::OtherMachine => by_map(of_the_other, image, frames, &all, table),
             _ => one_by_one(frames, |frame, stopped| match self {
                 Mover::PairZero => some(image, stopped, table, |pair, _| pair == 0),
                 Mover::FirstPointer => some(image, stopped, table, |_, pointer| pointer == 0),
@@ -131,7 +135,21 @@ impl Mover {
 }
 
 /// A move of all frames of a list by the map that they are in.
-type Thread = fn(&[u8], &mut Image, &Table, &[Frame]) -> Result<u64, Refusal>;
+type Thread = fn(&[u8], &mut Image, &Table, Machine, &[Frame]) -> Result<u64, Refusal>;
+
+fn of_the_other(
+    map: &[u8],
+    image: &mut Image,
+    table: &Table,
+    machine: Machine,
+    frames: &[Frame],
+) -> Result<u64, Refusal> {
+    let other = match machine {
+        Machine::Amd64 => Machine::Aarch64,
+        Machine::Aarch64 => Machine::Amd64,
+    };
+    library::thread(map, image, table, other, frames)
+}
 
 /// Moves the frames of each map in one call, in this order.
 fn by_map(
@@ -147,7 +165,8 @@ fn by_map(
         let in_map = |frame: &usize| frames[*frame].site.map == map;
         let own: Vec<usize> = order.iter().copied().filter(in_map).collect();
         let list: Vec<Frame> = own.iter().map(|frame| frames[*frame].frame).collect();
-        let moved = thread(frames[own[0]].site.bytes, image, table, &list);
+        let Stopped { machine, site, .. } = &frames[own[0]];
+        let moved = thread(site.bytes, image, table, *machine, &list);
         pointers += moved.map_err(|refusal| RefusedFrame {
             frame: own[refusal.1 as usize],
             refusal,
@@ -169,7 +188,8 @@ fn one_by_one(
 }
 
 fn relocate(image: &mut Image, stopped: &Stopped, table: &Table) -> Result<u64, Refusal> {
-    library::relocate(stopped.site.bytes, image, table, stopped.frame)
+    let Stopped { machine, site, .. } = stopped;
+    library::relocate(site.bytes, image, table, *machine, stopped.frame)
 }
 
 /// Moves a frame, and writes only the pointers for which it is said, by the number of the pair and

@@ -1,7 +1,10 @@
-//! The programs that `llvm/live/build` compiled, and the stack map section that came with them.
+//! The programs that `llvm/live/build` compiled, and the stack map sections that came with them.
 
-/// The entry of a program: the address of its first object, and a number that takes part in the
-/// checksum.
+use crate::library::Machine;
+use crate::{by_x29, guest};
+
+/// The entry of a program of this machine: the address of its first object, and a number that takes
+/// part in the checksum.
 pub(crate) type Entry = unsafe extern "C" fn(root: u64, seed: u64) -> u64;
 
 extern "C" {
@@ -18,6 +21,27 @@ extern "C" {
     static live_maps_end: u8;
 }
 
+/// Where a program is.
+#[derive(Debug)]
+pub(crate) enum Code {
+    /// In this process.
+    Here(Entry),
+    /// In a file for AArch64, which has two programs.
+    Guest(Guest),
+}
+
+/// Where a program for AArch64 is, and how its slots are addressed.
+#[derive(Debug)]
+pub(crate) struct Guest {
+    /// The file.
+    pub(crate) file: &'static str,
+    /// The program's number in it.
+    pub(crate) number: u64,
+    /// Whether the maps are changed so that each slot that was addressed by sp is addressed by x29. It
+    /// is where it was.
+    pub(crate) by_x29: bool,
+}
+
 /// One compilation of the program.
 #[derive(Debug)]
 pub struct Program {
@@ -25,80 +49,131 @@ pub struct Program {
     pub name: &'static str,
     /// How it was compiled, for people.
     pub compiled: &'static str,
-    /// Whether RBP is the frame pointer in every function.
+    /// The machine that it was compiled for.
+    pub machine: Machine,
+    /// Whether the frame pointer is one in every function.
     pub frame_pointers: bool,
-    pub(crate) entry: Entry,
+    pub(crate) code: Code,
 }
+
+impl Program {
+    /// A program of this machine.
+    const fn here(name: &'static str, how: How, entry: Entry) -> Program {
+        Program {
+            name,
+            compiled: how.0,
+            machine: Machine::Amd64,
+            frame_pointers: how.1,
+            code: Code::Here(entry),
+        }
+    }
+
+    /// A program for AArch64.
+    const fn guest(name: &'static str, how: How, file: &'static str, number: u64) -> Program {
+        Program {
+            name,
+            compiled: how.0,
+            machine: Machine::Aarch64,
+            frame_pointers: how.1,
+            code: Code::Guest(Guest {
+                file,
+                number,
+                by_x29: false,
+            }),
+        }
+    }
+
+    /// The same program, with slots that are addressed by x29.
+    const fn by_x29(self) -> Program {
+        let Code::Guest(Guest { file, number, .. }) = self.code else {
+            panic!("it is not for AArch64");
+        };
+        Program {
+            code: Code::Guest(Guest {
+                file,
+                number,
+                by_x29: true,
+            }),
+            ..self
+        }
+    }
+}
+
+/// How a program was compiled, and whether with frame pointers.
+type How = (&'static str, bool);
+const O0: How = ("-O0, without frame pointers", false);
+const O0_FP: How = ("-O0, with frame pointers", true);
+const O2: How = ("-O2, without frame pointers", false);
+const O2_FP: How = ("-O2, with frame pointers", true);
+const O2_PUSHED: How = (
+    "-O2, without frame pointers and without -no-x86-call-frame-opt",
+    false,
+);
+const AARCH64_O0: How = ("for AArch64 at -O0, without frame pointers", false);
+const AARCH64_O0_FP: How = ("for AArch64 at -O0, with frame pointers", true);
+const AARCH64_O2: How = ("for AArch64 at -O2, without frame pointers", false);
+const AARCH64_O2_FP: How = ("for AArch64 at -O2, with frame pointers", true);
+const AARCH64_O0_X29: How = ("for AArch64 at -O0, with slots at frame pointers", true);
+const AARCH64_O2_X29: How = ("for AArch64 at -O2, with slots at frame pointers", true);
 
 /// The programs that walk objects, and have pairs of one pointer.
 pub static PROGRAMS: [Program; 4] = [
-    Program {
-        name: "O0",
-        compiled: "-O0, without frame pointers",
-        frame_pointers: false,
-        entry: live_run_O0,
-    },
-    Program {
-        name: "O0-fp",
-        compiled: "-O0, with frame pointers",
-        frame_pointers: true,
-        entry: live_run_O0_fp,
-    },
-    Program {
-        name: "O2",
-        compiled: "-O2, without frame pointers",
-        frame_pointers: false,
-        entry: live_run_O2,
-    },
-    Program {
-        name: "O2-fp",
-        compiled: "-O2, with frame pointers",
-        frame_pointers: true,
-        entry: live_run_O2_fp,
-    },
+    Program::here("O0", O0, live_run_O0),
+    Program::here("O0-fp", O0_FP, live_run_O0_fp),
+    Program::here("O2", O2, live_run_O2),
+    Program::here("O2-fp", O2_FP, live_run_O2_fp),
 ];
 
 /// The programs whose frames hold vectors: their pairs have up to 256 pointers.
 pub static VECTORS: [Program; 4] = [
-    Program {
-        name: "vectors-O0",
-        compiled: "-O0, without frame pointers",
-        frame_pointers: false,
-        entry: live_vectors_O0,
-    },
-    Program {
-        name: "vectors-O0-fp",
-        compiled: "-O0, with frame pointers",
-        frame_pointers: true,
-        entry: live_vectors_O0_fp,
-    },
-    Program {
-        name: "vectors-O2",
-        compiled: "-O2, without frame pointers",
-        frame_pointers: false,
-        entry: live_vectors_O2,
-    },
-    Program {
-        name: "vectors-O2-fp",
-        compiled: "-O2, with frame pointers",
-        frame_pointers: true,
-        entry: live_vectors_O2_fp,
-    },
+    Program::here("vectors-O0", O0, live_vectors_O0),
+    Program::here("vectors-O0-fp", O0_FP, live_vectors_O0_fp),
+    Program::here("vectors-O2", O2, live_vectors_O2),
+    Program::here("vectors-O2-fp", O2_FP, live_vectors_O2_fp),
+];
+
+/// The files for AArch64, beside each of which its section lies.
+const FILE_O0: &str = concat!(env!("OUT_DIR"), "/guest.O0");
+const FILE_O0_FP: &str = concat!(env!("OUT_DIR"), "/guest.O0_fp");
+const FILE_O2: &str = concat!(env!("OUT_DIR"), "/guest.O2");
+const FILE_O2_FP: &str = concat!(env!("OUT_DIR"), "/guest.O2_fp");
+
+/// The programs that walk objects, for AArch64.
+pub static AARCH64: [Program; 4] = [
+    Program::guest("aarch64-O0", AARCH64_O0, FILE_O0, 0),
+    Program::guest("aarch64-O0-fp", AARCH64_O0_FP, FILE_O0_FP, 0),
+    Program::guest("aarch64-O2", AARCH64_O2, FILE_O2, 0),
+    Program::guest("aarch64-O2-fp", AARCH64_O2_FP, FILE_O2_FP, 0),
+];
+
+/// The programs whose frames hold vectors, for AArch64.
+pub static AARCH64_VECTORS: [Program; 4] = [
+    Program::guest("aarch64-vectors-O0", AARCH64_O0, FILE_O0, 1),
+    Program::guest("aarch64-vectors-O0-fp", AARCH64_O0_FP, FILE_O0_FP, 1),
+    Program::guest("aarch64-vectors-O2", AARCH64_O2, FILE_O2, 1),
+    Program::guest("aarch64-vectors-O2-fp", AARCH64_O2_FP, FILE_O2_FP, 1),
+];
+
+/// The programs for AArch64 with frame pointers, whose maps are changed: LLVM 14 addresses the slots of
+/// statepoints by sp wherever the stack size is known, and in these maps they are addressed by x29.
+pub static AARCH64_BY_X29: [Program; 4] = [
+    Program::guest("aarch64-O0-fp-x29", AARCH64_O0_X29, FILE_O0_FP, 0).by_x29(),
+    Program::guest("aarch64-O2-fp-x29", AARCH64_O2_X29, FILE_O2_FP, 0).by_x29(),
+    Program::guest("aarch64-vectors-O0-fp-x29", AARCH64_O0_X29, FILE_O0_FP, 1).by_x29(),
+    Program::guest("aarch64-vectors-O2-fp-x29", AARCH64_O2_X29, FILE_O2_FP, 1).by_x29(),
 ];
 
 /// The program whose calls push their arguments: the stack size of such a function leaves the
 /// pushed bytes out, so that the frames above cannot be found by it and the program must not be
 /// moved.
-pub static PUSHED: Program = Program {
-    name: "O2-pushed",
-    compiled: "-O2, without frame pointers and without -no-x86-call-frame-opt",
-    frame_pointers: false,
-    entry: live_run_O2_pushed,
-};
+pub static PUSHED: Program = Program::here("O2-pushed", O2_PUSHED, live_run_O2_pushed);
 
-/// How many maps the section has: of the programs that walk objects each is two objects, of those
-/// with vectors one.
+/// How many maps the section of the programs of this machine has: of those that walk objects each is
+/// two objects, of those with vectors one.
 pub const MAPS: usize = 14;
+
+/// How many maps a section for AArch64 has: one file is both programs.
+pub const GUEST_MAPS: usize = 3;
 
 /// The function of each statepoint, by its ID from 1.
 const FUNCTIONS: [&str; 13] = [
@@ -132,13 +207,32 @@ impl Program {
         PROGRAMS
             .iter()
             .chain(&VECTORS)
+            .chain(&AARCH64)
+            .chain(&AARCH64_VECTORS)
+            .chain(&AARCH64_BY_X29)
             .chain([&PUSHED])
             .find(|program| program.name == name)
     }
+
+    /// The bytes of the `.llvm_stackmaps` that the program's maps are in, one after the other. They
+    /// are never given back.
+    pub fn section(&self) -> &'static [u8] {
+        let Code::Guest(guest) = &self.code else {
+            return section();
+        };
+        let file = format!("{}.section", guest.file);
+        let read = std::fs::read(&file);
+        let section = read.unwrap_or_else(|error| panic!("{file} cannot be read: {error}"));
+        if guest.by_x29 {
+            by_x29::changed(section, &guest::Guest::start(guest.file)).leak()
+        } else {
+            section.leak()
+        }
+    }
 }
 
-/// The bytes of `.llvm_stackmaps`, all maps of all programs.
-pub fn section() -> &'static [u8] {
+/// The bytes of `.llvm_stackmaps`, all maps of all programs of this machine.
+fn section() -> &'static [u8] {
     let (begin, end) = (&raw const live_maps_begin, &raw const live_maps_end);
     // SAFETY: `llvm/live/build` put the two symbols at the first byte of the section and after its
     // last. The loader wrote its addresses before `main`, and nobody writes it any more.

@@ -1,7 +1,9 @@
 //! A live restore, told to people.
 
-use live::frames::{Stopped, RBP};
+use live::frames::Stopped;
+use live::guest::DIED;
 use live::image::Image;
+use live::library::Machine;
 use live::maps::Place;
 use live::mover::{Mover, FATAL, WRONG};
 use live::program::{function, Program};
@@ -29,7 +31,7 @@ pub fn trouble(trouble: Trouble) -> String {
 /// Runs a program and shows its stops; nothing where its name is not known.
 pub fn show(name: &str) -> Option<ExitCode> {
     let program = Program::named(name)?;
-    let maps = maps();
+    let maps = maps(program);
     println!(
         "{name}: compiled with {}. The section has {} maps.",
         program.compiled,
@@ -66,7 +68,7 @@ pub fn show(name: &str) -> Option<ExitCode> {
 /// other dies.
 pub fn brief(name: &str) -> Option<ExitCode> {
     let program = Program::named(name)?;
-    let maps = maps();
+    let maps = maps(program);
     let plain = run(&maps, program, Mover::Library, Stops::None);
     let moved = run(&maps, program, Mover::Library, Stops::Only(0));
     let unmoved = process(name, Mover::Nothing);
@@ -91,8 +93,9 @@ pub fn brief(name: &str) -> Option<ExitCode> {
     );
     // Whoever reads it may have gone away.
     let _ = std::io::stdout().write_all(text.as_bytes());
-    let went_well =
-        right && moved.stops.iter().all(Result::is_ok) && unmoved.status.code().is_none();
+    let went_well = right
+        && moved.stops.iter().all(Result::is_ok)
+        && matches!(unmoved.status.code(), None | Some(DIED));
     Some(ExitCode::from(u8::from(!went_well)))
 }
 
@@ -143,6 +146,7 @@ fn end_of(ran: &Output) -> String {
     let said = String::from_utf8_lossy(&ran.stderr);
     match ran.status.code() {
         None => format!("{} and died, {}", said.trim(), ran.status),
+        Some(DIED) => format!("{} and died under the emulator", said.trim()),
         Some(0) => "came to the RIGHT CHECKSUM".to_string(),
         Some(1) => "came to a wrong checksum".to_string(),
         Some(_) => "was not moved".to_string(),
@@ -156,9 +160,10 @@ fn show_stop(stop: &Stop) {
     show_starts("new", &stop.table.new);
     for (number, stopped) in stop.frames.iter().enumerate() {
         println!(
-            "  frame {number}: {}, RSP {:#x}, size {}, {} pairs, {} pointers",
+            "  frame {number}: {}, {} {:#x}, size {}, {} pairs, {} pointers",
             function(stopped.site.id),
-            stopped.frame.rsp,
+            names(stopped.machine)[1],
+            stopped.frame.stack_pointer,
             stopped.site.stack_size,
             stopped.site.pairs.len(),
             stopped.pointer_count(),
@@ -184,7 +189,7 @@ fn show_starts(heap: &str, starts: &[u64]) {
 /// Shows a pair: its places, and each derived pointer before and after. Of many pointers only the
 /// first ones.
 fn show_pair(stop: &Stop, stopped: &Stopped, pair: [Place; 2]) {
-    let [base, derived] = pair.map(place);
+    let [base, derived] = pair.map(|of_pair| place(stopped.machine, of_pair));
     let slots = stopped.slots(pair);
     if slots.is_empty() {
         println!("    {base:>7} {derived:>7}  null");
@@ -207,11 +212,22 @@ fn show_pair(stop: &Stop, stopped: &Stopped, pair: [Place; 2]) {
     }
 }
 
-fn place(place: Place) -> String {
+/// The names of a machine's frame pointer and of its stack pointer.
+fn names(machine: Machine) -> [&'static str; 2] {
+    match machine {
+        Machine::Amd64 => ["RBP", "RSP"],
+        Machine::Aarch64 => ["x29", "sp"],
+    }
+}
+
+fn place(machine: Machine, place: Place) -> String {
+    let [by_frame_pointer, by_stack_pointer] = names(machine);
     match place {
         Place::Constant(constant) => constant.to_string(),
-        Place::Memory(RBP, offset, _) => format!("RBP{offset:+}"),
-        Place::Memory(_, offset, _) => format!("RSP{offset:+}"),
+        Place::Memory(register, offset, _) if register == machine.frame_pointer() => {
+            format!("{by_frame_pointer}{offset:+}")
+        }
+        Place::Memory(_, offset, _) => format!("{by_stack_pointer}{offset:+}"),
         Place::Other => "?".to_string(),
     }
 }

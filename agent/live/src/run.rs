@@ -1,13 +1,16 @@
 //! One run of a program: stopped, moved and let go on, or only counted.
 
-use crate::frames::{walk, Lost, Stopped};
+use crate::frames::{Lost, Stopped, Thread};
+use crate::guest::{Guest, Told};
 use crate::heap::{Heap, Object, Table};
 use crate::image::Image;
 use crate::library::Frame;
 use crate::maps::Maps;
+use crate::memory::Memory;
 use crate::mover::{Mover, RefusedFrame};
-use crate::program::{self, Program};
+use crate::program::{Code, Program};
 use crate::stop;
+use crate::system::Own;
 use std::rc::Rc;
 
 /// The number that takes part in the checksum; odd, so that `choose` takes its first object.
@@ -94,6 +97,9 @@ pub(crate) struct Running {
     program: &'static Program,
     mover: Mover,
     at: Stops,
+    memory: Rc<dyn Memory>,
+    /// The return address of the call that enters the program.
+    entered: u64,
     /// An address above all frames of the program.
     top: u64,
     heap: Heap,
@@ -101,34 +107,66 @@ pub(crate) struct Running {
     stops: Vec<Result<Stop, Trouble>>,
 }
 
-/// The maps of all programs.
-pub fn maps() -> Rc<Maps> {
-    Rc::new(Maps::cut(program::section()))
+/// The maps of a program, and of others that are in the same section.
+pub fn maps(program: &Program) -> Rc<Maps> {
+    Rc::new(Maps::cut(program.section()))
 }
 
-/// Runs a program on a fresh heap.
+/// Runs a program on a fresh heap. One for AArch64 runs under an emulator; where it dies there, this
+/// process ends.
 pub fn run(maps: &Rc<Maps>, program: &'static Program, mover: Mover, at: Stops) -> Outcome {
-    let heap = Heap::first();
-    let root = heap.root();
-    let mark = 0_u8;
-    let running = Running {
+    let running = |memory: Rc<dyn Memory>, entered, top| Running {
         maps: Rc::clone(maps),
         program,
         mover,
         at,
-        top: (&raw const mark).expose_provenance() as u64,
-        heap,
+        heap: Heap::first(&memory),
+        memory,
+        entered,
+        top,
         passed: 0,
         stops: Vec::new(),
     };
-    // SAFETY: the programs are those of `llvm/live`, and the heap is one of ours. It can be read
-    // until a stop retires it, where the frames move with it; if the mover is a wrong one, the
-    // program is meant to die of it.
-    let (running, checksum) = unsafe { stop::during(running, program.entry, root, SEED) };
+    let (running, checksum) = match &program.code {
+        Code::Here(entry) => {
+            let mark = 0_u8;
+            let top = (&raw const mark).expose_provenance() as u64;
+            let running = running(Rc::new(Own), stop::entered(), top);
+            let root = running.heap.root();
+            // SAFETY: the programs are those of `llvm/live`, and the heap is one of ours. It can be
+            // read until a stop retires it, where the frames move with it; if the mover is a wrong
+            // one, the program is meant to die of it.
+            unsafe { stop::during(running, *entry, root, SEED) }
+        }
+        Code::Guest(code) => {
+            let guest = Rc::new(Guest::start(code.file));
+            let memory: Rc<dyn Memory> = Rc::clone(&guest) as _;
+            guided(
+                &guest,
+                code.number,
+                running(memory, guest.entered, guest.top),
+            )
+        }
+    };
     Outcome {
         checksum,
         passed: running.passed,
         stops: running.stops,
+    }
+}
+
+/// Leads a program under the emulator to its end: the run, and its result.
+fn guided(guest: &Guest, number: u64, mut running: Running) -> (Running, u64) {
+    let mut told = guest.go(running.heap.root(), SEED, number);
+    loop {
+        match told {
+            Told::Stopped(deepest) => {
+                // SAFETY: the frame is one of the emulated program, which waits.
+                unsafe { running.stopped(deepest) };
+                told = guest.go_on();
+            }
+            Told::Ended(checksum) => return (running, checksum),
+        }
     }
 }
 
@@ -137,7 +175,7 @@ impl Running {
     ///
     /// # Safety
     ///
-    /// The frame is of this thread, and the program waits until this returns.
+    /// The frame is of the program, which waits until this returns.
     pub(crate) unsafe fn stopped(&mut self, deepest: Frame) {
         let number = self.passed;
         self.passed += 1;
@@ -154,14 +192,21 @@ impl Running {
     ///
     /// As for `stopped`.
     unsafe fn restore(&mut self, number: usize, deepest: Frame) -> Result<Stop, Trouble> {
-        let chained = self.program.frame_pointers;
-        // SAFETY: the caller's; the program's frames end below a local of the function that called
-        // the program.
-        let walked = unsafe { walk(&self.maps, deepest, chained, stop::entered(), self.top) };
+        let thread = Thread {
+            machine: self.program.machine,
+            memory: &*self.memory,
+            chained: self.program.frame_pointers,
+            entered: self.entered,
+            top: self.top,
+        };
+        // SAFETY: the caller's; the program's frames end below those of the function that called the
+        // program, and `top` is in those.
+        let walked = unsafe { thread.walk(&self.maps, deepest) };
         let frames = walked.map_err(Trouble::Lost)?;
-        let end = frames.iter().map(Stopped::end).max().unwrap_or(deepest.rsp);
+        let first = deepest.stack_pointer;
+        let end = frames.iter().map(Stopped::end).max().unwrap_or(first);
         // SAFETY: all these bytes are of the frames that were found, which wait.
-        let before = unsafe { Image::take(deepest.rsp, end) };
+        let before = unsafe { Image::take(&*self.memory, first, end) };
         let objects = self.heap.objects().to_vec();
         let (new, table) = self.heap.copy();
         let mut after = before.clone();
@@ -182,7 +227,7 @@ impl Running {
         std::mem::replace(&mut self.heap, new).retire();
         // SAFETY: as for `take`; nothing but derived slots has changed, which the program reads
         // again after the calls.
-        unsafe { stop.after.put_back() };
+        unsafe { stop.after.put_back(&*self.memory) };
         Ok(stop)
     }
 }

@@ -67,9 +67,12 @@ impl Shapes {
             "base-not-listed-itself",
             slots.iter().filter(|[base, _]| alone(*base)).count(),
         );
-        self.add("frames-with-rbp-slots", usize::from(stopped.uses_rbp()));
+        self.add(
+            "frames-with-frame-pointer-slots",
+            usize::from(stopped.uses_frame_pointer()),
+        );
         self.add("deopt-values", stopped.site.deopt as usize);
-        self.add("saved-registers", saved_registers(stopped.site.function));
+        self.add("saved-registers", stopped.saved.registers);
     }
 
     fn add_pair(&mut self, stop: &Stop, stopped: &Stopped, pair: [Place; 2]) {
@@ -105,25 +108,5 @@ fn shape_of(object: Option<&Object>, base: u64, derived: u64) -> &'static str {
         Some(_) if derived < base => "before-the-start",
         Some(object) if derived < base + object.length => "inside",
         Some(_) => "far-behind",
-    }
-}
-
-/// How many registers other than RBP a function pushes first of all.
-fn saved_registers(function: u64) -> usize {
-    let code: *const u8 = std::ptr::with_exposed_provenance(function as usize);
-    // SAFETY: the address is that of a function of ours, and every one has more than 16 bytes.
-    let code = unsafe { std::slice::from_raw_parts(code, 16) };
-    let mut saved = 0;
-    let mut rest = code;
-    loop {
-        rest = match rest {
-            [0x55, rest @ ..] => rest,             // push rbp
-            [0x48, 0x89, 0xe5, rest @ ..] => rest, // mov rbp, rsp
-            [0x53, rest @ ..] | [0x41, 0x54..=0x57, rest @ ..] => {
-                saved += 1; // push rbx, r12 to r15
-                rest
-            }
-            _ => return saved,
-        };
     }
 }

@@ -1,5 +1,6 @@
 //! The few calls of the C library that the harness needs, and a note of where the program died.
 
+use crate::memory::Memory;
 use std::ffi::{c_int, c_long, c_void};
 use std::sync::atomic::{AtomicU64, AtomicUsize, Ordering};
 
@@ -56,9 +57,34 @@ extern "C" {
 /// The unreadable bytes before and after each mapping: whoever runs off its end dies there.
 const GUARD: usize = 65_536;
 
-/// The first address of `length` fresh bytes, all zero, which can be read and written and are
-/// never given back. The length is one of whole pages.
-pub fn map(length: usize) -> u64 {
+/// The memory of this process, in which a program of this machine runs.
+pub struct Own;
+
+impl Memory for Own {
+    fn map(&self, length: usize) -> u64 {
+        map(length)
+    }
+
+    unsafe fn retire(&self, start: u64, length: usize) {
+        // SAFETY: the caller's.
+        unsafe { retire(start, length) };
+    }
+
+    unsafe fn read(&self, first: u64, bytes: &mut [u8]) {
+        let from: *const u8 = std::ptr::with_exposed_provenance(first as usize);
+        // SAFETY: the caller says that the bytes can be read, and are elsewhere.
+        unsafe { from.copy_to_nonoverlapping(bytes.as_mut_ptr(), bytes.len()) };
+    }
+
+    unsafe fn write(&self, first: u64, bytes: &[u8]) {
+        let to: *mut u8 = std::ptr::with_exposed_provenance_mut(first as usize);
+        // SAFETY: the caller says that the bytes can be written, and are elsewhere.
+        unsafe { to.copy_from_nonoverlapping(bytes.as_ptr(), bytes.len()) };
+    }
+}
+
+/// Fresh bytes between guards, as [`Memory::map`] says.
+fn map(length: usize) -> u64 {
     let flags = MAP_PRIVATE | MAP_ANONYMOUS;
     // SAFETY: without an address and MAP_FIXED the call only makes a new mapping, which overlaps
     // nothing that is there.
@@ -87,12 +113,12 @@ static RETIRED_COUNT: AtomicUsize = AtomicUsize::new(0);
 static RETIRED_FROM: [AtomicU64; RETIRED] = [const { AtomicU64::new(0) }; RETIRED];
 static RETIRED_TO: [AtomicU64; RETIRED] = [const { AtomicU64::new(0) }; RETIRED];
 
-/// Makes a mapping unreadable for good: whoever touches it from now on dies.
+/// Makes a mapping unreadable for good.
 ///
 /// # Safety
 ///
-/// `start` and `length` are those of a call of [`map`], and no reference points into its bytes.
-pub unsafe fn retire(start: u64, length: usize) {
+/// As for [`Memory::retire`].
+unsafe fn retire(start: u64, length: usize) {
     let number = RETIRED_COUNT.fetch_add(1, Ordering::SeqCst);
     RETIRED_FROM[number].store(start, Ordering::SeqCst);
     RETIRED_TO[number].store(start + length as u64, Ordering::SeqCst);

@@ -1,101 +1,17 @@
-//! Every program, stopped at each of its stops and at all, moved by every mover, each in a process
-//! of its own: right movers lead to the right checksum, and wrong ones to death.
+//! Every program of this machine, stopped at each of its stops and at all, moved by every mover, each in
+//! a process of its own: right movers lead to the right checksum, and wrong ones to death.
 
+mod common;
+
+use common::{run, stops};
 use live::maps::Maps;
 use live::mover::{Mover, FATAL, FATAL_TO_VECTORS, REFUSED, RIGHT, WRONG, WRONG_FOR_VECTORS};
-use live::program::{self, Program, MAPS, PROGRAMS, PUSHED, VECTORS};
-use live::system::RETIRED_FAULT;
-use std::collections::BTreeMap;
-use std::fmt;
-use std::os::unix::process::ExitStatusExt;
-use std::process::{Command, ExitStatus};
-
-const SIGSEGV: i32 = 11;
-
-/// What a process did.
-struct Ended {
-    /// Its program, its mover and its stops.
-    run: String,
-    status: ExitStatus,
-    /// The last line that it printed.
-    last: String,
-    errors: String,
-    /// The lines of a word and a number that it printed.
-    counts: BTreeMap<String, u64>,
-}
-
-impl Ended {
-    fn count(&self, name: &str) -> u64 {
-        self.counts.get(name).copied().unwrap_or(0)
-    }
-
-    fn assert_right(&self, moved: u64) {
-        assert_eq!(self.count("moved"), moved, "{self}");
-        assert!(self.status.success(), "{self}");
-        assert_eq!(self.errors, "", "{self}");
-    }
-
-    fn assert_killed(&self) {
-        assert_eq!(self.status.signal(), Some(SIGSEGV), "{self}");
-        assert_eq!(self.errors, RETIRED_FAULT, "{self}");
-    }
-
-    fn assert_killed_or_wrong(&self) {
-        let killed = self.status.signal() == Some(SIGSEGV);
-        assert!(killed || self.status.code() == Some(1), "{self}");
-    }
-
-    /// Nothing was moved, and the checksum is right all the same.
-    fn assert_unmoved(&self) {
-        assert_eq!(self.count("moved"), 0, "{self}");
-        assert_eq!(self.status.code(), Some(3), "{self}");
-    }
-}
-
-impl fmt::Display for Ended {
-    fn fmt(&self, to: &mut fmt::Formatter<'_>) -> fmt::Result {
-        let Ended {
-            run,
-            status,
-            last,
-            errors,
-            ..
-        } = self;
-        write!(to, "{run}: {status}, {last:?}, {errors:?}")
-    }
-}
-
-fn run(program: &Program, mover: Mover, stops: &str) -> Ended {
-    let arguments = ["run", program.name, mover.name(), stops];
-    let ran = Command::new(env!("CARGO_BIN_EXE_live"))
-        .args(arguments)
-        .output();
-    let ran = ran.expect("the program can be started");
-    let printed = String::from_utf8(ran.stdout).unwrap();
-    let pair = |line: &str| {
-        let (name, count) = line.split_once(' ')?;
-        Some((name.to_string(), count.parse().ok()?))
-    };
-    Ended {
-        run: arguments[1..].join(" "),
-        status: ran.status,
-        last: printed.lines().last().unwrap_or("").to_string(),
-        errors: String::from_utf8(ran.stderr).unwrap(),
-        counts: printed.lines().filter_map(pair).collect(),
-    }
-}
-
-/// The stops of a program, by number.
-fn stops(program: &Program) -> impl Iterator<Item = String> {
-    let all = run(program, Mover::Second, "all");
-    assert!(all.count("stops") > 1, "{all}");
-    all.assert_right(all.count("stops"));
-    (0..all.count("stops")).map(|stop| stop.to_string())
-}
+use live::program::{MAPS, PROGRAMS, PUSHED, VECTORS};
+use std::process::Command;
 
 #[test]
 fn a_linked_section_is_cut_into_its_maps() {
-    let maps = Maps::cut(program::section());
+    let maps = Maps::cut(PROGRAMS[0].section());
     assert_eq!(maps.count(), MAPS);
     assert!(maps.find(0).is_none());
 }
@@ -118,7 +34,7 @@ fn moved_programs_come_to_the_right_checksum() {
 #[test]
 fn a_refused_restore_leaves_all_as_it_was() {
     for program in &PROGRAMS {
-        let [short_table, twice] = REFUSED.map(|mover| run(program, mover, "0"));
+        let [short_table, twice, other_machine] = REFUSED.map(|mover| run(program, mover, "0"));
         short_table.assert_unmoved();
         let last = &short_table.last;
         assert!(last.starts_with("refused 21 at "), "{short_table}");
@@ -127,6 +43,12 @@ fn a_refused_restore_leaves_all_as_it_was() {
         twice.assert_unmoved();
         assert!(twice.last.starts_with("refused 26 at "), "{twice}");
         assert!(twice.last.ends_with(", frame 0"), "{twice}");
+        // The other machine has other registers. The first frame of the first map is `descend`'s deepest.
+        other_machine.assert_unmoved();
+        assert_eq!(
+            other_machine.last, "refused 18 at 0, frame 2",
+            "{other_machine}"
+        );
     }
 }
 
@@ -185,12 +107,19 @@ fn programs_with_vectors_need_every_pointer_and_its_own_base() {
 #[test]
 fn a_refused_restore_of_vectors_leaves_all_as_it_was() {
     for program in &VECTORS {
-        let [short_table, twice] = REFUSED.map(|mover| run(program, mover, "0"));
+        let [short_table, twice, other_machine] = REFUSED.map(|mover| run(program, mover, "0"));
         short_table.assert_unmoved();
-        let last = &short_table.last;
-        assert_eq!(last, "refused 21 at 2, frame 2", "{short_table}");
+        assert_eq!(
+            short_table.last, "refused 21 at 2, frame 2",
+            "{short_table}"
+        );
         twice.assert_unmoved();
         assert_eq!(twice.last, "refused 26 at 4, frame 0", "{twice}");
+        other_machine.assert_unmoved();
+        assert_eq!(
+            other_machine.last, "refused 18 at 0, frame 0",
+            "{other_machine}"
+        );
     }
 }
 
@@ -224,7 +153,7 @@ fn every_shape_is_there() {
         for shape in ["other-pair", "base-of-no-object", "far-behind"] {
             assert_eq!(deepest.count(shape), 0, "{name} has {shape}");
         }
-        let by_rbp = deepest.count("frames-with-rbp-slots");
+        let by_rbp = deepest.count("frames-with-frame-pointer-slots");
         assert_eq!(by_rbp > 0, name == "O2-fp", "{name}");
     }
 }

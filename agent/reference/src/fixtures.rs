@@ -1,5 +1,6 @@
 //! Sections, frames and random numbers that the tests share.
 
+use crate::editions::AMD64;
 use crate::relocate::{relocate, Frame};
 use crate::section::{encode, write, Function, LiveOut, Location, Record, RecordData, Version};
 use crate::Refusal;
@@ -180,6 +181,7 @@ pub(crate) struct Move {
     pub(crate) first: u64,
     pub(crate) old_starts: Vec<u64>,
     pub(crate) new_starts: Vec<u64>,
+    pub(crate) machine: u64,
     pub(crate) frame: Frame,
 }
 
@@ -192,10 +194,11 @@ impl Move {
             first: 0x7000,
             old_starts: vec![0x50000],
             new_starts: vec![0x90000],
+            machine: AMD64,
             frame: Frame {
                 address: 0x1020,
-                rbp: 0,
-                rsp: 0x7000,
+                frame_pointer: 0,
+                stack_pointer: 0x7000,
                 function: 0,
             },
         };
@@ -242,6 +245,7 @@ impl Move {
             self.first,
             old_starts,
             new_starts,
+            self.machine,
             self.frame,
         );
         assert!(answer.is_ok() || self.image == before);

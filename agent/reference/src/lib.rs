@@ -21,6 +21,7 @@ pub mod flat;
 pub mod history;
 pub mod index;
 pub mod listing;
+mod machine;
 pub mod program;
 pub mod questions;
 pub mod relocate;
@@ -44,8 +45,8 @@ pub use thread::{thread, thread_by_index};
 /// the place that line names.
 #[derive(Clone, Copy, Debug, PartialEq, Eq)]
 pub struct Refusal {
-    /// The refusal's number, 1 to 29; of a call on editions 30 to 32 or 51; of
-    /// a report 34; of a flat section 36 to 41.
+    /// The refusal's number, 1 to 29, and of a move also 33; of a call on
+    /// editions 30 to 32 or 51; of a report 34; of a flat section 36 to 41.
     pub number: u64,
     /// The refusal's place: a byte, a pair, a frame's or a section's position
     /// in a list, or 0 where its line has none.

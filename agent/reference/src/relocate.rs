@@ -8,6 +8,10 @@
 //! modulo 2^64, all read before any is written. No other byte is touched, and a
 //! refused call touches none.
 //!
+//! A frame has two registers, its machine's frame pointer and stack pointer,
+//! from which locations are counted. A section doesn't say its machine: who
+//! moves the frame does, by a number, and any other than the two known is 33.
+//!
 //! In version 1 no record is known to be a function's own. A frame then says
 //! its function too, and its offset in place of the address; it stands at the
 //! record with that offset, and its stack size is that function's.
@@ -17,6 +21,8 @@ mod pairs;
 #[cfg(test)]
 mod tests;
 #[cfg(test)]
+mod tests_machines;
+#[cfg(test)]
 mod tests_pairs;
 #[cfg(test)]
 mod tests_pointers;
@@ -25,6 +31,7 @@ mod tests_readings;
 #[cfg(test)]
 mod tests_version_1;
 
+use crate::machine::Machine;
 use crate::section::{read, Function, Location, Record, Section, Version};
 use crate::Refusal;
 use pairs::{collision, count, forms, locate, new_contents, MAX_POINTERS};
@@ -44,10 +51,12 @@ pub(crate) const UNKNOWN: u64 = u64::MAX;
 pub struct Frame {
     /// The address that its record has; in version 1 the offset.
     pub address: u64,
-    /// The content of RBP (DWARF 6).
-    pub rbp: u64,
-    /// The content of RSP (DWARF 7).
-    pub rsp: u64,
+    /// The content of the frame pointer: RBP (DWARF 6) on AMD64, X29 (DWARF 29)
+    /// on AArch64.
+    pub frame_pointer: u64,
+    /// The content of the stack pointer: RSP (DWARF 7) on AMD64, SP (DWARF 31)
+    /// on AArch64.
+    pub stack_pointer: u64,
     /// The number of its function. Only version 1 reads it.
     pub function: u64,
 }
@@ -56,19 +65,23 @@ pub struct Frame {
 /// one each.
 ///
 /// `image` is the stack from address `first` on. The move table is
-/// `old_starts` and `new_starts`, entry by entry.
+/// `old_starts` and `new_starts`, entry by entry. The machine is 0 for AMD64
+/// and 1 for AArch64; any other number is 33, after 1 to 9 and before 13.
 pub fn relocate(
     section: &[u8],
     image: &mut [u8],
     first: u64,
     old_starts: &[u64],
     new_starts: &[u64],
+    machine: u64,
     frame: Frame,
 ) -> Result<u64, Refusal> {
     let section = read(section)?;
+    let machine = Machine::of_number(machine)?;
     check_image(image, first)?;
     check_table(old_starts, new_starts)?;
-    let plan = judge(&section, image, first, old_starts, new_starts, frame)?;
+    let table = [old_starts, new_starts];
+    let plan = judge(&section, image, first, table, machine, frame)?;
     plan.write(image);
     Ok(plan.pointers)
 }
@@ -107,8 +120,8 @@ pub(crate) fn judge(
     section: &Section,
     image: &[u8],
     first: u64,
-    old_starts: &[u64],
-    new_starts: &[u64],
+    [old_starts, new_starts]: [&[u64]; 2],
+    machine: Machine,
     frame: Frame,
 ) -> Result<Plan, Refusal> {
     let (record, function) = standing(section, frame)?;
@@ -118,7 +131,7 @@ pub(crate) fn judge(
     if section.version == Version::One && entries.len() > MAX_POINTERS {
         return Err(Refusal::at(17, 0));
     }
-    let forms = forms(section, entries, frame)?;
+    let forms = forms(section, entries, machine, frame)?;
     let pointers = count(&forms);
     if pointers > MAX_POINTERS {
         return Err(Refusal::at(17, 0));
@@ -210,7 +223,7 @@ pub(crate) fn statepoint_pairs(record: &Record) -> Option<&[[Location; 2]]> {
 /// The extent of a frame of a function, unless its size is unknown.
 fn function_extent(function: &Function, frame: Frame) -> Option<(u128, u128)> {
     let size = function.stack_size;
-    let start = u128::from(frame.rsp);
+    let start = u128::from(frame.stack_pointer);
     (size != UNKNOWN).then_some((start, start + u128::from(size)))
 }
 

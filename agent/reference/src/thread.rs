@@ -12,6 +12,7 @@ mod tests_index;
 mod tests_version_1;
 
 use crate::index::check_index;
+use crate::machine::Machine;
 use crate::relocate::{check_image, check_table, judge, Frame, Plan};
 use crate::section::read;
 use crate::Refusal;
@@ -22,10 +23,11 @@ pub const MAX_FRAMES: usize = 4_096;
 /// Relocates the frames of a list, and gives the sum of their pointers, null
 /// pairs counting one each.
 ///
-/// The list has four numbers a frame: address, RBP, RSP and function number. In
-/// version 1 the offset stands in place of the address; version 3 doesn't read
-/// the function number. The rest is as for [`relocate`](crate::relocate()). The
-/// order of refusals: 1 to 9, 13, 14, 25, the first refused frame's own number
+/// The list has four numbers a frame: address, frame pointer, stack pointer and
+/// function number. In version 1 the offset stands in place of the address;
+/// version 3 doesn't read the function number. The machine is that of all
+/// frames. The rest is as for [`relocate`](crate::relocate()). The
+/// order of refusals: 1 to 9, 33, 13, 14, 25, the first refused frame's own number
 /// at its position, 26 at the first frame whose extent shares a byte with an
 /// earlier one's.
 pub fn thread(
@@ -34,9 +36,11 @@ pub fn thread(
     first: u64,
     old_starts: &[u64],
     new_starts: &[u64],
+    machine: u64,
     list: &[u64],
 ) -> Result<u64, Refusal> {
-    moved(section, image, first, [old_starts, new_starts], list, None)
+    let table = [old_starts, new_starts];
+    moved(section, image, first, table, machine, list, None)
 }
 
 /// Relocates the frames of a list as [`thread`] does, and tests an index that
@@ -44,17 +48,19 @@ pub fn thread(
 /// the right index the answer and the image are those of [`thread`].
 ///
 /// The empty list is an index too, the right one of a section without records.
+#[allow(clippy::too_many_arguments)]
 pub fn thread_by_index(
     section: &[u8],
     image: &mut [u8],
     first: u64,
     old_starts: &[u64],
     new_starts: &[u64],
+    machine: u64,
     list: &[u64],
     index: &[u64],
 ) -> Result<u64, Refusal> {
     let table = [old_starts, new_starts];
-    moved(section, image, first, table, list, Some(index))
+    moved(section, image, first, table, machine, list, Some(index))
 }
 
 /// Relocates the frames of a list, with an index or without. The table is the
@@ -63,13 +69,15 @@ fn moved(
     section: &[u8],
     image: &mut [u8],
     first: u64,
-    [old_starts, new_starts]: [&[u64]; 2],
+    table: [&[u64]; 2],
+    machine: u64,
     list: &[u64],
     index: Option<&[u64]>,
 ) -> Result<u64, Refusal> {
     let section = read(section)?;
+    let machine = Machine::of_number(machine)?;
     check_image(image, first)?;
-    check_table(old_starts, new_starts)?;
+    check_table(table[0], table[1])?;
     if let Some(index) = index {
         check_index(&section, index)?;
     }
@@ -78,14 +86,15 @@ fn moved(
         return Err(Refusal::at(25, 0));
     }
     let mut plans = Vec::new();
-    for (position, &[address, rbp, rsp, function]) in frames.iter().enumerate() {
+    for (position, &[address, frame_pointer, stack_pointer, function]) in frames.iter().enumerate()
+    {
         let frame = Frame {
             address,
-            rbp,
-            rsp,
+            frame_pointer,
+            stack_pointer,
             function,
         };
-        let plan = judge(&section, image, first, old_starts, new_starts, frame);
+        let plan = judge(&section, image, first, table, machine, frame);
         plans.push(plan.map_err(|refusal| Refusal::at(refusal.number, position))?);
     }
     if let Some(position) = first_overlap(&plans) {

@@ -36,6 +36,7 @@ extern "C" {
         old_count: usize,
         news: *const u64,
         new_count: usize,
+        machine: u64,
         frames: *const u64,
         frames_length: usize,
         index: *const u64,
@@ -86,12 +87,14 @@ pub(crate) fn find_all(
 }
 
 /// The move of a whole thread that is handed an index.
+#[allow(clippy::too_many_arguments)] // Those of the function that it calls.
 pub(crate) fn thread(
     section: &[u8],
     image: &mut [u8],
     first: u64,
     olds: &[u64],
     news: &[u64],
+    machine: u64,
     frames: &[u64],
     index: &[u64],
 ) -> Answer {
@@ -109,6 +112,7 @@ pub(crate) fn thread(
             olds.len(),
             news.as_ptr(),
             news.len(),
+            machine,
             frames.as_ptr(),
             frames.len(),
             index.as_ptr(),

@@ -132,7 +132,7 @@ fn a_refused_conversion_has_length_0_and_an_accepted_one_no_place() {
 #[test]
 fn a_refused_move_has_0_pointers_and_an_accepted_one_no_place() {
     let mut rng = Rng::new(1);
-    let mut counts = [0; 22];
+    let mut counts = [0; 34];
     for _ in 0..20_000 {
         let mut scene = Scene::one(&mut rng);
         let number = rng.pick(&NUMBERS);
@@ -141,12 +141,21 @@ fn a_refused_move_has_0_pointers_and_an_accepted_one_no_place() {
         let stop = scene.stops[0];
         let frame = Frame {
             address: stop.address,
-            rbp: stop.rbp,
-            rsp: stop.rsp,
+            frame_pointer: stop.frame_pointer,
+            stack_pointer: stop.stack_pointer,
             function: stop.named,
         };
         let (olds, news) = (&scene.table.olds, &scene.table.news);
-        let answer = relocate(&section, &mut scene.image, scene.first, olds, news, frame);
+        let (first, machine) = (scene.first, scene.machine);
+        let answer = relocate(
+            &section,
+            &mut scene.image,
+            first,
+            olds,
+            news,
+            machine,
+            frame,
+        );
         counts[answer.verdict.number as usize] += 1;
         match answer.verdict.number {
             0 => assert_eq!(answer.verdict.place, 0, "{scene:?}"),
@@ -161,22 +170,24 @@ fn a_refused_move_has_0_pointers_and_an_accepted_one_no_place() {
 #[test]
 fn a_refused_thread_has_0_pointers_and_an_accepted_one_no_place() {
     let mut rng = Rng::new(1);
-    let mut counts = [0; 30];
+    let mut counts = [0; 34];
     for _ in 0..30_000 {
         let mut list = Thread::any(&mut rng);
         if rng.one_in(4) {
-            let number = rng.pick(&[13, 14]);
+            let number = rng.pick(&[13, 14, 33]);
             aim(&mut rng, number, &mut list.scene, 0);
         }
         let (section, frames) = (list.scene.section.encode(), list.list());
         let mut image = list.scene.image.clone();
         let (first, table) = (list.scene.first, &list.scene.table);
-        let (olds, news) = (&table.olds, &table.news);
+        let (olds, news, machine) = (&table.olds, &table.news, list.scene.machine);
         let answer = match rng.below(2) {
-            0 => thread(&section, &mut image, first, olds, news, &frames),
+            0 => thread(&section, &mut image, first, olds, news, machine, &frames),
             _ => {
                 let own = indexes::any(&mut rng, &list.scene.section);
-                index::thread(&section, &mut image, first, olds, news, &frames, &own)
+                index::thread(
+                    &section, &mut image, first, olds, news, machine, &frames, &own,
+                )
             }
         };
         counts[answer.verdict.number as usize] += 1;

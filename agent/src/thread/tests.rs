@@ -7,7 +7,7 @@ fn refusal(number: u64, place: u64) -> ThreadRefusal {
 
 #[test]
 fn numbers_of_a_frame_have_its_position_and_no_others() {
-    for number in 1..=28 {
+    for number in 1..=41 {
         let of_frame = [10, 12, 15, 16, 17, 18, 19, 20, 21, 26].contains(&number);
         let position = refusal(number, 7).position();
         assert_eq!(position, of_frame.then_some(7), "{number}");
@@ -36,8 +36,8 @@ fn the_position_stands_behind_the_cause() {
 fn frames_are_a_list_of_four_numbers_each() {
     let frame = |number| Frame {
         address: number,
-        rbp: number + 1,
-        rsp: number + 2,
+        frame_pointer: number + 1,
+        stack_pointer: number + 2,
         function: number + 3,
     };
     let frames: Vec<Frame> = (0..5).map(|nth| frame(4 * nth)).collect();

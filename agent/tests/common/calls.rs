@@ -1,9 +1,12 @@
 //! One call, by the library and by the second implementation: the move of a frame, or of a thread.
 
+#[path = "raw.rs"]
+pub mod raw;
+
 use crate::common::differ;
 use generator::frames::{Scene, Stop};
 use std::fmt::Debug;
-use treskibben::{Frame, Frames, MoveTable};
+use treskibben::{Frame, Frames, Machine, MoveTable};
 
 /// All that a call is given.
 #[derive(Clone, Copy, Debug)]
@@ -13,6 +16,8 @@ pub struct Call<'a, F> {
     pub first: u64,
     pub olds: &'a [u64],
     pub news: &'a [u64],
+    /// The number of the machine.
+    pub machine: u64,
     /// A frame, or the list of a thread's frames.
     pub frames: F,
 }
@@ -64,8 +69,11 @@ pub trait Moves: Copy + Debug {
 
 impl Moves for Frame {
     fn by_library(call: &Call<Frame>, image: &mut [u8]) -> Result<u64, (u64, u64)> {
-        let moved =
-            treskibben::relocate(call.section, image, call.first, call.table(), call.frames);
+        let Some(machine) = call.machine() else {
+            return raw::relocate(call, image);
+        };
+        let (table, frame) = (call.table(), call.frames);
+        let moved = treskibben::relocate(call.section, image, call.first, table, machine, frame);
         let moved = moved.map(|pointers| pointers as u64);
         moved.map_err(|refusal| (refusal.number(), refusal.place()))
     }
@@ -76,30 +84,34 @@ impl Moves for Frame {
             first,
             olds,
             news,
+            machine,
             ..
         } = *call;
         let Frame {
             address,
-            rbp,
-            rsp,
+            frame_pointer,
+            stack_pointer,
             function,
         } = call.frames;
         let frame = reference::Frame {
             address,
-            rbp,
-            rsp,
+            frame_pointer,
+            stack_pointer,
             function,
         };
-        let moved = reference::relocate(section, image, first, olds, news, frame);
+        let moved = reference::relocate(section, image, first, olds, news, machine, frame);
         moved.map_err(|refusal| (refusal.number, refusal.place))
     }
 }
 
 impl Moves for &[u64] {
     fn by_library(call: &Call<Self>, image: &mut [u8]) -> Result<u64, (u64, u64)> {
-        let frames = Frames::of_numbers(call.frames);
+        let Some(machine) = call.machine() else {
+            return raw::thread(call, call.frames, image);
+        };
+        let (table, frames) = (call.table(), Frames::of_numbers(call.frames));
         let moved =
-            treskibben::relocate_thread(call.section, image, call.first, call.table(), frames);
+            treskibben::relocate_thread(call.section, image, call.first, table, machine, frames);
         let moved = moved.map(|pointers| pointers as u64);
         moved.map_err(|refusal| (refusal.number(), refusal.place()))
     }
@@ -110,9 +122,10 @@ impl Moves for &[u64] {
             first,
             olds,
             news,
+            machine,
             ..
         } = *call;
-        let moved = reference::thread(section, image, first, olds, news, call.frames);
+        let moved = reference::thread(section, image, first, olds, news, machine, call.frames);
         moved.map_err(|refusal| (refusal.number, refusal.place))
     }
 }
@@ -123,15 +136,15 @@ impl<'a> Call<'a, Frame> {
     pub fn of(scene: &'a Scene, section: &'a [u8], stop: usize) -> Call<'a, Frame> {
         let Stop {
             address,
-            rbp,
-            rsp,
+            frame_pointer,
+            stack_pointer,
             named: function,
             ..
         } = scene.stops[stop];
         let frame = Frame {
             address,
-            rbp,
-            rsp,
+            frame_pointer,
+            stack_pointer,
             function,
         };
         Call::with(scene, section, frame)
@@ -147,8 +160,16 @@ impl<'a, F> Call<'a, F> {
             first: scene.first,
             olds: &scene.table.olds,
             news: &scene.table.news,
+            machine: scene.machine,
             frames,
         }
+    }
+
+    /// The machine, if the number is one's.
+    pub fn machine(&self) -> Option<Machine> {
+        let machines = [Machine::Amd64, Machine::Aarch64];
+        let own = |machine: &Machine| machine.number() == self.machine;
+        machines.into_iter().find(own)
     }
 
     pub fn table(&self) -> MoveTable<'a> {
@@ -186,6 +207,7 @@ impl<F: Moves> Call<'_, F> {
     pub fn fail(&self, why: &str) -> ! {
         let Call {
             first,
+            machine,
             frames,
             image,
             ..
@@ -200,7 +222,7 @@ impl<F: Moves> Call<'_, F> {
             image: image.to_vec(),
         };
         let lent = format!(
-            "{frames:x?}, first {first:#x}, old starts {olds}, new starts {news}, before {image:?}"
+            "machine {machine:#x}, {frames:x?}, first {first:#x}, old starts {olds}, new starts {news}, before {image:?}"
         );
         differ("a move", self.section, &format!("{why}\n{lent}"));
     }

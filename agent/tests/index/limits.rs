@@ -5,7 +5,7 @@ use crate::common::{say, seed};
 use generator::arranged::{largest, Order};
 use generator::indexes::right;
 use generator::{Case, Rng, Section};
-use treskibben::{Frame, Index, MoveTable};
+use treskibben::{Frame, Index, Machine, MoveTable};
 
 /// The orders, each with a number of functions.
 const SECTIONS: [(Order, usize); 7] = [
@@ -115,7 +115,8 @@ fn indexes_with_little_stack() {
         let moved = move || {
             let index = Index::from_entries(&bytes, entries);
             let frames = vec![Frame::new(1, 0, 0); 4_096];
-            let moved = index.relocate_thread(&mut [], 0, MoveTable::default(), &frames);
+            let moved =
+                index.relocate_thread(&mut [], 0, MoveTable::default(), Machine::Amd64, &frames);
             moved.expect_err("no record is at 1").number() as usize
         };
         assert_eq!(with(OF_THREAD, Box::new(moved)), 10);

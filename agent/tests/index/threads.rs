@@ -1,6 +1,6 @@
 //! Threads that are handed an index, beside the same threads without one.
 
-use crate::calls::{Call, Moves, Outcome};
+use crate::calls::{raw, Call, Moves, Outcome};
 use crate::common::{assert_often, count_random, say};
 use generator::frames::faults::aim;
 use generator::frames::thread::Thread;
@@ -13,9 +13,9 @@ const PARTS: u64 = 1_000;
 const LISTS_A_PART: u64 = 300;
 
 /// The numbers of a thread that is handed an index.
-const NUMBERS: usize = 30;
-const DUE: [usize; 23] = [
-    0, 1, 2, 3, 4, 5, 6, 7, 8, 9, 10, 12, 13, 14, 15, 16, 17, 18, 19, 20, 21, 25, 26,
+const NUMBERS: usize = 34;
+const DUE: [usize; 24] = [
+    0, 1, 2, 3, 4, 5, 6, 7, 8, 9, 10, 12, 13, 14, 15, 16, 17, 18, 19, 20, 21, 25, 26, 33,
 ];
 
 /// How often each number was the answer; how often 27 was that of a list which is refused without an index
@@ -32,9 +32,12 @@ struct Indexed<'a> {
 impl Moves for Indexed<'_> {
     fn by_library(call: &Call<Self>, image: &mut [u8]) -> Result<u64, (u64, u64)> {
         let Indexed { frames, index } = call.frames;
+        let Some(machine) = call.machine() else {
+            return raw::thread_by_index(call, frames, index, image);
+        };
         let index = Index::from_entries(call.section, index.to_vec());
         let frames = Frames::of_numbers(frames);
-        let moved = index.relocate_thread(image, call.first, call.table(), frames);
+        let moved = index.relocate_thread(image, call.first, call.table(), machine, frames);
         let moved = moved.map(|pointers| pointers as u64);
         moved.map_err(|refusal| (refusal.number(), refusal.place()))
     }
@@ -45,10 +48,12 @@ impl Moves for Indexed<'_> {
             first,
             olds,
             news,
+            machine,
             ..
         } = *call;
         let Indexed { frames, index } = call.frames;
-        let moved = reference::thread_by_index(section, image, first, olds, news, frames, index);
+        let moved =
+            reference::thread_by_index(section, image, first, olds, news, machine, frames, index);
         moved.map_err(|refusal| (refusal.number, refusal.place))
     }
 }
@@ -85,7 +90,7 @@ fn case(rng: &mut Rng) -> Case {
     }
     let (index, known) = index(rng, &thread);
     let mut known = Some(known);
-    for number in [14, 13] {
+    for number in [14, 13, 33] {
         if rng.one_in(24) && aim(rng, number, &mut thread.scene, 0).is_some() {
             known = Some((number, 0));
         }
@@ -144,7 +149,7 @@ fn run(rng: &mut Rng, counts: &mut Counts) {
 /// no answer without one.
 fn expect_as_without(call: &Call<Indexed>, outcome: &Outcome, plain: &Outcome) {
     let as_without = match outcome.number {
-        27 | 29 => ![1, 2, 3, 4, 5, 6, 7, 8, 9, 13, 14].contains(&plain.number),
+        27 | 29 => ![1, 2, 3, 4, 5, 6, 7, 8, 9, 13, 14, 33].contains(&plain.number),
         _ => outcome == plain,
     };
     if !as_without {
@@ -161,7 +166,7 @@ fn random_threads_with_an_index() {
         "{lists} lists with an index, {} accepted",
         numbers[0]
     ));
-    say(&format!("refused by 1 to 29: {:?}", &numbers[1..]));
+    say(&format!("refused by 1 to 33: {:?}", &numbers[1..]));
     for (number, count) in numbers.iter().enumerate() {
         match DUE.contains(&number) || [27, 29].contains(&number) {
             true => assert_often(&[*count], |_| format!("answers {number}")),

@@ -1,9 +1,10 @@
 //! Moves every statepoint of a section in a hand-made frame. Which slots it has, and what it is refused by, follows here
 //! from what llvm-readobj printed and from the frame alone.
 
-use crate::compare::{owners, same};
+use crate::compare::{length, owners, same};
 use crate::readobj::{Location, Printed, Record, Value};
 use std::collections::BTreeMap;
+use treskibben::Machine;
 
 /// What a target's frames are like: the DWARF numbers of the frame and the stack pointer, and how far below the end of
 /// a frame the frame pointer points, where it is one.
@@ -37,7 +38,7 @@ impl Target {
 
 /// What came of a section's statepoints: how many were moved, how many pointers they had, the most that one pair had,
 /// and how many were refused by each number.
-#[derive(Debug, Default)]
+#[derive(Debug, Default, PartialEq, Eq)]
 pub struct Seen {
     pub moved: usize,
     pub pointers: usize,
@@ -73,17 +74,26 @@ const CLOSER: u64 = 0x0ff8;
 const POINTERS: u64 = 256;
 const BYTES: u16 = 8 * 256;
 
+/// How long a frame with a stack size is made.
+fn made_length(stack_size: u64) -> u64 {
+    if stack_size == UNKNOWN {
+        4096
+    } else {
+        stack_size
+    }
+}
+
+/// How far the frame pointer of a made frame is above its stack pointer.
+fn above(target: Target, stack_size: u64) -> u64 {
+    made_length(stack_size) - target.below_end
+}
+
 impl Made {
     fn new(target: Target, address: u64, stack_size: u64) -> Made {
-        let length = if stack_size == UNKNOWN {
-            4096
-        } else {
-            stack_size
-        };
-        let image = (0..length + 2 * BEYOND)
+        let image = (0..made_length(stack_size) + 2 * BEYOND)
             .map(|at| (at * 37 + 11) as u8)
             .collect();
-        let frame_pointer = STACK + length - target.below_end;
+        let frame_pointer = STACK + above(target, stack_size);
         Made {
             address,
             frame_pointer,
@@ -155,12 +165,17 @@ fn expected(target: Target, made: &Made, stack_size: u64, pairs: &[[&Location; 2
     if stack_size == UNKNOWN {
         return Expected::Refused(16, 0);
     }
-    let (mut pointers, mut nulls) = (Vec::new(), 0);
+    let (mut pointers, mut nulls, mut outside) = (Vec::new(), 0, None);
+    let end = made.stack_pointer + stack_size;
     for (number, [base, derived]) in pairs.iter().enumerate() {
         let slots = [base, derived].map(|location| made.slots(target, location));
         match slots {
             _ if is_null(base) && is_null(derived) => nulls += 1,
             [Some(bases), Some(deriveds)] if bases.len() == deriveds.len() => {
+                let mut slots = bases.iter().chain(&deriveds);
+                let inside =
+                    slots.all(|slot| (made.stack_pointer..end).contains(slot) && end - slot >= 8);
+                outside = outside.or((!inside).then_some(number as u64));
                 pointers.extend(
                     bases
                         .into_iter()
@@ -174,7 +189,10 @@ fn expected(target: Target, made: &Made, stack_size: u64, pairs: &[[&Location; 2
     if pointers.len() as u64 + nulls > POINTERS {
         return Expected::Refused(17, 0);
     }
-    Expected::Moved(pointers, nulls)
+    match outside {
+        Some(number) => Expected::Refused(19, number),
+        None => Expected::Moved(pointers, nulls),
+    }
 }
 
 /// Fills the slots and makes the table: each base slot has an object of its own, and each derived slot that is no base
@@ -216,6 +234,33 @@ fn fill(made: &mut Made, pointers: &[[u64; 2]]) -> (Vec<u64>, Vec<u64>, Vec<u8>)
     (old, new, after.image)
 }
 
+/// The same section and text, but that each slot that was addressed by the stack pointer is addressed by the frame pointer,
+/// in frames as they are made here. LLVM 14 takes the stack pointer for statepoints wherever it can.
+pub fn by_frame_pointer(bytes: &[u8], mut printed: Printed, target: Target) -> (Vec<u8>, Printed) {
+    let mut bytes = bytes.to_vec();
+    let sizes: Vec<u64> = owners(&printed)
+        .map(|(function, _)| printed.functions[function].stack_size)
+        .collect();
+    let mut first = 16 + 24 * printed.functions.len() + 8 * printed.constants.len();
+    for (record, stack_size) in printed.records.iter_mut().zip(sizes) {
+        for (number, location) in record.locations.iter_mut().enumerate() {
+            let Value::Indirect(register, offset) = location.value else {
+                continue;
+            };
+            // Functions that call nothing have no frame at all.
+            if register == target.stack_pointer && stack_size >= target.below_end {
+                let offset = offset - above(target, stack_size) as i32;
+                location.value = Value::Indirect(target.frame_pointer, offset);
+                let at = first + 16 + 12 * number;
+                bytes[at + 4..at + 6].copy_from_slice(&target.frame_pointer.to_le_bytes());
+                bytes[at + 8..at + 12].copy_from_slice(&offset.to_le_bytes());
+            }
+        }
+        first += length(record);
+    }
+    (bytes, printed)
+}
+
 /// The first difference, if there is one, and what was seen.
 pub fn compare(bytes: &[u8], printed: &Printed, target: Target) -> Result<Seen, String> {
     let mut seen = Seen::default();
@@ -244,9 +289,9 @@ fn one(
     };
     let (old, new, after) = fill(&mut made, pointers);
     let before = made.image.clone();
-    let second = library::second(target.machine, bytes, &mut made, &old, &new);
+    let second = library::second(target, bytes, &mut made, &old, &new);
     let second_image = std::mem::replace(&mut made.image, before.clone());
-    let proved = library::proved(target.machine, bytes, &mut made, &old, &new);
+    let proved = library::proved(target, bytes, &mut made, &old, &new);
     same("the second answer", second, proved)?;
     same("the second image", second_image == made.image, true)?;
     match expected {
@@ -277,47 +322,40 @@ fn one(
 
 /// The two moves that are compared.
 mod library {
-    use super::{Machine, Made};
+    use super::{Made, Target};
 
     type Answer = Result<u64, (u64, u64)>;
 
     pub fn proved(
-        _machine: Machine,
+        target: Target,
         bytes: &[u8],
         made: &mut Made,
         old: &[u64],
         new: &[u64],
     ) -> Answer {
         let frame = treskibben::Frame::new(made.address, made.frame_pointer, made.stack_pointer);
+        let (image, first, machine) = (&mut made.image, made.first, target.machine);
         let table = treskibben::MoveTable::new(old, new);
-        let moved = treskibben::relocate(bytes, &mut made.image, made.first, table, frame);
-        moved
-            .map(|count| count as u64)
-            .map_err(|refusal| (refusal.number(), refusal.place()))
+        let moved = treskibben::relocate(bytes, image, first, table, machine, frame);
+        let moved = moved.map(|count| count as u64);
+        moved.map_err(|refusal| (refusal.number(), refusal.place()))
     }
 
     pub fn second(
-        _machine: Machine,
+        target: Target,
         bytes: &[u8],
         made: &mut Made,
         old: &[u64],
         new: &[u64],
     ) -> Answer {
-        let (address, rbp, rsp) = (made.address, made.frame_pointer, made.stack_pointer);
         let frame = reference::Frame {
-            address,
-            rbp,
-            rsp,
+            address: made.address,
+            frame_pointer: made.frame_pointer,
+            stack_pointer: made.stack_pointer,
             function: 0,
         };
-        let moved = reference::relocate(bytes, &mut made.image, made.first, old, new, frame);
+        let (image, first, machine) = (&mut made.image, made.first, target.machine.number());
+        let moved = reference::relocate(bytes, image, first, old, new, machine, frame);
         moved.map_err(|refusal| (refusal.number, refusal.place))
     }
-}
-
-/// The machine of a target.
-#[derive(Clone, Copy)]
-pub enum Machine {
-    Amd64,
-    Aarch64,
 }

@@ -2,13 +2,24 @@
 
 use crate::calls::{Call, Outcome};
 use crate::common::seed;
-use generator::frames::{plain, Scene, Size, Stop, Table};
+use generator::frames::{plain, registers, Scene, Size, Stop, Table};
 use generator::frames::{MOST_IMAGE, MOST_MOVES, MOST_POINTERS};
 use generator::layout::{Function, Location, Record, Section};
 use generator::{Rng, Version};
 
-/// Compares the move of the only frame, which is accepted exactly if no number is given.
+/// Compares the move of the only frame, which is accepted exactly if no number is given. It is moved on
+/// both machines.
 pub fn expect(scene: &Scene, number: u64) -> Outcome {
+    let outcome = expect_on_one(scene, number);
+    let other = expect_on_one(&scene.on_other_machine(), number);
+    assert!(
+        outcome == other,
+        "{outcome:?}, on the other machine {other:?}"
+    );
+    outcome
+}
+
+fn expect_on_one(scene: &Scene, number: u64) -> Outcome {
     let section = scene.section.encode();
     let outcome = Call::of(scene, &section, 0).compare();
     let place = if number < 18 { 0 } else { outcome.place };
@@ -55,7 +66,7 @@ fn tables_at_their_limit() {
 
 /// Sets every base slot to this content. Shared derived slots keep bases that are equal.
 fn set_bases(scene: &mut Scene, old: u64) {
-    let at = (scene.stops[0].rsp - scene.first) as usize;
+    let at = (scene.stops[0].stack_pointer - scene.first) as usize;
     for [base, _] in plain::slots(scene, 0).into_iter().flatten() {
         let at = at + base as usize;
         scene.image[at..at + 8].copy_from_slice(&old.to_le_bytes());
@@ -125,7 +136,7 @@ fn images_at_their_limit() {
 
 /// The frame's own bytes; none where it has no slots.
 fn stretch_of(scene: &Scene) -> Vec<u8> {
-    let at = (scene.stops[0].rsp - scene.first) as usize;
+    let at = (scene.stops[0].stack_pointer - scene.first) as usize;
     let size = scene.stack_size(0) as usize;
     let slots = plain::slots(scene, 0).into_iter().flatten().count();
     match slots {
@@ -134,22 +145,23 @@ fn stretch_of(scene: &Scene) -> Vec<u8> {
     }
 }
 
-/// The scene with an image of zeros and the frame elsewhere, all its slots counted from RSP.
+/// The scene with an image of zeros and the frame elsewhere, all its slots counted from
+/// the stack pointer.
 fn moved_to(scene: &Scene, first: u64, length: usize, rsp: u64) -> Scene {
     let mut scene = scene.clone();
-    let slots = plain::slots(&scene, 0);
+    let (slots, [_, of_stack]) = (plain::slots(&scene, 0), registers(scene.machine));
     let record = &mut scene.section.records[scene.stops[0].record];
     let from = plain::first_pair(record).expect("a statepoint");
     for (pair, slots) in record.locations[from..].chunks_exact_mut(2).zip(slots) {
         for (location, slot) in pair.iter_mut().zip(slots.into_iter().take(1).flatten()) {
-            location.register = 7;
+            location.register = of_stack;
             location.offset = slot as u32;
         }
     }
     scene.first = first;
     scene.image = vec![0; length];
-    scene.stops[0].rsp = rsp;
-    scene.stops[0].rbp = rsp;
+    scene.stops[0].stack_pointer = rsp;
+    scene.stops[0].frame_pointer = rsp;
     scene
 }
 
@@ -228,10 +240,11 @@ pub fn frame(version: Version, pairs: &[[i32; 2]], words: &[u64]) -> Scene {
             olds: vec![0x50000, 0x60000],
             news: vec![0x90000, 0x10],
         },
+        machine: 0,
         stops: vec![Stop {
             address,
-            rbp: 0,
-            rsp: 0x7000,
+            frame_pointer: 0,
+            stack_pointer: 0x7000,
             record: 0,
             function: 0,
             named: 0,

@@ -23,8 +23,8 @@ fn apart(scene: &Scene, section: &[u8]) -> bool {
         .filter_map(|stop| {
             let frame = reference::Frame {
                 address: stop.address,
-                rbp: stop.rbp,
-                rsp: stop.rsp,
+                frame_pointer: stop.frame_pointer,
+                stack_pointer: stop.stack_pointer,
                 function: stop.named,
             };
             reference::extent(section, frame)

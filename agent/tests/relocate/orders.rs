@@ -10,8 +10,8 @@ use generator::Rng;
 const PARTS: u64 = 300;
 const FRAMES_A_PART: u64 = 200;
 
-/// How often each number was the answer, 0 to 21.
-type Counts = [u64; 22];
+/// How often each number was the answer, 0 to 33.
+type Counts = [u64; 34];
 
 fn frame(rng: &mut Rng) -> (Scene, Vec<u8>, u64) {
     let mut scene = Scene::one(rng);
@@ -32,7 +32,7 @@ fn permuted(rng: &mut Rng, counts: &mut Counts) {
     let other = scene.permuted(rng).encode();
     let call = Call::of(&scene, &other, 0);
     let mut other = call.compare();
-    if number >= 18 {
+    if (18..=21).contains(&number) {
         other.place = outcome.place;
     }
     if outcome != other {
@@ -49,7 +49,7 @@ fn complemented(rng: &mut Rng, counts: &mut Counts) {
     let (scene, section, number) = frame(rng);
     let mut listed = vec![false; scene.image.len()];
     if [0, 20, 21].contains(&number) {
-        let at = (scene.stops[0].rsp - scene.first) as usize;
+        let at = (scene.stops[0].stack_pointer - scene.first) as usize;
         for slot in plain::slots(&scene, 0).into_iter().flatten().flatten() {
             listed[at + slot as usize..][..8].fill(true);
         }
@@ -76,12 +76,14 @@ fn complemented(rng: &mut Rng, counts: &mut Counts) {
     counts[outcome.number as usize] += 1;
 }
 
-/// Runs random frames. The refusals of a frame itself must occur: those from 12 on.
+/// Runs random frames. The refusals of a frame itself must occur.
 fn random(what: &str, run: fn(&mut Rng, &mut Counts)) {
     let counts = count_random(what, PARTS, FRAMES_A_PART, run);
-    say(&format!("{what}, answers 0 to 21: {counts:?}"));
-    let number = |nth| format!("answers of number {}", nth + 12);
-    crate::common::assert_often(&counts[12..], number);
+    say(&format!("{what}, answers 0 to 33: {counts:?}"));
+    for number in NUMBERS {
+        let name = |_| format!("answers of number {number}");
+        crate::common::assert_often(&[counts[number as usize]], name);
+    }
 }
 
 #[test]

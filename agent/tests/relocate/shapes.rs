@@ -1,6 +1,6 @@
 //! Shapes that random frames must have often enough.
 
-use generator::frames::{plain, Scene};
+use generator::frames::{plain, registers, Scene};
 use generator::layout::Location;
 use generator::Version;
 
@@ -17,16 +17,19 @@ pub const SHAPES: [Shape; 22] = [
                 .iter()
                 .any(|pair| pair[0].kind + pair[1].kind == 9)
     }),
-    ("accepted, slots from RBP", |scene, number| {
+    ("accepted, slots from the frame pointer", |scene, number| {
         number == 0
             && pairs(scene)
                 .iter()
-                .any(|pair| pair[0].kind == 3 && pair[0].register == 6)
+                .any(|pair| pair[0].kind == 3 && pair[0].register == registers(scene.machine)[0])
     }),
-    ("accepted, negative offsets from RBP", |scene, number| {
-        let below = |pair: &&[Location; 2]| pair[1].kind == 3 && (pair[1].offset as i32) < 0;
-        number == 0 && pairs(scene).iter().any(|pair| below(&pair))
-    }),
+    (
+        "accepted, negative offsets from the frame pointer",
+        |scene, number| {
+            let below = |pair: &&[Location; 2]| pair[1].kind == 3 && (pair[1].offset as i32) < 0;
+            number == 0 && pairs(scene).iter().any(|pair| below(&pair))
+        },
+    ),
     (
         "accepted, a derived slot shared by two base slots",
         |scene, number| number == 0 && shared(scene),
@@ -67,10 +70,10 @@ pub const SHAPES: [Shape; 22] = [
         "refused by 19, an offset that would wrap",
         |scene, number| {
             let sum = |one: &Location| {
-                let register = if one.register == 6 {
-                    scene.stops[0].rbp
+                let register = if one.register == registers(scene.machine)[0] {
+                    scene.stops[0].frame_pointer
                 } else {
-                    scene.stops[0].rsp
+                    scene.stops[0].stack_pointer
                 };
                 i128::from(register) + i128::from(one.offset as i32)
             };
@@ -192,7 +195,7 @@ fn shared(scene: &Scene) -> bool {
 /// Whether a sum modulo 2^64 would be a slot in the frame.
 fn inside(scene: &Scene, sum: i128) -> bool {
     let wrapped = sum.rem_euclid(1 << 64);
-    let rsp = i128::from(scene.stops[0].rsp);
+    let rsp = i128::from(scene.stops[0].stack_pointer);
     let size = scene.stack_size(0);
     (rsp..=rsp + i128::from(size) - 8).contains(&wrapped)
 }

@@ -4,7 +4,7 @@
 use crate::common::{assert_often, count_random, say};
 use crate::shapes::{first, pairs, Shape};
 use crate::{compare, make};
-use generator::frames::{plain, Scene, MOST_POINTERS};
+use generator::frames::{plain, registers, Scene, MOST_POINTERS};
 use generator::layout::Location;
 use generator::Rng;
 
@@ -244,7 +244,8 @@ fn right_1(pair: &[Location; 2]) -> bool {
 /// Whether a pair of version 3 is refused by 18 for its sizes alone, which are so.
 fn by_size(scene: &Scene, number: u64, are: impl Fn(&[Location; 2]) -> bool) -> bool {
     let slots = |pair: &[Location; 2]| {
-        let slot = |one: &Location| one.kind == 3 && [6, 7].contains(&one.register);
+        let own = registers(scene.machine);
+        let slot = |one: &Location| one.kind == 3 && own.contains(&one.register);
         pair.iter().all(slot)
     };
     let refused = !first(scene) && number == 18;

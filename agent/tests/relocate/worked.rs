@@ -21,8 +21,8 @@ fn image(slots: [u64; 2]) -> Vec<u8> {
 /// Row I's frame. Version 3 doesn't read the function.
 const I: Frame = Frame {
     address: 0x1020,
-    rbp: 0,
-    rsp: 0x7000,
+    frame_pointer: 0,
+    stack_pointer: 0x7000,
     function: 77,
 };
 
@@ -40,12 +40,18 @@ fn row(section: &[u8], slots: [u64; 2], new: u64) -> Outcome {
 }
 
 fn with_frame(section: &[u8], slots: [u64; 2], new: u64, frames: Frame) -> Outcome {
+    on(0, section, slots, new, frames)
+}
+
+/// The same on the machine of this number.
+fn on(machine: u64, section: &[u8], slots: [u64; 2], new: u64, frames: Frame) -> Outcome {
     let call = Call {
         section,
         image: &image(slots),
         first: 0x7000,
         olds: &[0x50000],
         news: &[new],
+        machine,
         frames,
     };
     call.compare()
@@ -106,6 +112,36 @@ fn refusals_beside_the_rows() {
     for (offset, number) in [(17, 19), (12, 20)] {
         for section in last_offset(offset) {
             assert_eq!(refused(row(&section, i, 0x90000), i), (number, 1));
+        }
+    }
+}
+
+/// Row I with SP in place of RSP is moved on AArch64, and on AMD64 a pair of wrong form; row I itself the
+/// other way round. Any other number is no machine, whatever the frame.
+#[test]
+fn row_i_on_both_machines() {
+    let i = [0x50000, 0x54e20];
+    for (section, slots, register, frame) in [(H, SLOTS, 4, I), (H_1, SLOTS_1, 2, I_1)] {
+        let mut arm = section.to_vec();
+        slots.iter().for_each(|slot| arm[slot + register] = 31);
+        let own = [(0, section), (1, &arm[..])];
+        for (machine, section) in own {
+            let outcome = on(machine, section, i, 0x90000, frame);
+            assert_eq!(outcome, moved([0x90000, 0x94e20]));
+            let outcome = on(1 - machine, section, i, 0x90000, frame);
+            assert_eq!(refused(outcome, i), (18, 0));
+            for machine in [2, 3, 29, 1 << 32, u64::MAX] {
+                let nowhere = Frame {
+                    address: 5,
+                    ..frame
+                };
+                for frame in [frame, nowhere] {
+                    let outcome = on(machine, section, i, 0x90000, frame);
+                    assert_eq!(refused(outcome, i), (33, 0));
+                }
+                let outcome = on(machine, &section[1..], i, 0x90000, frame);
+                assert_eq!(refused(outcome, i), (2, 0));
+            }
         }
     }
 }

@@ -9,8 +9,24 @@ use generator::frames::{MOST_FRAMES, MOST_IMAGE};
 use generator::layout::{Function, Location, Record, Section};
 use generator::{Rng, Version};
 
-/// Compares the move of a list, and with what is known of it.
+/// Compares the move of a list, and with what is known of it. It is moved on both machines.
 fn expect(thread: &Thread) -> Outcome {
+    let outcome = expect_on_one(thread);
+    let other = Thread {
+        scene: thread.scene.on_other_machine(),
+        ..thread.clone()
+    };
+    let other = expect_on_one(&other);
+    assert!(
+        outcome == other,
+        "on the other machine {} at {}",
+        other.number,
+        other.place
+    );
+    outcome
+}
+
+fn expect_on_one(thread: &Thread) -> Outcome {
     let (section, list) = (thread.scene.section.encode(), thread.list());
     let call = Call::with(&thread.scene, &section, &list[..]);
     let outcome = call.compare();
@@ -64,8 +80,8 @@ fn deep(version: Version, frames: usize) -> Thread {
     };
     let stop = |nth: usize| Stop {
         address,
-        rbp: 0,
-        rsp: 0x7000 + 24 * nth as u64,
+        frame_pointer: 0,
+        stack_pointer: 0x7000 + 24 * nth as u64,
         record: 0,
         function: 0,
         named: 0,
@@ -78,6 +94,7 @@ fn deep(version: Version, frames: usize) -> Thread {
             olds: (0..frames).map(base).collect(),
             news: (0..frames).map(|nth| base(frames - nth)).collect(),
         },
+        machine: 0,
         stops: (0..frames).map(stop).collect(),
     })
 }
@@ -186,7 +203,7 @@ fn spoil(rng: &mut Rng, thread: &mut Thread, fault: usize, position: usize) {
     let at = 24 * stop + 8;
     match fault {
         0 => scene.stops[stop].address += 0x20,
-        1 => scene.stops[stop].rsp = scene.first + scene.image.len() as u64 - 23,
+        1 => scene.stops[stop].stack_pointer = scene.first + scene.image.len() as u64 - 23,
         2 => scene.image[at] ^= 1,
         3 => {
             let other = (position + 1 + rng.below(MOST_FRAMES - 1)) % MOST_FRAMES;
@@ -195,7 +212,7 @@ fn spoil(rng: &mut Rng, thread: &mut Thread, fault: usize, position: usize) {
         _ => {
             // A frame of null pairs in its stead, which reaches into the frame beside it.
             let up = stop == 0;
-            let rsp = scene.stops[stop].rsp - u64::from(!up);
+            let rsp = scene.stops[stop].stack_pointer - u64::from(!up);
             let guest = guests::stand(rng, scene, rsp, 25);
             thread.order[position] = guest;
         }
@@ -261,7 +278,10 @@ fn stretches(rng: &mut Rng, length: usize, frames: impl Iterator<Item = (usize, 
                 stop
             }
         };
-        scene.stops.push(Stop { rsp, ..stop });
+        scene.stops.push(Stop {
+            stack_pointer: rsp,
+            ..stop
+        });
     }
     Thread::of(thread.scene)
 }
@@ -280,13 +300,13 @@ fn frames_that_fill_the_image() {
         };
         assert_eq!(expect(&thread).number, 0);
         for nth in [1, 2, MOST_FRAMES / 2, MOST_FRAMES - 1] {
-            thread.scene.stops[nth].rsp -= 1;
+            thread.scene.stops[nth].stack_pointer -= 1;
             let outcome = expect(&thread);
             let places =
                 [nth - 1, nth].map(|stop| thread.order.iter().position(|one| *one == stop));
             let later = places.iter().flatten().max().copied();
             assert_eq!((outcome.number, Some(outcome.place as usize)), (26, later));
-            thread.scene.stops[nth].rsp += 1;
+            thread.scene.stops[nth].stack_pointer += 1;
         }
     }
 }

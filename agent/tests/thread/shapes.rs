@@ -161,7 +161,7 @@ fn named(thread: &Thread, stop: usize) -> u64 {
 
 /// A frame's extent by its bytes in the image.
 fn extent(scene: &Scene, stop: usize) -> Range<i128> {
-    let start = i128::from(scene.stops[stop].rsp) - i128::from(scene.first);
+    let start = i128::from(scene.stops[stop].stack_pointer) - i128::from(scene.first);
     start..start + i128::from(scene.stack_size(stop))
 }
 

@@ -31,12 +31,18 @@ fn at_1(rsp: u64) -> [u64; 4] {
 }
 
 fn moved_on(section: &[u8], frames: &[[u64; 4]]) -> Outcome {
+    on(0, section, frames)
+}
+
+/// The same on the machine of this number.
+fn on(machine: u64, section: &[u8], frames: &[[u64; 4]]) -> Outcome {
     let call = Call {
         section,
         image: &image(),
         first: 0x7000,
         olds: &[0x50000],
         news: &[0x90000],
+        machine,
         frames: &frames.concat()[..],
     };
     call.compare()
@@ -106,6 +112,29 @@ fn refused_frames() {
     assert_eq!((outcome.number, outcome.place), (19, 0), "19 of pair 1");
 }
 
+/// A thread has one machine: row I's frame is of AMD64, and with SP in place of RSP of AArch64.
+#[test]
+fn one_machine_for_all_frames() {
+    let mut arm = H.to_vec();
+    [92, 104, 116, 128]
+        .into_iter()
+        .for_each(|slot| arm[slot + 4] = 31);
+    let list = [I, at(0x7018)];
+    assert_eq!(on(1, &arm, &list), moved_on(H, &list));
+    for (machine, section) in [(0, &arm[..]), (1, H)] {
+        let outcome = on(machine, section, &list);
+        assert_eq!((outcome.number, outcome.place), (18, 0));
+        assert_eq!(on(machine, section, &[]).number, 0);
+    }
+    for machine in [2, u64::MAX] {
+        for list in [&[][..], &list] {
+            let outcome = on(machine, H, list);
+            assert_eq!((outcome.number, outcome.place), (33, 0));
+            assert_eq!(on(machine, &H[..151], list).number, 4);
+        }
+    }
+}
+
 #[test]
 fn version_1() {
     let refused = |frames: &[[u64; 4]]| {
@@ -137,6 +166,7 @@ fn lists_that_make_no_frames() {
             first: 0x7000,
             olds: &[0x50000],
             news: &[0x90000],
+            machine: 0,
             frames: numbers,
         };
         let outcome = call.compare();

@@ -36,7 +36,18 @@ fn move_frames(
     ensures { λ r. ⌜ (r ≡ framesAnswer (restore (now (s .entry)) (now (olds .entry)) (now (news .entry)) first) (now (image .entry)) (framesFrom (threadOf machine (now (list .entry))) count 0))
         × (now (image .exit) ≡ framesImage (restore (now (s .entry)) (now (olds .entry)) (now (news .entry)) first) (now (image .entry)) (framesFrom (threadOf machine (now (list .entry))) count 0)) ⌝ }
 {
-    let judged = frames::judge(s, image, first, olds, news, machine, list, count, keys, hits);
+    let judged = frames::judge(
+        s,
+        image,
+        first,
+        olds,
+        news,
+        machine,
+        list,
+        count,
+        keys,
+        hits,
+    );
     if judged.number != 0 {
         return judged;
     }
@@ -44,7 +55,18 @@ fn move_frames(
     if shared < count {
         return moving::refused(26, shared);
     }
-    frames::move_all(s, image, first, olds, news, machine, list, count, keys, hits);
+    frames::move_all(
+        s,
+        image,
+        first,
+        olds,
+        news,
+        machine,
+        list,
+        count,
+        keys,
+        hits,
+    );
     judged
 }
 
@@ -67,7 +89,18 @@ fn of_section(
     if extent::image_right(first, image.len()) {
         if table::table_right(olds, news) {
             if list::list_right(list) {
-                return move_frames(s, image, first, olds, news, machine, list, count, keys, hits);
+                return move_frames(
+                    s,
+                    image,
+                    first,
+                    olds,
+                    news,
+                    machine,
+                    list,
+                    count,
+                    keys,
+                    hits,
+                );
             }
             return moving::refused(25, 0);
         }

@@ -39,7 +39,15 @@ pub fn relocate_thread_by_index(
                 return moving::refused(OTHER_VERSION, 0);
             }
             if checked.right {
-                return thread_call::relocate_thread(section, image, first, olds, news, machine, list);
+                return thread_call::relocate_thread(
+                    section,
+                    image,
+                    first,
+                    olds,
+                    news,
+                    machine,
+                    list,
+                );
             }
             return moving::refused(OTHER_INDEX, 0);
         }

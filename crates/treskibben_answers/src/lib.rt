@@ -160,9 +160,9 @@ pub fn unknown_machine(v: Verdict) -> Answer
             place: 0,
             value: 0,
         },
-        Verdict::Refused(n, p) => Answer {
-            number: n as u64,
-            place: p as u64,
+        Verdict::Refused(number, place) => Answer {
+            number: number as u64,
+            place: place as u64,
             value: 0,
         },
     }

@@ -9,6 +9,7 @@ use crate::lists::{self, Entry, Form};
 use crate::names::shown;
 use crate::numbers::{address, count};
 use crate::receipt::{self, Receipt};
+use crate::registers::Machine;
 use crate::trouble::{say, Status, Trouble, Voice};
 use crate::{files, found, json, listing, output};
 use place::Target;
@@ -25,8 +26,8 @@ use std::path::{Path, PathBuf};
 ///
 /// Refusals come in this order: an image that was restored already; 1 to 9 of the section, 13 of the
 /// image, 14 of the moves, 25 of the frames as a list; then the first frame of the list that is
-/// refused by itself, by 10, 15, 12, 16, 18, 17, or 19 to 21; then 26 at the first frame whose extent shares a
-/// byte with an earlier one's; last a list of no frames. The place of a frame's refusal is its
+/// refused by itself, by 10, 15, 12, 16, 18, 17 (of version 1 17, 18), or 19 to 21; then 26 at the first
+/// frame whose extent shares a byte with an earlier one's; last a list of no frames. The place of a frame's refusal is its
 /// position in the list, counted from 0.
 #[derive(clap::Args)]
 #[command(override_usage = USAGE)]
@@ -44,9 +45,16 @@ pub struct Arguments {
     /// Where the objects of the heap were and are: lines 'OLD NEW', old starts rising
     #[arg(long, value_name = "FILE")]
     moves: PathBuf,
-    /// The stopped frames: lines 'ADDRESS RBP RSP', of version 1 'FUNCTION+OFFSET RBP RSP'
+    /// The stopped frames: lines 'ADDRESS RBP RSP', of version 1 'FUNCTION+OFFSET RBP RSP'; on AArch64
+    /// X29 and SP stand in place of RBP and RSP
     #[arg(long, value_name = "FILE")]
     frames: PathBuf,
+    /// The machine that the frames are of [default: x86-64]
+    ///
+    /// Slots are counted from its frame pointer and its stack pointer: RBP and RSP, or X29 and SP. A
+    /// section doesn't say its machine; a pair with another register is refused by 18.
+    #[arg(long, value_name = "NAME", value_enum)]
+    machine: Option<Machine>,
     /// Write the new image to a file that must not exist yet, and never touch the old one
     #[arg(long, value_name = "NEW")]
     output: Option<PathBuf>,
@@ -79,6 +87,7 @@ struct Inputs<'a> {
     moves: Vec<Entry<[u64; 2]>>,
     frames_text: Vec<u8>,
     naming: Naming,
+    machine: Machine,
     lines: Vec<Entry<Frame>>,
 }
 
@@ -127,7 +136,8 @@ impl<'a> Inputs<'a> {
         let moves = lists::read(&arguments.moves, &moves_text, &form)?;
         let naming = Naming::of(&section);
         let frames_text = lists::text(&arguments.frames)?;
-        let lines = naming.read(&arguments.frames, &frames_text)?;
+        let machine = arguments.machine.unwrap_or_default();
+        let lines = naming.read(machine, &arguments.frames, &frames_text)?;
         Ok(Inputs {
             arguments,
             section,
@@ -135,6 +145,7 @@ impl<'a> Inputs<'a> {
             moves,
             frames_text,
             naming,
+            machine,
             lines,
         })
     }
@@ -159,7 +170,8 @@ impl<'a> Inputs<'a> {
         let (table, frames) = (self.table(), self.frames());
         let mut after = before.clone();
         let first = self.arguments.first;
-        let moved = library::relocate_thread(&self.section, &mut after, first, &table, &frames);
+        let (section, machine) = (&self.section, self.machine);
+        let moved = library::relocate_thread(section, &mut after, first, &table, machine, &frames);
         let pointers =
             moved.map_err(|(refusal, position)| self.refused(refusal, position, &before))?;
         if frames.is_empty() && !self.arguments.allow_empty {
@@ -203,6 +215,7 @@ impl<'a> Inputs<'a> {
             section: entry(&arguments.section, &self.section),
             moves: entry(&arguments.moves, &self.moves_text),
             frames: entry(&arguments.frames, &self.frames_text),
+            machine: self.machine.name().to_string(),
             first: format!("{:#x}", arguments.first),
             before: entry(&arguments.image, &moved.before),
             after: entry(output, &moved.after),

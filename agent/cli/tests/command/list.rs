@@ -168,9 +168,16 @@ fn the_text_shows_everything() {
         .replace("RSP", "X7")
         .replace("XMM0", "X17")
         .replace("RAX", "X0");
-    folder
-        .run(["list", "--text", "--machine", "aarch64", "rich"])
-        .done(&aarch64);
+    for (machine, expected) in [
+        ("amd64", RICH),
+        ("x86_64", RICH),
+        ("aarch64", &aarch64),
+        ("arm64", &aarch64),
+    ] {
+        folder
+            .run(["list", "--text", "--machine", machine, "rich"])
+            .done(expected);
+    }
     folder.put("c", C);
     let nothing = "section: 16 bytes, 0 functions, 0 constants, 0 records\n";
     folder.run(["list", "--text", "c"]).done(nothing);

@@ -5,6 +5,7 @@ mod at_once;
 mod faults;
 mod killed;
 mod lists;
+mod machines;
 mod output;
 mod receipts;
 mod refusals;

@@ -3,7 +3,7 @@
 
 use super::cells::Cells;
 use super::functions::{self, Group, Taken};
-use super::{keys, named, shuffle, Pool, Scene, Size, Stop, Table};
+use super::{keys, named, registers, shuffle, Pool, Scene, Size, Stop, Table};
 use crate::layout::{Record, Section, Version};
 use crate::rng::Rng;
 use std::ops::Range;
@@ -74,21 +74,23 @@ struct Building<'a> {
     image: Vec<u8>,
     first: u64,
     version: Version,
+    machine: u64,
     groups: Vec<Group>,
     /// Records that belong to no function, as all do in version 1.
     strays: Vec<Record>,
     taken: Taken,
-    /// RBP minus RSP of each frame, modulo 2^64.
+    /// The frame pointer minus the stack pointer of each frame, modulo 2^64.
     distances: Vec<u64>,
 }
 
 /// Frames of these sizes, in a section that has the noise too. None where a frame that is to stand
-/// at the statepoint of the one before cannot: its RBP would be no address.
+/// at the statepoint of the one before cannot: its frame pointer would be no address.
 pub(super) fn build(
     rng: &mut Rng,
     table: &Table,
     sizes: &[Size],
     noise: &Section,
+    machine: u64,
 ) -> Option<Scene> {
     let mut constants = noise.constants.clone();
     constants.extend([0, rng.number(64).max(1)]);
@@ -100,6 +102,7 @@ pub(super) fn build(
         first: first_address(rng, image.len()),
         image,
         version: noise.version,
+        machine,
         groups: functions::groups_of(noise),
         strays: match noise.version {
             Version::One => noise.records.clone(),
@@ -121,19 +124,20 @@ pub(super) fn build(
 }
 
 impl Building<'_> {
-    /// Makes the frame's statepoint, and gives RBP minus RSP.
+    /// Makes the frame's statepoint, and gives the frame pointer minus the stack pointer.
     fn stand(&mut self, rng: &mut Rng, frame: &Laid) -> u64 {
-        let rsp = self.first + frame.at as u64;
+        let stack_pointer = self.first + frame.at as u64;
         let pool = Pool {
             version: self.version,
             constants: &self.constants,
+            registers: registers(self.machine),
         };
         let mut record = functions::statepoint(rng, pool);
-        let rbp = frame.cells.rbp(rng, rsp);
+        let frame_pointer = frame.cells.frame_pointer(rng, stack_pointer);
         frame.cells.pairs(
             rng,
             frame.pointers,
-            [rbp, rsp],
+            [frame_pointer, stack_pointer],
             pool,
             &self.image[frame.stretch()],
             self.table,
@@ -142,11 +146,11 @@ impl Building<'_> {
         let (version, length) = (self.version, frame.cells.length as u64);
         let group = functions::standing(rng, version, length, &record, frame.of, &mut self.taken);
         self.groups.push(group);
-        rbp.wrapping_sub(rsp)
+        frame_pointer.wrapping_sub(stack_pointer)
     }
 
     /// Has the frame stand at the statepoint of the one before, with the same contents, and gives
-    /// RBP minus RSP.
+    /// The frame pointer minus the stack pointer.
     fn stand_again(&mut self, nth: usize, frame: &Laid, same: &Laid) -> u64 {
         self.image.copy_within(same.stretch(), frame.at);
         let group = self.groups.last_mut();
@@ -154,19 +158,19 @@ impl Building<'_> {
         *self.distances.last().expect("that of the frame before")
     }
 
-    /// The scene, where RBP of every frame is an address.
+    /// The scene, where the frame pointer of every frame is an address.
     fn finish(self, rng: &mut Rng, frames: &[Laid]) -> Option<Scene> {
         let mut stops = Vec::new();
         for (frame, distance) in frames.iter().zip(&self.distances) {
-            let rsp = self.first + frame.at as u64;
-            let rbp = rsp.wrapping_add(*distance);
-            if (rbp >= rsp) != (*distance < 1 << 63) {
+            let stack_pointer = self.first + frame.at as u64;
+            let frame_pointer = stack_pointer.wrapping_add(*distance);
+            if (frame_pointer >= stack_pointer) != (*distance < 1 << 63) {
                 return None;
             }
             stops.push(Stop {
                 address: 0,
-                rbp,
-                rsp,
+                frame_pointer,
+                stack_pointer,
                 record: 0,
                 function: 0,
                 named: 0,
@@ -182,6 +186,7 @@ impl Building<'_> {
             image: self.image,
             first: self.first,
             table: self.table.clone(),
+            machine: self.machine,
             stops,
         };
         place(rng, &mut scene, self.groups, self.strays);

@@ -1,10 +1,10 @@
 //! The slots of a frame, their contents, and the pairs of pointers that name them.
 
-use super::{Pool, Size, Table, RBP, RSP};
+use super::{Pool, Size, Table};
 use crate::layout::{Location, Record, Version};
 use crate::rng::Rng;
 
-/// Slots that share no byte, by their first byte counted from RSP, and the frame's length.
+/// Slots that share no byte, by their first byte counted from the stack pointer, and the frame's length.
 #[derive(Clone, Debug)]
 pub(super) struct Cells {
     places: Vec<usize>,
@@ -63,8 +63,8 @@ impl Cells {
         }
     }
 
-    /// A content of RBP from which all slots can be reached, or any.
-    pub(super) fn rbp(&self, rng: &mut Rng, rsp: u64) -> u64 {
+    /// A content of the frame pointer from which all slots can be reached, or any.
+    pub(super) fn frame_pointer(&self, rng: &mut Rng, stack_pointer: u64) -> u64 {
         let far = rng.number(31) as i64;
         let distance = match rng.below(6) {
             0 => 0,
@@ -74,7 +74,9 @@ impl Cells {
             4 => far,
             _ => -far,
         };
-        rsp.checked_add_signed(distance).unwrap_or(rsp)
+        stack_pointer
+            .checked_add_signed(distance)
+            .unwrap_or(stack_pointer)
     }
 
     /// Adds pairs of so many pointers to the record, null pairs among them, which are one each. In
@@ -85,7 +87,7 @@ impl Cells {
         &self,
         rng: &mut Rng,
         count: usize,
-        registers: [u64; 2],
+        contents_of: [u64; 2],
         pool: Pool,
         stretch: &[u8],
         table: &Table,
@@ -128,7 +130,7 @@ impl Cells {
             }
             for nth in pair {
                 let size = pool.slot_size(rng, pointers);
-                let location = slot(rng, size, self.places[nth], registers);
+                let location = slot(rng, pool, size, self.places[nth], contents_of);
                 record.locations.push(location);
             }
         }
@@ -155,12 +157,18 @@ impl Cells {
     }
 }
 
-/// The location of this size at a slot, from RSP or, where it can be reached, from RBP.
-fn slot(rng: &mut Rng, size: u16, place: usize, [rbp, rsp]: [u64; 2]) -> Location {
-    let from_rbp = i128::from(rsp) + place as i128 - i128::from(rbp);
-    let (register, offset) = match i32::try_from(from_rbp) {
-        Ok(offset) if rng.one_in(2) => (RBP, offset),
-        _ => (RSP, place as i32),
+/// The location of this size at a slot, from the stack pointer or, where it can be reached, from the frame pointer.
+fn slot(
+    rng: &mut Rng,
+    pool: Pool,
+    size: u16,
+    place: usize,
+    [frame_pointer, stack_pointer]: [u64; 2],
+) -> Location {
+    let from_frame_pointer = i128::from(stack_pointer) + place as i128 - i128::from(frame_pointer);
+    let (register, offset) = match i32::try_from(from_frame_pointer) {
+        Ok(offset) if rng.one_in(2) => (pool.registers[0], offset),
+        _ => (pool.registers[1], place as i32),
     };
     Location {
         kind: 3,

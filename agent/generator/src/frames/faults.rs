@@ -11,7 +11,7 @@ use pairs::{base, collision, form, many_pointers, outside};
 use standing::{extent, no_record, shared};
 
 /// The refusals of a frame that are not its section's.
-pub const NUMBERS: [u64; 11] = [10, 12, 13, 14, 15, 16, 17, 18, 19, 20, 21];
+pub const NUMBERS: [u64; 12] = [10, 12, 13, 14, 15, 16, 17, 18, 19, 20, 21, 33];
 
 /// Those that are one frame's own, whatever the other frames are.
 pub const OWN: [u64; 9] = [10, 12, 15, 16, 17, 18, 19, 20, 21];
@@ -34,6 +34,7 @@ pub fn aim(rng: &mut Rng, number: u64, scene: &mut Scene, stop: usize) -> Option
         19 => outside(rng, scene, stop),
         20 => collision(rng, scene, stop),
         21 => base(rng, scene, stop),
+        33 => machine(rng, scene),
         _ => None,
     }
 }
@@ -89,6 +90,23 @@ fn no_statepoint(rng: &mut Rng, scene: &mut Scene, stop: usize) -> Option<u64> {
         }
     }
     Some(0)
+}
+
+/// A number that is no machine: the next one, one where a narrower number would be one, or any.
+fn machine(rng: &mut Rng, scene: &mut Scene) -> Option<u64> {
+    let own = scene.machine;
+    scene.machine = match rng.below(4) {
+        0 => 2,
+        1 => u64::MAX - rng.number(2),
+        2 => own + rng.pick(&[1 << 8, 1 << 16, 1 << 32, 1 << 63]),
+        _ => 2 + rng.number(62),
+    };
+    Some(0)
+}
+
+/// Hands in the other machine: the frames are then of one machine, and their section of the other.
+pub fn other_machine(scene: &mut Scene) {
+    scene.machine = 1 - scene.machine;
 }
 
 fn image(rng: &mut Rng, scene: &mut Scene) -> Option<u64> {

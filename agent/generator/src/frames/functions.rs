@@ -1,6 +1,6 @@
 //! The functions of a scene's section: those with the statepoints that frames stand at, and others.
 
-use super::{Pool, RSP};
+use super::Pool;
 use crate::layout::{Function, LiveOut, Location, Record, Section, Version};
 use crate::rng::Rng;
 use crate::valid::Shape;
@@ -208,7 +208,7 @@ pub(super) fn statepoint(rng: &mut Rng, pool: Pool) -> Record {
         locations.push(Location {
             kind,
             size: 8,
-            register: RSP,
+            register: pool.registers[1],
             offset,
         });
     }

@@ -87,13 +87,13 @@ pub fn add(rng: &mut Rng, scene: &mut Scene, lie: Lie, host: usize) -> Option<us
         return None;
     }
     let [from, to] = lie.place(rng, [start, end], length)?;
-    let rsp = scene.first.checked_add(from as u64)?;
-    Some(stand(rng, scene, rsp, (to - from) as u64))
+    let stack_pointer = scene.first.checked_add(from as u64)?;
+    Some(stand(rng, scene, stack_pointer, (to - from) as u64))
 }
 
-/// Adds a frame of this size at this RSP, with up to three null pairs and a function of its own, and
+/// Adds a frame of this size at this stack pointer, with up to three null pairs and a function of its own, and
 /// gives its number.
-pub fn stand(rng: &mut Rng, scene: &mut Scene, rsp: u64, size: u64) -> usize {
+pub fn stand(rng: &mut Rng, scene: &mut Scene, stack_pointer: u64, size: u64) -> usize {
     let (version, pool) = (scene.section.version, scene.pool());
     let mut record = functions::statepoint(rng, pool);
     for _ in 0..2 * rng.below(4) {
@@ -106,8 +106,8 @@ pub fn stand(rng: &mut Rng, scene: &mut Scene, rsp: u64, size: u64) -> usize {
     let function = scene.section.functions.len();
     scene.stops.push(Stop {
         address: group.address(),
-        rbp: rsp,
-        rsp,
+        frame_pointer: stack_pointer,
+        stack_pointer,
         record: scene.section.records.len() + group.at,
         function,
         named: named(rng, version, function, function + 1),

@@ -1,11 +1,11 @@
 //! How a frame is answered and what becomes of the image, worked out plainly from the scene: one more
 //! opinion beside those of the library and of the second implementation.
 
-use super::{keys, Scene, MOST_POINTERS, RBP, RSP};
+use super::{keys, registers, Scene, MOST_POINTERS};
 use crate::layout::{Location, Record, Version};
 use crate::questions::addresses;
 
-/// The slots of a pair's pointers, base first, by their first byte counted from RSP; a null pair has
+/// The slots of a pair's pointers, base first, by their first byte counted from the stack pointer; a null pair has
 /// none.
 pub type Slots = Vec<[i128; 2]>;
 
@@ -27,12 +27,13 @@ pub fn slots(scene: &Scene, stop: usize) -> Vec<Slots> {
     let stop = scene.stops[stop];
     let record = &scene.section.records[stop.record];
     let first = first_pair(record).expect("a statepoint");
+    let [of_frame, _] = registers(scene.machine);
     let place = |location: &Location| {
         let register = match location.register {
-            RBP => stop.rbp,
-            _ => stop.rsp,
+            frame_pointer if frame_pointer == of_frame => stop.frame_pointer,
+            _ => stop.stack_pointer,
         };
-        i128::from(register) + i128::from(location.offset as i32) - i128::from(stop.rsp)
+        i128::from(register) + i128::from(location.offset as i32) - i128::from(stop.stack_pointer)
     };
     let slots = |pair: &[Location]| match pair[0].kind {
         3 => (0..pointers_of(scene.section.version, pair))
@@ -88,7 +89,7 @@ fn of_pairs(scene: &Scene, stop: usize, pairs: &[Location]) -> (u64, u64) {
     if version == Version::One && pairs.len() / 2 > MOST_POINTERS {
         return (17, 0);
     }
-    let wrong = |pair: &[Location]| !is_null(scene, pair) && !is_form(version, pair);
+    let wrong = |pair: &[Location]| !is_null(scene, pair) && !is_form(scene, pair);
     if let Some(pair) = pairs.chunks_exact(2).position(wrong) {
         return (18, pair as u64);
     }
@@ -145,12 +146,13 @@ fn is_null(scene: &Scene, pair: &[Location]) -> bool {
     })
 }
 
-/// Whether a pair has the right form. Its sizes are 8 in version 1, each by itself also 0; in version 3
+/// Whether a pair has the right form. Its registers are the machine's. Its sizes are 8 in version 1, each by itself also 0; in version 3
 /// they are equal, a multiple of 8, and of 1 to 256 pointers.
-fn is_form(version: Version, pair: &[Location]) -> bool {
-    let slot = |one: &Location| one.kind == 3 && [RBP, RSP].contains(&one.register);
+fn is_form(scene: &Scene, pair: &[Location]) -> bool {
+    let own = registers(scene.machine);
+    let slot = |one: &Location| one.kind == 3 && own.contains(&one.register);
     let sizes = [pair[0].size, pair[1].size];
-    let right = match version {
+    let right = match scene.section.version {
         Version::One => sizes.iter().all(|size| [0, 8].contains(size)),
         Version::Three => {
             let most = 8 * MOST_POINTERS as u16;

@@ -1,13 +1,16 @@
 //! What the locations of a section can be made of.
 
+use super::MACHINES;
 use crate::layout::{Location, Version};
 use crate::rng::Rng;
 
-/// A section's constants, and its version, which decides what sizes there are.
+/// A section's constants, its version, which decides what sizes there are, and the DWARF numbers of the
+/// machine's frame pointer and stack pointer.
 #[derive(Clone, Copy, Debug)]
 pub(crate) struct Pool<'a> {
     pub(crate) version: Version,
     pub(crate) constants: &'a [u64],
+    pub(crate) registers: [u16; 2],
 }
 
 impl Pool<'_> {
@@ -53,6 +56,20 @@ impl Pool<'_> {
         match rng.one_in(2) {
             true => [one, two],
             false => [two, one],
+        }
+    }
+
+    /// A register that no slot is counted from: often one of the other machine's.
+    pub(crate) fn wrong_register(self, rng: &mut Rng) -> u16 {
+        let [own, other] = match self.registers == MACHINES[0].1 {
+            true => [0, 1],
+            false => [1, 0],
+        };
+        let near = MACHINES[own].1[rng.below(2)];
+        match rng.below(4) {
+            0 | 1 => MACHINES[other].1[rng.below(2)],
+            2 => near + rng.pick(&[0x100, 0x600, 16, 32]),
+            _ => rng.pick(&[0, 5, 8, 16, 28, 30, 32, u16::MAX]),
         }
     }
 

@@ -112,3 +112,27 @@ fn plain_answers_are_those_aimed_at() {
     }
     assert!(hit > 20_000, "{hit}");
 }
+
+/// Scenes are of both machines. On the other machine, with its registers, each is accepted as before; with
+/// its own registers it is refused by 18, unless all its pairs are null.
+#[test]
+fn frames_are_of_both_machines() {
+    let mut rng = Rng::new(1);
+    let (mut of, mut refused) = ([0; 2], 0);
+    for _ in 0..4_000 {
+        let mut scene = Scene::one(&mut rng);
+        of[scene.machine as usize] += 1;
+        let other = scene.on_other_machine();
+        assert_eq!(other.machine, 1 - scene.machine);
+        assert_eq!(plain::refusal(&other, 0), (0, 0));
+        assert_eq!(plain::slots(&other, 0), plain::slots(&scene, 0));
+        let slots = plain::slots(&scene, 0);
+        let pair = slots.iter().position(|pair| !pair.is_empty());
+        faults::other_machine(&mut scene);
+        let answer = pair.map_or((0, 0), |pair| (18, pair as u64));
+        assert_eq!(plain::refusal(&scene, 0), answer);
+        refused += u32::from(pair.is_some());
+    }
+    assert!(of[0] > 1_000 && of[1] > 1_000, "{of:?}");
+    assert!(refused > 1_000, "{refused}");
+}

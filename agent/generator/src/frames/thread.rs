@@ -70,11 +70,18 @@ impl Thread {
         }
     }
 
-    /// The list: address, RBP, RSP and function number of each frame.
+    /// The list: address, frame pointer, stack pointer and function number of each frame.
     pub fn list(&self) -> Vec<u64> {
         let stops = self.order.iter().map(|stop| self.scene.stops[*stop]);
         let mut list: Vec<u64> = stops
-            .flat_map(|stop| [stop.address, stop.rbp, stop.rsp, stop.named])
+            .flat_map(|stop| {
+                [
+                    stop.address,
+                    stop.frame_pointer,
+                    stop.stack_pointer,
+                    stop.named,
+                ]
+            })
             .collect();
         list.resize(list.len() + self.rest, 0x7000);
         list

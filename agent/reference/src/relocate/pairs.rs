@@ -9,6 +9,7 @@
 //! pointers has it.
 
 use super::Frame;
+use crate::machine::Machine;
 use crate::questions::constant;
 use crate::section::{Location, Section, Version};
 use crate::Refusal;
@@ -32,7 +33,7 @@ pub(super) struct Form {
 /// A slot inside the frame's extent.
 #[derive(Clone, Copy)]
 pub(super) struct Slot {
-    /// The slot's first byte, counted from RSP.
+    /// The slot's first byte, counted from the stack pointer.
     at: usize,
     /// What it holds before the call.
     content: u64,
@@ -48,6 +49,7 @@ pub(super) struct Pointer {
 pub(super) fn forms(
     section: &Section,
     entries: &[[Location; 2]],
+    machine: Machine,
     frame: Frame,
 ) -> Result<Vec<Option<Form>>, Refusal> {
     let numbered = entries.iter().enumerate();
@@ -57,18 +59,23 @@ pub(super) fn forms(
             if entry.iter().all(zero) {
                 return Ok(None);
             }
-            let form = form(section.version, entry, frame);
+            let form = form(section.version, entry, machine, frame);
             form.map(Some).ok_or(Refusal::at(18, number))
         })
         .collect()
 }
 
 /// The form of a pair that isn't null, if it is right.
-fn form(version: Version, [base, derived]: &[Location; 2], frame: Frame) -> Option<Form> {
+fn form(
+    version: Version,
+    [base, derived]: &[Location; 2],
+    machine: Machine,
+    frame: Frame,
+) -> Option<Form> {
     Some(Form {
         pointers: pointers(version, base.size, derived.size)?,
-        base: address(base, frame)?,
-        derived: address(derived, frame)?,
+        base: address(base, machine, frame)?,
+        derived: address(derived, machine, frame)?,
     })
 }
 
@@ -89,14 +96,15 @@ fn pointers(version: Version, base: u16, derived: u16) -> Option<usize> {
     }
 }
 
-/// The address that an Indirect location of one of the two registers names.
-fn address(location: &Location, frame: Frame) -> Option<i128> {
-    let register = match (location.kind, location.register) {
-        (3, 6) => frame.rbp,
-        (3, 7) => frame.rsp,
+/// The address that an Indirect location names by one of the machine's two
+/// registers.
+fn address(location: &Location, machine: Machine, frame: Frame) -> Option<i128> {
+    let content = match location.register {
+        register if register == machine.frame_pointer() => frame.frame_pointer,
+        register if register == machine.stack_pointer() => frame.stack_pointer,
         _ => return None,
     };
-    Some(i128::from(register) + i128::from(location.offset))
+    (location.kind == 3).then_some(i128::from(content) + i128::from(location.offset))
 }
 
 /// The number of pointers, null pairs counting one each.
@@ -134,7 +142,7 @@ fn pointer_inside(form: &Form, nth: usize, stretch: &[u8], frame: Frame) -> Opti
 
 /// Reads the slot at an address, if it is wholly inside the frame's extent.
 fn slot_inside(stretch: &[u8], frame: Frame, address: i128) -> Option<Slot> {
-    let at = usize::try_from(address - i128::from(frame.rsp)).ok()?;
+    let at = usize::try_from(address - i128::from(frame.stack_pointer)).ok()?;
     let content = stretch.get(at..)?.first_chunk::<SLOT>()?;
     Some(Slot {
         at,
@@ -165,7 +173,7 @@ fn collides(one: &Pointer, other: &Pointer) -> bool {
 }
 
 /// The new content of each derived slot, by the slot's first byte counted from
-/// RSP; refusal 21 at the lowest pair with a base that is neither 0 nor an old
+/// the stack pointer; refusal 21 at the lowest pair with a base that is neither 0 nor an old
 /// start.
 pub(super) fn new_contents(
     pairs: &[Vec<Pointer>],

@@ -2,6 +2,7 @@
 //! extents.
 
 use super::*;
+use crate::editions::{AARCH64, AMD64};
 use crate::fixtures::*;
 use crate::relocate::relocate;
 use crate::section::{encode, Function};
@@ -67,6 +68,7 @@ fn run(frames: &[[u64; 4]]) -> (Result<u64, Refusal>, Vec<u8>) {
         0x7000,
         &[0x50000],
         &[0x90000],
+        AMD64,
         &list,
     );
     (answer, image)
@@ -83,7 +85,7 @@ fn refused(frames: &[[u64; 4]]) -> (u64, u64) {
 #[test]
 fn a_list_of_none_is_accepted() {
     assert_eq!(run(&[]), (Ok(0), image()));
-    assert_eq!(thread(&row_c(), &mut [], 0, &[], &[], &[]), Ok(0));
+    assert_eq!(thread(&row_c(), &mut [], 0, &[], &[], AMD64, &[]), Ok(0));
 }
 
 #[test]
@@ -103,11 +105,11 @@ fn all_move_as_one_by_one_and_the_pointers_are_added() {
     for list in lists {
         let mut one_by_one = image();
         let mut sum = 0;
-        for &[address, rbp, rsp, function] in &list {
+        for &[address, frame_pointer, stack_pointer, function] in &list {
             let frame = Frame {
                 address,
-                rbp,
-                rsp,
+                frame_pointer,
+                stack_pointer,
                 function,
             };
             let pairs = relocate(
@@ -116,6 +118,7 @@ fn all_move_as_one_by_one_and_the_pointers_are_added() {
                 0x7000,
                 &[0x50000],
                 &[0x90000],
+                AMD64,
                 frame,
             );
             sum += pairs.unwrap();
@@ -158,7 +161,15 @@ fn pairs_have_no_place() {
     let section = one_function(24, &[], &[statepoint(0x20, &pairs)]);
     let mut image = image();
     let list = [full(0x7000), full(0x7018)].concat();
-    let answer = thread(&section, &mut image, 0x7000, &[0x50000], &[0x90000], &list);
+    let answer = thread(
+        &section,
+        &mut image,
+        0x7000,
+        &[0x50000],
+        &[0x90000],
+        AMD64,
+        &list,
+    );
     assert_eq!(answer, refusal(19, 0), "19 of pair 1, in frame 0");
 }
 
@@ -171,7 +182,15 @@ fn pointers_are_added() {
     let slots = [0x50000, 0, 0x60000, 0, 0x50000, 0x50008_u64];
     let mut image: Vec<u8> = slots.into_iter().flat_map(u64::to_le_bytes).collect();
     let list = [full(0x7000), full(0x7018)].concat();
-    let answer = thread(&section, &mut image, 0x7000, &[0x50000], &[0x90000], &list);
+    let answer = thread(
+        &section,
+        &mut image,
+        0x7000,
+        &[0x50000],
+        &[0x90000],
+        AMD64,
+        &list,
+    );
     assert_eq!(answer, Ok(6));
     let after = [0x50000, 0x40000, 0x60000, 0, 0x50000, 0x90008_u64];
     let after: Vec<u8> = after.into_iter().flat_map(u64::to_le_bytes).collect();
@@ -237,6 +256,37 @@ fn a_refused_frame_comes_before_26() {
     );
 }
 
+/// One machine for all frames: on the other one row H's pairs have a wrong form.
+/// A number that is none comes after the section's own refusal and before all
+/// else.
+#[test]
+fn a_thread_has_one_machine() {
+    let answer = |section: &[u8], machine, first, list: &[u64]| {
+        let mut image = image();
+        thread(
+            section,
+            &mut image,
+            first,
+            &[0x50000],
+            &[0x90000],
+            machine,
+            list,
+        )
+    };
+    let list = [word(0x7018), full(0x7000)].concat();
+    assert_eq!(answer(&section(), AMD64, 0x7000, &list), Ok(3));
+    assert_eq!(answer(&section(), AARCH64, 0x7000, &list), refusal(18, 1));
+    assert_eq!(answer(&section(), AARCH64, 0x7000, &word(0x7000)), Ok(1));
+    for machine in [2, 7, 31, 1 << 32, u64::MAX] {
+        for list in [&[][..], &[1], &NOWHERE, &list] {
+            assert_eq!(answer(&section(), machine, 0x7000, list), refusal(33, 0));
+            assert_eq!(answer(&section(), machine, u64::MAX, list), refusal(33, 0));
+            let cut = &row_h()[..151];
+            assert_eq!(answer(cut, machine, 0x7000, list), refusal(4, 40));
+        }
+    }
+}
+
 #[test]
 fn the_length_is_tested_before_any_frame() {
     let answer = |list: &[u64]| {
@@ -246,6 +296,7 @@ fn the_length_is_tested_before_any_frame() {
             0x7000,
             &[0x50000],
             &[0x90000],
+            AMD64,
             list,
         )
     };
@@ -283,19 +334,35 @@ fn what_all_frames_share_comes_first() {
     for list in lists {
         let (section, cut) = (section(), &row_h()[..151]);
         assert_eq!(
-            thread(cut, &mut long.clone(), 0, &[0], &[], list),
+            thread(cut, &mut long.clone(), 0, &[0], &[], AMD64, list),
             refusal(4, 40)
         );
         assert_eq!(
-            thread(&section, &mut long.clone(), 0, &[0], &[], list),
+            thread(&section, &mut long.clone(), 0, &[0], &[], AMD64, list),
             refusal(13, 0)
         );
         assert_eq!(
-            thread(&section, &mut image(), u64::MAX - 71, &[0], &[], list),
+            thread(
+                &section,
+                &mut image(),
+                u64::MAX - 71,
+                &[0],
+                &[],
+                AMD64,
+                list
+            ),
             refusal(13, 0)
         );
         assert_eq!(
-            thread(&section, &mut image(), u64::MAX - 72, &[0], &[], list),
+            thread(
+                &section,
+                &mut image(),
+                u64::MAX - 72,
+                &[0],
+                &[],
+                AMD64,
+                list
+            ),
             refusal(14, 0)
         );
     }

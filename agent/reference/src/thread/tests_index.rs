@@ -2,6 +2,7 @@
 //! the answers of the call without one.
 
 use super::*;
+use crate::editions::AMD64;
 use crate::fixtures::*;
 
 /// Row H's index.
@@ -21,7 +22,9 @@ fn image() -> Vec<u8> {
 fn run(section: &[u8], list: &[u64], index: &[u64]) -> (Result<u64, Refusal>, Vec<u8>) {
     let mut after = image();
     let (olds, news) = ([0x50000], [0x90000]);
-    let answer = thread_by_index(section, &mut after, 0x7000, &olds, &news, list, index);
+    let answer = thread_by_index(
+        section, &mut after, 0x7000, &olds, &news, AMD64, list, index,
+    );
     assert!(answer.is_ok() || after == image());
     (answer, after)
 }
@@ -45,6 +48,7 @@ fn with_the_right_index_it_answers_as_without() {
             0x7000,
             &[0x50000],
             &[0x90000],
+            AMD64,
             &list,
         );
         assert_eq!(run(&row_h(), &list, &INDEX), (answer, without));
@@ -98,9 +102,27 @@ fn version_1_is_27_whatever_the_index_holds() {
         0x7000,
         &[0x50000],
         &[0x90000],
+        AMD64,
         &[0x20, 0, 0x7000, 0],
     );
     assert_eq!(without, Ok(2));
+}
+
+/// 33 comes between 9 and 13, and so before 27 and 29.
+#[test]
+fn a_number_that_is_no_machine_comes_before_the_index() {
+    for (section, index) in [(row_h(), &INDEX[..]), (row_h(), &[]), (row_h_1(), &INDEX)] {
+        for machine in [2, u64::MAX] {
+            let answer = |section: &[u8], first| {
+                let mut image = image();
+                thread_by_index(section, &mut image, first, &[0], &[], machine, &[1], index)
+            };
+            assert_eq!(answer(&section, 0x7000), refusal(33, 0));
+            assert_eq!(answer(&section, u64::MAX), refusal(33, 0));
+            let cut = &section[..section.len() - 1];
+            assert_eq!(answer(cut, 0x7000).unwrap_err().number, 4);
+        }
+    }
 }
 
 /// 1 to 9, 13 and 14 come before 27 and 29, and 25 after them.
@@ -110,11 +132,29 @@ fn the_order_of_refusals() {
     for index in [&[][..], &INDEX, &[7]] {
         for section in [row_h(), row_h_1()] {
             let cut = &section[..section.len() - 1];
-            let faulty = thread_by_index(cut, &mut long.clone(), 0, &[0], &[], &[1], index);
+            let faulty = thread_by_index(cut, &mut long.clone(), 0, &[0], &[], AMD64, &[1], index);
             assert_eq!(faulty.unwrap_err().number, 4);
-            let too_long = thread_by_index(&section, &mut long.clone(), 0, &[0], &[], &[1], index);
+            let too_long = thread_by_index(
+                &section,
+                &mut long.clone(),
+                0,
+                &[0],
+                &[],
+                AMD64,
+                &[1],
+                index,
+            );
             assert_eq!(too_long, refusal(13, 0));
-            let no_table = thread_by_index(&section, &mut image(), 0x7000, &[0], &[], &[1], index);
+            let no_table = thread_by_index(
+                &section,
+                &mut image(),
+                0x7000,
+                &[0],
+                &[],
+                AMD64,
+                &[1],
+                index,
+            );
             assert_eq!(no_table, refusal(14, 0));
         }
     }

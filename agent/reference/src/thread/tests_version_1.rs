@@ -1,6 +1,7 @@
 //! Threads of version 1: four numbers a frame, the function number last.
 
 use super::*;
+use crate::editions::AMD64;
 use crate::fixtures::*;
 use crate::section::encode_version_1;
 
@@ -25,7 +26,15 @@ fn image() -> Vec<u8> {
 
 fn run(list: &[u64]) -> (Result<u64, Refusal>, Vec<u8>) {
     let mut image = image();
-    let answer = thread(&section(), &mut image, 0x7000, &[0x50000], &[0x90000], list);
+    let answer = thread(
+        &section(),
+        &mut image,
+        0x7000,
+        &[0x50000],
+        &[0x90000],
+        AMD64,
+        list,
+    );
     (answer, image)
 }
 
@@ -80,7 +89,7 @@ fn refusal_25_reads_four() {
     let empty = encode_version_1(&[function(0, 0, 0)], &[], &[statepoint(0x20, &[])]);
     let answer = |frames: usize| {
         let list = I.repeat(frames);
-        thread(&empty, &mut image(), 0x7000, &[], &[], &list)
+        thread(&empty, &mut image(), 0x7000, &[], &[], AMD64, &list)
     };
     assert_eq!(answer(4_096), Ok(0));
     assert_eq!(answer(4_097), refusal(25, 0));

@@ -53,7 +53,8 @@ impl Inputs<'_> {
     fn of_frame(&self, refusal: Refusal, position: usize, image: &[u8]) -> Refused {
         let (entry, first) = (&self.lines[position], self.arguments.first);
         let frame = entry.value;
-        let pair = library::pair_at_fault(&self.section, image, first, &self.table(), frame);
+        let (section, table, machine) = (&self.section, self.table(), self.machine);
+        let pair = library::pair_at_fault(section, image, first, &table, machine, frame);
         let sizes = || Sizes::of(&self.section, self.naming);
         let more = match refusal.number {
             10 => Some(self.naming.not_there(&self.section, &frame)),
@@ -65,7 +66,7 @@ impl Inputs<'_> {
             _ => pair.map(|pair| format!("pair {pair}")),
         };
         let more = more.map(|more| format!(": {more}")).unwrap_or_default();
-        let words = self.naming.words(&frame);
+        let words = self.naming.words(self.machine, &frame);
         Refused {
             file: self.arguments.frames.clone(),
             line: Some(entry.line),

@@ -2,7 +2,7 @@
 //! collide, and bases of no object. Of a pair with several pointers any may be the one at fault.
 
 use super::record_of;
-use crate::frames::{plain, Pool, Scene, MOST_POINTERS, RBP, RSP};
+use crate::frames::{plain, registers, Pool, Scene, MOST_POINTERS};
 use crate::layout::{Location, Version};
 use crate::rng::Rng;
 
@@ -26,7 +26,7 @@ pub(super) fn many_pointers(rng: &mut Rng, scene: &mut Scene, stop: usize) -> Op
         };
         let pair = match pointers {
             1 => [scene.pool().null(rng), scene.pool().null(rng)],
-            _ => anywhere(rng, pointers),
+            _ => anywhere(rng, scene.machine, pointers),
         };
         let locations = &mut scene.section.records[nth].locations;
         let at = first + 2 * rng.below((locations.len() - first) / 2 + 1);
@@ -52,11 +52,11 @@ fn widen(rng: &mut Rng, scene: &mut Scene, stop: usize, over: usize) {
 }
 
 /// A pair of so many pointers with its slots anywhere.
-fn anywhere(rng: &mut Rng, pointers: usize) -> [Location; 2] {
+fn anywhere(rng: &mut Rng, machine: u64, pointers: usize) -> [Location; 2] {
     [(); 2].map(|()| Location {
         kind: 3,
         size: 8 * pointers as u16,
-        register: rng.pick(&[RBP, RSP]),
+        register: rng.pick(&registers(machine)),
         offset: rng.number(32) as u32,
     })
 }
@@ -66,6 +66,7 @@ pub(super) fn form(rng: &mut Rng, scene: &mut Scene, stop: usize) -> Option<u64>
     let pool = Pool {
         version: scene.section.version,
         constants: &constants,
+        registers: registers(scene.machine),
     };
     let record = record_of(scene, stop);
     let first = plain::first_pair(record)?;
@@ -89,7 +90,7 @@ fn wrong_form(rng: &mut Rng, pool: Pool, pair: &mut [Location]) {
     let mut slot = Location {
         kind: 3,
         size: pool.slot_size(rng, pointers),
-        register: RSP,
+        register: pool.registers[1],
         offset: 8,
     };
     if pair[1 - one].kind == 3 {
@@ -107,7 +108,7 @@ fn wrong_form(rng: &mut Rng, pool: Pool, pair: &mut [Location]) {
             }
             return;
         }
-        3 => slot.register = rng.pick(&[0, 5, 8, 16, 0x106, 0x107, 0x600, u16::MAX]),
+        3 => slot.register = pool.wrong_register(rng),
         4 => {
             pair[1 - one] = slot;
             pair[one] = pool.null(rng);
@@ -160,24 +161,26 @@ pub(super) fn outside(rng: &mut Rng, scene: &mut Scene, stop: usize) -> Option<u
         5 => i32::MIN + near,
         _ => i32::MAX - near,
     };
+    let [_, own] = registers(scene.machine);
     let location = location(scene, stop, pair, which);
-    location.register = RSP;
+    location.register = own;
     location.offset = offset as u32;
     Some(pair as u64)
 }
 
-/// Has RBP and an offset whose sum modulo 2^64 is the slot, but which is no address as a whole
+/// Has the frame pointer and an offset whose sum modulo 2^64 is the slot, but which is no address as a whole
 /// number. False where the slot lies too far from the ends of the addresses.
 fn wrap(rng: &mut Rng, scene: &mut Scene, stop: usize, pair: usize, which: usize) -> bool {
     const REACH: i128 = 1 << 31;
+    let [of_frame, of_stack] = registers(scene.machine);
     let slots = plain::slots(scene, stop);
-    let target = i128::from(scene.stops[stop].rsp) + slots[pair][0][which];
+    let target = i128::from(scene.stops[stop].stack_pointer) + slots[pair][0][which];
     let above = i128::from(u64::MAX) + 1;
     let more = rng.below(100) as i128;
     let distance = match () {
-        // RBP is small, and the offset negative.
+        // the frame pointer is small, and the offset negative.
         () if above - target + more <= REACH => target - above - more,
-        // RBP is large, and the offset positive.
+        // the frame pointer is large, and the offset positive.
         () if target + 1 + more < REACH => target + 1 + more,
         () => return false,
     };
@@ -185,13 +188,13 @@ fn wrap(rng: &mut Rng, scene: &mut Scene, stop: usize, pair: usize, which: usize
         let first = slots.iter().take(1).flatten();
         for (which, slot) in first.enumerate() {
             let location = location(scene, stop, nth, which);
-            location.register = RSP;
+            location.register = of_stack;
             location.offset = *slot as u32;
         }
     }
-    scene.stops[stop].rbp = (target - distance).rem_euclid(above) as u64;
+    scene.stops[stop].frame_pointer = (target - distance).rem_euclid(above) as u64;
     let location = location(scene, stop, pair, which);
-    location.register = RBP;
+    location.register = of_frame;
     location.offset = distance as i32 as u32;
     true
 }
@@ -200,6 +203,7 @@ fn wrap(rng: &mut Rng, scene: &mut Scene, stop: usize, pair: usize, which: usize
 /// some pointer, or becomes the derived slot of one with another base.
 pub(super) fn collision(rng: &mut Rng, scene: &mut Scene, stop: usize) -> Option<u64> {
     let numbers = with_slots(scene, stop)?;
+    let [_, of_stack] = registers(scene.machine);
     let slots = plain::slots(scene, stop);
     let size = i128::from(scene.stack_size(stop));
     let before = record_of(scene, stop).clone();
@@ -225,7 +229,7 @@ pub(super) fn collision(rng: &mut Rng, scene: &mut Scene, stop: usize) -> Option
             continue;
         }
         let location = location(scene, stop, pair, which);
-        location.register = RSP;
+        location.register = of_stack;
         location.offset = place as u32;
         match plain::answer(scene, stop) {
             (20, place) => return Some(place),

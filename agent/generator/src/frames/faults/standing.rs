@@ -99,20 +99,20 @@ pub(super) fn extent(rng: &mut Rng, scene: &mut Scene, stop: usize) -> Option<u6
     let (first, own) = (scene.first, scene.stops[stop]);
     let wrong = match rng.below(6) {
         1 => u64::MAX - 1 - rng.number(4),
-        2 => end - own.rsp + 1 + near,
+        2 => end - own.stack_pointer + 1 + near,
         3 if first > 0 => {
-            scene.stops[stop].rsp = first - 1 - near.min(first - 1);
+            scene.stops[stop].stack_pointer = first - 1 - near.min(first - 1);
             return Some(0);
         }
         4 => match (end - size).checked_add(1 + near + far) {
-            Some(rsp) => {
-                scene.stops[stop].rsp = rsp;
+            Some(stack_pointer) => {
+                scene.stops[stop].stack_pointer = stack_pointer;
                 return Some(0);
             }
             None => u64::MAX,
         },
         // The extent would be inside if it could wrap.
-        5 => 0u64.wrapping_sub(own.rsp - first).max(1 << 32),
+        5 => 0u64.wrapping_sub(own.stack_pointer - first).max(1 << 32),
         _ => u64::MAX,
     };
     let version = scene.section.version;
