@@ -645,6 +645,107 @@ treskibben_flat_location_answer treskibben_flat_location(const uint8_t *section,
 treskibben_live_out_answer treskibben_flat_live_out(const uint8_t *section, size_t length,
                                                     uint64_t live_out);
 
+/*
+ * Settings by edition.
+ *
+ * A site keeps its settings in editions: the largest pointer count of a move, the machine, and the
+ * versions that are allowed. The first edition is number 1, and a new one gets one more than the greatest
+ * number ever used. The settings of an edition never change. A retired edition's place is used again, its
+ * number never.
+ *
+ * A store has 64 places, and goes through the calls by value: the caller hands one in, and keeps the one
+ * that the answer has. A refused call gives back the store as it was. A store holds numbers only, no
+ * pointer, so that its sizeof(treskibben_editions) bytes can be kept in a file and handed in again.
+ *
+ *   number  when
+ *   0       accepted
+ *   51      make: the count is not 1 to 256, the machine neither 0 nor 1, a version's number neither 0
+ *           nor 1, or no version is allowed
+ *   32      make: the new number would be over 2^32 - 1
+ *   30      make: no place is free
+ *   31      retire, read: no edition of that number was made, or it was retired; 0 and numbers over
+ *           2^32 - 1 are never known
+ *
+ * They are tested in this order, and the place is always 0. Other fields of a refused answer than number,
+ * place and store are 0. Any sequence of calls from the empty store is answered as the plain list of what
+ * was made and retired says.
+ *
+ * Every content of a store gets an answer, also one that no sequence of calls leaves. Where a number
+ * stands in several places, the first is read, and all are retired. A place whose number is over 2^32 - 1,
+ * or whose settings make would refuse, has no edition and is not free. Whether a place is free is told by
+ * its number alone. A new number follows `greatest`, whatever the places say. So a store from a file should
+ * be judged before it is trusted: the calls do not tell that it is damaged. The program treskibben keeps one
+ * behind a head and before a checksum, which docs/COMMAND.md has.
+ *
+ * A call needs about 16 KiB of stack, with the store that goes in and the one that comes back.
+ */
+
+/*
+ * The settings of an edition.
+ *
+ * most:      the largest pointer count of a move, 1 to 256.
+ * machine:   0 AMD64, 1 AArch64.
+ * version_1: 1 where sections of version 1 are allowed, else 0.
+ * version_3: 1 where sections of version 3 are allowed, else 0.
+ */
+typedef struct treskibben_settings {
+    uint64_t most;
+    uint64_t machine;
+    uint64_t version_1;
+    uint64_t version_3;
+} treskibben_settings;
+
+/* A place of a store: the number of its edition, or 0 where it is free. */
+typedef struct treskibben_edition {
+    uint64_t number;
+    treskibben_settings settings;
+} treskibben_edition;
+
+/*
+ * A store: the greatest number ever used, and the places. The empty store, in which nothing was ever made,
+ * is the one whose bytes are all 0, as TRESKIBBEN_EDITIONS_EMPTY and treskibben_editions_empty give it.
+ */
+#define TRESKIBBEN_EDITION_PLACES 64
+typedef struct treskibben_editions {
+    uint64_t greatest;
+    treskibben_edition places[TRESKIBBEN_EDITION_PLACES];
+} treskibben_editions;
+#define TRESKIBBEN_EDITIONS_EMPTY {0, {{0, {0, 0, 0, 0}}}}
+treskibben_editions treskibben_editions_empty(void);
+
+/* What make answers: the number of the new edition, and the store that is left. */
+typedef struct treskibben_edition_make_answer {
+    uint64_t number;
+    uint64_t place;
+    uint64_t edition;
+    treskibben_editions store;
+} treskibben_edition_make_answer;
+
+/* Makes an edition of these settings: 51, 32, 30, or its number. */
+treskibben_edition_make_answer treskibben_edition_make(treskibben_editions store,
+                                                       treskibben_settings settings);
+
+/* What retire answers: the store that is left. */
+typedef struct treskibben_edition_retire_answer {
+    uint64_t number;
+    uint64_t place;
+    treskibben_editions store;
+} treskibben_edition_retire_answer;
+
+/* Retires the edition of this number: 31. */
+treskibben_edition_retire_answer treskibben_edition_retire(treskibben_editions store,
+                                                           uint64_t edition);
+
+/* What read answers: the settings that the edition was made with. */
+typedef struct treskibben_edition_read_answer {
+    uint64_t number;
+    uint64_t place;
+    treskibben_settings settings;
+} treskibben_edition_read_answer;
+
+/* The settings of the edition of this number: 31. */
+treskibben_edition_read_answer treskibben_edition_read(treskibben_editions store, uint64_t edition);
+
 #ifdef __cplusplus
 }
 #endif

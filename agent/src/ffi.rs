@@ -6,6 +6,7 @@
 use crate::{Frame, Refusal};
 use std::mem::offset_of;
 
+pub(crate) mod editions;
 pub(crate) mod flat;
 pub(crate) mod index;
 #[cfg(test)]

@@ -15,6 +15,8 @@
 //! asked of both versions alike. [`flat`] has the same kinds of calls for the flat proposal of a
 //! version 2.
 //!
+//! [`editions`] keeps what a site sets for its moves, in a store of 64 editions.
+//!
 //! ```
 //! // A section of no functions, no constants and no records: version 3 and fifteen zeros.
 //! let mut section = vec![3];
@@ -32,6 +34,7 @@
 
 mod answers;
 mod conversions;
+pub mod editions;
 #[allow(unsafe_code)]
 mod ffi;
 pub mod flat;

@@ -47,6 +47,15 @@ const CAUSES: [&str; 29] = [
     "index isn't exactly the entries that the section yields",
 ];
 
+/// The causes of refusals by a store of editions: from number 30 on, and that of the settings alone, 51.
+const EDITION_CAUSES: [&str; 3] = [
+    "64 editions are live",
+    "edition unknown or retired",
+    "new edition's number over 2^32 - 1",
+];
+const SETTINGS_CAUSES: [&str; 1] =
+    ["pointer count not 1 to 256, machine unknown, or no version allowed"];
+
 /// The cause of a machine's refusal, number 33. The safe calls know two machines alone, and never give it.
 const MACHINE_CAUSES: [&str; 1] = ["machine not known"];
 
@@ -88,7 +97,9 @@ impl Refusal {
     /// The cause in words.
     pub fn cause(&self) -> &'static str {
         cause_from(&CAUSES, 1, self.number)
+            .or_else(|| cause_from(&EDITION_CAUSES, 30, self.number))
             .or_else(|| cause_from(&MACHINE_CAUSES, 33, self.number))
+            .or_else(|| cause_from(&SETTINGS_CAUSES, 51, self.number))
             .or_else(|| cause_from(&FLAT_CAUSES, 36, self.number))
             .unwrap_or("a cause that this version has no words for")
     }
@@ -115,8 +126,10 @@ mod tests {
     #[test]
     fn each_number_has_words_of_its_own() {
         let machine = (33..).zip(MACHINE_CAUSES);
+        let editions = (30..).zip(EDITION_CAUSES);
+        let settings = (51..).zip(SETTINGS_CAUSES);
         let numbers = (1..).zip(CAUSES).chain((36..).zip(FLAT_CAUSES));
-        let numbers = numbers.chain(machine);
+        let numbers = numbers.chain(editions).chain(machine).chain(settings);
         let mut met: Vec<&str> = vec![];
         for (number, cause) in numbers {
             assert_eq!(Refusal::new(number, 0).cause(), cause);
@@ -142,7 +155,11 @@ mod tests {
             (27, "question by address"),
             (28, "version 1 listing"),
             (29, "index isn't exactly"),
+            (30, "64 editions"),
+            (31, "unknown or retired"),
+            (32, "2^32 - 1"),
             (33, "machine not known"),
+            (51, "pointer count"),
             (36, "under 32"),
             (37, "version not 2"),
             (38, "aligned place"),
@@ -161,7 +178,7 @@ mod tests {
 
     #[test]
     fn numbers_beyond_the_table_still_print() {
-        for number in [0, 30, 35, 42, u64::MAX] {
+        for number in [0, 50, 35, 42, u64::MAX] {
             let text = Refusal::new(number, 4).to_string();
             assert!(
                 text.starts_with(&format!("refused {number} at 4: a cause")),

@@ -4,6 +4,7 @@ mod build;
 mod check;
 mod completions;
 mod cut;
+mod edition;
 mod find;
 mod flat;
 mod index;
@@ -22,6 +23,7 @@ pub enum Command {
     Index(index::Arguments),
     Cut(cut::Arguments),
     Flat(flat::Arguments),
+    Edition(edition::Arguments),
     Restore(restore::Arguments),
     Completions(completions::Arguments),
 }
@@ -35,6 +37,7 @@ impl Command {
             Command::Find(arguments) => arguments.json,
             Command::Cut(arguments) => arguments.json,
             Command::Flat(arguments) => arguments.json(),
+            Command::Edition(arguments) => arguments.json(),
             Command::Restore(arguments) => arguments.json,
             Command::Build(_) | Command::Index(_) | Command::Completions(_) => false,
         };
@@ -55,6 +58,7 @@ impl Command {
             Command::Index(arguments) => index::run(&arguments),
             Command::Cut(arguments) => cut::run(&arguments, voice),
             Command::Flat(arguments) => flat::run(&arguments, voice),
+            Command::Edition(arguments) => edition::run(&arguments, voice),
             Command::Restore(arguments) => restore::run(&arguments, voice),
             Command::Completions(arguments) => completions::run(&arguments),
         }

@@ -15,6 +15,8 @@ pub const LISTING: u64 = 33_554_432;
 pub const IMAGE: u64 = 1_048_576;
 /// The longest index: 16 bytes for each of the most records that a section of version 3 has.
 pub const INDEX: u64 = 16 * 699_049;
+/// The length of a store of editions.
+pub const EDITIONS: u64 = 2_588;
 
 /// Whether this name is that of standard input.
 pub fn is_standard_input(path: &Path) -> bool {

@@ -8,6 +8,7 @@
 
 mod beside;
 mod commands;
+mod editions;
 mod files;
 mod flat;
 mod found;

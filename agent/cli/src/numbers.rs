@@ -39,6 +39,11 @@ pub fn address(text: &str) -> Result<u64, &'static str> {
     hexadecimal(text.as_bytes()).ok_or("not a hexadecimal number of at most 64 bits")
 }
 
+/// The decimal number that an argument writes.
+pub fn whole(text: &str) -> Result<u64, &'static str> {
+    decimal(text.as_bytes()).ok_or("not a decimal number of at most 64 bits")
+}
+
 /// A number of things, in words: `1 record`, `2 records`.
 pub fn count(number: u64, thing: &str) -> String {
     let plural = if number == 1 { "" } else { "s" };

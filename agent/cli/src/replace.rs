@@ -59,6 +59,15 @@ impl Held {
         Ok(new)
     }
 
+    /// Puts new bytes in the file's place, and gives the folder, which is to be flushed.
+    pub fn replace(&self, bytes: &[u8]) -> io::Result<File> {
+        let new = self.prepare(bytes)?;
+        let folder = folder(&self.real)?;
+        self.still_named()?;
+        new.replace()?;
+        Ok(folder)
+    }
+
     /// Whether the name still leads to the file that was locked.
     pub fn still_named(&self) -> io::Result<()> {
         match is_named(&self.real, &self.metadata)? {
@@ -90,25 +99,22 @@ pub fn write(path: &Path, bytes: &[u8]) -> Result<(), Trouble> {
         Ok(there) if there.is_file() => {
             let held = Held::open(path)?;
             system::hold_signals();
-            let replaced = held.prepare(bytes).and_then(|new| {
-                let folder = folder(&held.real)?;
-                held.still_named()?;
-                new.replace()?;
-                Ok(folder)
-            });
-            flushed(path, replaced, "cannot be replaced")
+            flushed(path, held.replace(bytes), "cannot be replaced")
         }
         Ok(_) => straight(path, bytes),
-        Err(_) => {
-            system::hold_signals();
-            let placed = prepare(path, bytes, 0o666).and_then(|new| {
-                let folder = folder(path)?;
-                new.place()?;
-                Ok(folder)
-            });
-            flushed(path, placed, "cannot be written")
-        }
+        Err(_) => create(path, bytes),
     }
+}
+
+/// Writes a new file whole. Nothing may have its name.
+pub fn create(path: &Path, bytes: &[u8]) -> Result<(), Trouble> {
+    system::hold_signals();
+    let placed = prepare(path, bytes, 0o666).and_then(|new| {
+        let folder = folder(path)?;
+        new.place()?;
+        Ok(folder)
+    });
+    flushed(path, placed, "cannot be written")
 }
 
 /// Flushes the folder where a file has been put in place, or tells why it was not.

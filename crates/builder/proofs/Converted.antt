@@ -13,7 +13,7 @@ use Rattle.listing.specs.Listing.{readItems, itemsOf, readListing, give, toSect
 use Rattle.listing.proofs.RoundTrip.{built-refusal}
 use Rattle.listing.proofs.Writes.{give-short, give-all}
 use Rattle.parser.specs.Outcome.{refusal, Buildable}
-use Rattle.parser.proofs.Plans.{planned-size}
+use Rattle.parser_walk.proofs.Plans.{planned-size}
 
 module _ (l : List ℕ) (w : Bytes l) (out : List ℕ) where
   -- what is given is known without the section's bytes

@@ -1,11 +1,15 @@
 -- Where the arrays of a flat section begin, how many items each has, refusal 38, and folds over the items.
 use Prim.Native.Nat.{ℕ, zero, suc, _+_, _*_, _-_, _/_, max}
 use mathlib.Core.Bool.{Bool, true, _&&_}
-use lib.Dec.{eqb}
+use lib.Dec.{eqb, leb, ltb}
 use mathlib.Core.List.{List}
-use lib.ListN.{length}
+use lib.ListN.{length, getD}
 use Rattle.wire.specs.Word.{word}
-use Rattle.flat.specs.Layout.{headerSize, constantsOffsetAt, framesOffsetAt, registersOffsetAt, recordsOffsetAt, locationsOffsetAt, liveOutsOffsetAt, constantSize, constantAlign, frameSize, frameAlign, registerCountAt, registerIndexAt, registerSize, registerAlign, recordSize, recordAlign, locationSize, locationAlign, liveOutSize, liveOutAlign, align}
+use Rattle.flat.specs.Layout.{headerSize, constantsOffsetAt, framesOffsetAt, registersOffsetAt, recordsOffsetAt, locationsOffsetAt}
+use Rattle.flat.specs.Layout.{liveOutsOffsetAt, constantSize, constantAlign, frameSize, frameAlign, registerCountAt, registerIndexAt}
+use Rattle.flat.specs.Layout.{recordCountAt, recordIndexAt, registerSize, registerAlign, recordSize, recordAlign, locationCountAt}
+use Rattle.flat.specs.Layout.{locationIndexAt, liveOutCountAt, liveOutIndexAt, locationSize, locationAlign, liveOutSize, liveOutAlign}
+use Rattle.flat.specs.Layout.{align}
 
 -- a test holds of n numbers from i on
 unfoldable pub every : (ℕ → Bool) → ℕ → ℕ → Bool
@@ -77,3 +81,23 @@ module _ (s : List ℕ) where
       && eqb locationsAt (align locationAlign (recordsAt + recordSize * numRecords))
       && eqb liveOutsAt (align liveOutAlign (locationsAt + locationSize * numLocations))
       && eqb (length s) (liveOutsAt + liveOutSize * numLiveOuts)
+
+-- Tests of the items of an array, one after another.
+
+-- the range of the frame at `at` in the records ends within n of them
+abbrev pub frameInside : List ℕ → ℕ → ℕ → Bool
+frameInside s n at = leb (rangeEnd s (at + recordIndexAt) (at + recordCountAt)) n
+
+-- the ranges of the record at `at` end within n locations and m live-outs
+abbrev pub recordInside : List ℕ → ℕ → ℕ → ℕ → Bool
+recordInside s n m at =
+    leb (rangeEnd s (at + locationIndexAt) (at + locationCountAt)) n
+    && leb (rangeEnd s (at + liveOutIndexAt) (at + liveOutCountAt)) m
+
+-- the test holds of n places, the first `at`, each a step after the one before
+unfoldable pub along : (ℕ → Bool) → ℕ → ℕ → ℕ → Bool
+along test at step n = every (λ i. test (at + step * i)) 0 n
+
+-- n bytes, the first `at`, each a step after the one before, are below the limit
+abbrev pub clear : List ℕ → ℕ → ℕ → ℕ → ℕ → Bool
+clear s limit = along (λ p. ltb (getD s p 0) limit)

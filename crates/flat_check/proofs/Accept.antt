@@ -8,7 +8,8 @@ use borrow.Author.Tests.{leb-true}
 use Rattle.flat.specs.Places.{rangeEnd, framesAt, recordsAt, numFrames, numRecords, numLocations, numLiveOuts}
 use Rattle.flat.proofs.Steps.{and-true, every-told}
 use Rattle.flat.proofs.Arrays.{Arranged, arranged, right-told}
-use Rattle.flat_check.specs.Check.{along, frameInside, recordInside, rangesRight}
+use Rattle.flat.specs.Places.{along, frameInside, recordInside}
+use Rattle.flat_check.specs.Check.{rangesRight}
 use Rattle.flat_check.proofs.Chain.{Told}
 
 pub told-arranged : (s : List ℕ) → Told s → Arranged s

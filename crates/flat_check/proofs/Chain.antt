@@ -9,7 +9,8 @@ use lib.Dec.{eqb, leb}
 use lib.ListN.{length, getD}
 use Rattle.flat.specs.Places.{framesAt, recordsAt, numFrames, numRecords, numLocations, numLiveOuts, offsetsRight}
 use Rattle.flat.proofs.Steps.{and-true}
-use Rattle.flat_check.specs.Check.{need, along, frameInside, recordInside, versionRight, rangesRight, reservedClear, flatCheck, Accepted, ask}
+use Rattle.flat.specs.Places.{along, frameInside, recordInside}
+use Rattle.flat_check.specs.Check.{need, versionRight, rangesRight, reservedClear, flatCheck, Accepted, ask}
 
 -- two tests, each by its value
 pub both-same : {a b x y r : Bool} → r ≡ (a && b) → a ≡ x → b ≡ y → r ≡ (x && y)

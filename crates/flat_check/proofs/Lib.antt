@@ -1,3 +1,3 @@
 pub mod Chain
 pub mod Accept
-pub mod Below
+pub mod Flags

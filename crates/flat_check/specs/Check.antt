@@ -3,33 +3,16 @@ use Prim.Native.Nat.{ℕ, zero, suc, _+_, _*_, _-_}
 use mathlib.Core.Bool.{Bool, true, false, _&&_}
 use mathlib.Core.Path.{_≡_}
 use mathlib.Core.List.{List}
-use lib.Dec.{eqb, leb, ltb}
+use lib.Dec.{eqb, leb}
 use lib.ListN.{length, getD}
-use Rattle.flat.specs.Layout.{sectionLeast, sectionMost, headerSize, versionNumber, headerReservedAt, headerReservedSize, headerPadding, frameSize, frameFlagsAt, frameFlagsHighAt, recordCountAt, recordIndexAt, registerSize, registerFlagsAt, recordSize, recordFlagsAt, locationCountAt, locationIndexAt, liveOutCountAt, liveOutIndexAt, locationSize, locationReservedAt, liveOutSize, liveOutReservedAt, belowNone, belowOne, belowFour}
-use Rattle.flat.specs.Places.{every, rangeEnd, framesAt, registersAt, recordsAt, locationsAt, liveOutsAt, numFrames, numRegisters, numRecords, numLocations, numLiveOuts, offsetsRight}
+use Rattle.flat.specs.Layout.{sectionLeast, sectionMost, headerSize, versionNumber, headerReservedAt, headerReservedSize, headerPadding, frameSize, frameFlagsAt, frameFlagsHighAt, registerSize, registerFlagsAt, recordSize, recordFlagsAt, locationSize, locationReservedAt, liveOutSize, liveOutReservedAt, belowNone, belowOne, belowFour}
+use Rattle.flat.specs.Places.{frameInside, recordInside, along, clear}
+use Rattle.flat.specs.Places.{framesAt, registersAt, recordsAt, locationsAt, liveOutsAt, numFrames, numRegisters, numRecords, numLocations, numLiveOuts, offsetsRight}
 
 -- k where the test holds, and else the refusal n
 unfoldable pub need : Bool → ℕ → ℕ → ℕ
 need true n k = k
 need false n k = n
-
--- the range of the frame at `at` in the records ends within n of them
-abbrev pub frameInside : List ℕ → ℕ → ℕ → Bool
-frameInside s n at = leb (rangeEnd s (at + recordIndexAt) (at + recordCountAt)) n
-
--- the ranges of the record at `at` end within n locations and m live-outs
-abbrev pub recordInside : List ℕ → ℕ → ℕ → ℕ → Bool
-recordInside s n m at =
-    leb (rangeEnd s (at + locationIndexAt) (at + locationCountAt)) n
-    && leb (rangeEnd s (at + liveOutIndexAt) (at + liveOutCountAt)) m
-
--- the test holds of n places, the first `at`, each a step after the one before
-unfoldable pub along : (ℕ → Bool) → ℕ → ℕ → ℕ → Bool
-along test at step n = every (λ i. test (at + step * i)) 0 n
-
--- n bytes, the first `at`, each a step after the one before, are below the limit
-abbrev pub clear : List ℕ → ℕ → ℕ → ℕ → ℕ → Bool
-clear s limit = along (λ p. ltb (getD s p 0) limit)
 
 -- 36
 abbrev pub lengthRight : List ℕ → Bool

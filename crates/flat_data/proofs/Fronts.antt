@@ -9,9 +9,11 @@ use lib.Dec.{ltb}
 use lib.ListN.{length, getD, drop}
 use Rattle.wire.specs.Word.{Bytes, word, bytes}
 use Rattle.wire.proofs.Laws.{word-reads}
-use Rattle.flat_check.specs.Check.{along, clear}
+use Rattle.flat.specs.Places.{along, clear}
 use Rattle.flat_check.proofs.Accept.{along-told}
-use Rattle.flat_data.specs.Data.{Frame, Register, Record, Location, LiveOut, readConstant, readFrame, readRegister, readRecord, readLocation, readLiveOut, many, constantBytes, frameBytes, registerBytes, recordBytes, locationBytes, liveOutBytes, all}
+use Rattle.flat_data.specs.Data.{Frame, Register, Record, Location, LiveOut, readConstant, readFrame, readRegister, readRecord}
+use Rattle.flat_data.specs.Data.{readLocation, readLiveOut, many, constantBytes, frameBytes, registerBytes, recordBytes}
+use Rattle.flat_data.specs.Data.{locationBytes, liveOutBytes, all}
 
 module _ (s : List ℕ) (w : Bytes s) where
   -- a number of n bytes from a, up to b

@@ -8,14 +8,20 @@ use lib.ListN.{length, getD, drop}
 use lib.Seq.{drop-length}
 use Rattle.wire.specs.Word.{Bytes, word, bytes}
 use Rattle.flat.specs.Layout.{align}
-use Rattle.flat.specs.Places.{constantsAt, framesAt, registersAt, recordsAt, locationsAt, liveOutsAt, numConstants, numFrames, numRegisters, numRecords, numLocations, numLiveOuts}
+use Rattle.flat.specs.Places.{constantsAt, framesAt, registersAt, recordsAt, locationsAt, liveOutsAt, numConstants, numFrames, numRegisters}
+use Rattle.flat.specs.Places.{numRecords, numLocations, numLiveOuts}
 use Rattle.flat.proofs.Steps.{and-true}
 use Rattle.flat.proofs.Arrays.{Right, right-told, Arranged, arranged}
-use Rattle.flat_check.specs.Check.{clear, registersEnd, recordsEnd, reservedClear, Accepted}
+use Rattle.flat.specs.Places.{clear}
+use Rattle.flat_check.specs.Check.{registersEnd, recordsEnd, reservedClear, Accepted}
 use Rattle.flat_check.proofs.Chain.{Told, accepted-told}
-use Rattle.flat_data.specs.Data.{readConstant, readFrame, readRegister, readRecord, readLocation, readLiveOut, many, readSection, constantBytes, frameBytes, registerBytes, recordBytes, locationBytes, liveOutBytes, all, framesStart, registersStart, registersStop, recordsStart, recordsStop, locationsStart, liveOutsStart, headerBytes, encodeSection}
+use Rattle.flat_data.specs.Data.{readConstant, readFrame, readRegister, readRecord, readLocation, readLiveOut, many, readSection}
+use Rattle.flat_data.specs.Data.{constantBytes, frameBytes, registerBytes, recordBytes, locationBytes, liveOutBytes, all, framesStart}
+use Rattle.flat_data.specs.Data.{registersStart, registersStop, recordsStart, recordsStop, locationsStart, liveOutsStart, headerBytes}
+use Rattle.flat_data.specs.Data.{encodeSection}
 use Rattle.flat_data.specs.Laws.{Determined}
-use Rattle.flat_data.proofs.Fronts.{front, zero-front, padding, reserved, constant-front, frame-front, register-front, record-front, location-front, live-out-front, all-front, length-many}
+use Rattle.flat_data.proofs.Fronts.{front, zero-front, padding, reserved, constant-front, frame-front, register-front, record-front}
+use Rattle.flat_data.proofs.Fronts.{location-front, live-out-front, all-front, length-many}
 
 module _ (s : List ℕ) (w : Bytes s) (t : Told s) where
   right : Right s

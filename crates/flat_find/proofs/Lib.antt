@@ -1,4 +1,3 @@
 pub mod Lookup
 pub mod Firsts
 pub mod Ordered
-pub mod Filling

@@ -1,36 +1,17 @@
 -- What keys in order tell of a frame's first match.
 use Prim.Native.Nat.{ℕ, zero, suc, _+_, _*_, _-_, _≤_, _<_}
-use mathlib.Core.Path.{_≡_, refl, sym, ap, _∙_}
+use mathlib.Core.Path.{_≡_, sym, ap, _∙_}
 use mathlib.Core.List.{List}
 use native.Mathlib.Omega.{arith}
 use native.Mathlib.Decide.{decLt, ℕ-discrete}
-use lib.ListN.{length, getD}
+use lib.ListN.{getD}
 use Rattle.wire.specs.Word.{word}
 use Rattle.flat.specs.Places.{framesAt}
-use Rattle.sorted.specs.Sorted.{Sorted, EntryOf, LowerBound}
-use Rattle.sorted_numbers.specs.Numbers.{Rearranged}
+use Rattle.sorted.specs.Sorted.{LowerBound}
 use Rattle.flat_find.specs.declared.MatchAnswer.{MatchAnswer}
 use Rattle.flat_find.specs.Find.{addressOf, inFrame, notFound, firstOf}
-use Rattle.flat_find.specs.Keys.{offsetOf, Filled, Keyed}
+use Rattle.flat_keys.specs.Keys.{offsetOf, Keyed}
 use Rattle.flat_find.proofs.Lookup.{Looking, look-start, look-on, look-end}
-
--- no keys at all
-pub keyed-none : (s keys : List ℕ) → Keyed s keys 0
-keyed-none s keys =
-    record {
-      sorted = record { order = λ i j l m. absurd (omega arith) };
-      each = λ j l. absurd (omega arith);
-      small = λ j l. absurd (omega arith);
-    }
-
--- keys filled in and put in order
-pub keyed-sorted : (s before after : List ℕ) (m : ℕ) → Filled s before m → Rearranged before after m → Sorted after m → Keyed s after m
-keyed-sorted s before after m f r o =
-    record {
-      sorted = o;
-      each = λ j l. record { place = r .place j; inside = r .inside j l; same = r .same j l ∙ f .each j l };
-      small = f .small;
-    }
 
 -- records without a match are passed over
 pub skipped : (s : List ℕ) (a i k n d : ℕ) → d ≤ n → ((j : ℕ) → k ≤ j → j < k + d → addressOf s i j ≡ a → ⊥) → Looking s a i k n (k + d)

@@ -5,54 +5,15 @@ ghost use Prim.Native.Nat.{_+_, _*_, _≤_, _<_};
 ghost use lib.ListN.{length};
 ghost use Rattle.flat.specs.Layout.{sectionLeast, frameSize, recordSize};
 ghost use Rattle.flat.specs.Places.{framesAt, recordsAt};
-ghost use Rattle.flat_check.specs.Check.{Accepted};
 ghost use Rattle.flat_find.specs.Find.{inFrame, firstOf};
-ghost use Rattle.flat_find.specs.Keys.{keysMost, Filled, Keyed};
+ghost use Rattle.flat_keys.specs.Keys.{keysMost, Keyed};
 use crate::MatchAnswer;
 use flat::layout;
 use flat::offsets;
+use flat_keys::KEY_STEP;
 
-// How many records the 16-bit index and count of a frame can reach, and one more; and the first offset that has no 32 bits.
-pub const KEYS_MOST: usize = 131072;
-
-const KEY_STEP: u64 = 131072;
-
+// The first offset that has no 32 bits.
 const OFFSETS: u64 = 4294967296;
-
-fn smaller(a: usize, b: usize) -> usize
-    ensures { λ r. ⌜ (r ≤ a) × (r ≤ b) ⌝ }
-{
-    if a < b { a } else { b }
-}
-
-// The keys of the first `count` records: the offset, and the record's number after it.
-pub fn fill(s: &[u8], keys: &mut [u64], count: usize)
-    requires { ⌜ (sectionLeast ≤ length (now s)) × (recordsAt (now s) + recordSize * count ≤ length (now s)) × (count ≤ length (now keys)) × (count ≤ keysMost) ⌝ }
-    ensures { λ r. ⌜ (length (now (keys .exit)) ≡ length (now (keys .entry))) × Filled (now (s .entry)) (now (keys .exit)) count ⌝ }
-{
-    let records = offsets::offset(s, layout::RECORDS_OFFSET_AT);
-    let mut j: usize = 0;
-    while j < count {
-        let offset = wire::u32_at(
-            s,
-            records + layout::RECORD_SIZE * j + layout::INSTRUCTION_OFFSET_AT,
-        ) as u64;
-        keys[j] = offset * KEY_STEP + j as u64;
-        j += 1;
-    }
-}
-
-// Puts the keys of the first records in order, as many as there are and a frame can name. Answers their number.
-pub fn order(s: &[u8], keys: &mut [u64]) -> usize
-    requires { ⌜ Accepted (now s) × (keysMost ≤ length (now keys)) ⌝ }
-    ensures { λ r. ⌜ (length (now (keys .exit)) ≡ length (now (keys .entry))) × (r ≤ keysMost) × Keyed (now (s .entry)) (now (keys .exit)) r ⌝ }
-{
-    let records = offsets::num_records(s);
-    let count = smaller(records, KEYS_MOST);
-    fill(s, keys, count);
-    sorted_numbers::sort(keys, count);
-    count
-}
 
 // The first of n records from k on that has the address in the frame i, by the keys of the first `count` records where these are among
 // them. The first key from (offset, k) on is that of the first match, or no match stands before it.

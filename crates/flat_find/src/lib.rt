@@ -5,7 +5,7 @@ ghost use lib.ListN.{length};
 ghost use Rattle.flat.specs.Layout.{sectionLeast, frameSize, recordSize};
 ghost use Rattle.flat.specs.Places.{framesAt, recordsAt};
 ghost use Rattle.flat_check.specs.Check.{Accepted};
-ghost use Rattle.flat_find.specs.Keys.{keysMost, Keyed};
+ghost use Rattle.flat_keys.specs.Keys.{keysMost, Keyed};
 ghost use Rattle.flat_find.specs.Find.{inFrame, matches, notFound, firstOf, byAddress};
 use flat::layout;
 use flat::offsets;
@@ -66,21 +66,6 @@ fn in_frame(s: &[u8], address: u64, i: usize, k: usize, n: usize) -> MatchAnswer
     not_found(41)
 }
 
-// How many records the frames name in all, each as often as it is named.
-fn named(s: &[u8]) -> u64
-    requires { ⌜ Accepted (now s) ⌝ }
-{
-    let frames = offsets::offset(s, layout::FRAMES_OFFSET_AT);
-    let n = offsets::num_frames(s);
-    let mut sum: u64 = 0;
-    let mut k: usize = 0;
-    while k < n {
-        sum += wire::u16_at(s, frames + layout::FRAME_SIZE * k + layout::RECORD_COUNT_AT) as u64;
-        k += 1;
-    }
-    sum
-}
-
 // The first match in frame order, then record order, by the keys of the first `count` records.
 fn in_frames(s: &[u8], address: u64, keys: &[u64], count: usize) -> MatchAnswer
     requires { ⌜ Accepted (now s) × (count ≤ length (now keys)) × (count ≤ keysMost) × Keyed (now s) (now keys) count ⌝ }
@@ -116,8 +101,8 @@ fn by_keys(s: &[u8], address: u64) -> MatchAnswer
     requires { ⌜ Accepted (now s) ⌝ }
     ensures { λ r. ⌜ r ≡ firstOf (matches (now (s .entry)) address) ⌝ }
 {
-    let mut ordered = [0u64; keys::KEYS_MOST];
-    let count = keys::order(s, &mut ordered);
+    let mut ordered = [0u64; flat_keys::KEYS_MOST];
+    let count = flat_keys::order(s, &mut ordered);
     in_frames(s, address, &ordered, count)
 }
 
@@ -129,7 +114,7 @@ pub fn find(s: &[u8], address: u64) -> MatchAnswer
     if refusal != 0 {
         return not_found(refusal);
     }
-    if named(s) > NAMED_MOST {
+    if flat_keys::named(s) > NAMED_MOST {
         return by_keys(s, address);
     }
     one_by_one(s, address)

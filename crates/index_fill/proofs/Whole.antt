@@ -23,9 +23,9 @@ use Rattle.index.specs.Answers.{Answers}
 use Rattle.index.specs.Index.{rowOf, indexOf, Listed, notListed, putNumbers, fillIndex}
 use Rattle.index.proofs.Index.{rowAt, rows-has, rows-place, rows-flat, flat-length, index-length, exactly}
 use Rattle.index.proofs.Numbers.{section-numbered, rows-many}
-use Rattle.index_fill.specs.Filled.{inPlace}
-use Rattle.index_fill.proofs.Walk.{tabled}
-use Rattle.index_fill.proofs.Rows.{in-place}
+use Rattle.index_rows.specs.Filled.{inPlace}
+use Rattle.index_rows.proofs.Walk.{tabled}
+use Rattle.index_rows.proofs.Rows.{in-place}
 
 -- beyond the first n pairs nothing has changed
 beyond : {zs ys : List ℕ} (n : ℕ) → Reordered zs ys n → (i : ℕ) → 2 * n ≤ i → getD ys i 0 ≡ getD zs i 0

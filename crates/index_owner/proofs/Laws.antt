@@ -10,7 +10,9 @@ use lib.ListN.{length, getD, replicate, set, length-set, length-replicate, getD-
 use lib.Seq.{getD-append-add, getD-set-same, getD-set-other}
 use Rattle.wire.specs.Word.{word}
 use Rattle.stackmap.specs.Fields.{size, many}
-use Rattle.stackmap.specs.Section.{Function, Record, Owner, recordFields, numFunctions, numRecords, isOld, recordsAt, readFunction, readFunctions, readSection, readRecords, noFunction, nobody, owners, recordOwners, counted, Entry, entriesFrom, entries}
+use Rattle.stackmap.specs.Section.{Function, Record, Owner, recordFields, numFunctions, numRecords, isOld, recordsAt, readFunction}
+use Rattle.stackmap.specs.Section.{readFunctions, readSection, readRecords, noFunction, nobody, owners, recordOwners, counted, Entry}
+use Rattle.stackmap.specs.Section.{entriesFrom, entries}
 use Rattle.stackmap.specs.Walk.{functionAt, Walkable, functionNumber}
 use Rattle.stackmap.proofs.Parts.{function-number}
 use Rattle.stackmap.proofs.Entries.{entries-are}

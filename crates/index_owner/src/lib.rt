@@ -28,7 +28,8 @@ fn count_of(s: &[u8], function: usize) -> u64
 
 // How many records the functions from `first` up to `end` have.
 fn counts_of(s: &[u8], first: usize, end: usize) -> u64
-    requires { ⌜ Walkable (now s) × (isOld (now s) ≡ false) × (numRecords (now s) < 4294967296) × (first ≤ end) × (end ≤ numFunctions (now s)) ⌝ }
+    requires { ⌜ Walkable (now s) × (isOld (now s) ≡ false) × (numRecords (now s) < 4294967296)
+        × (first ≤ end) × (end ≤ numFunctions (now s)) ⌝ }
     ensures { λ r. ⌜ before (now (s .entry)) end ≡ before (now (s .entry)) first + r ⌝ }
 {
     let mut f = first;
@@ -53,7 +54,8 @@ fn next_mark(f: usize, functions: usize) -> usize
 
 // Fills the marks; the answer is how many there are.
 pub fn mark(s: &[u8], marks: &mut [u32]) -> usize
-    requires { ⌜ Walkable (now s) × (isOld (now s) ≡ false) × (numRecords (now s) < 4294967296) × (numFunctions (now s) ≤ 86 * length (now marks)) ⌝ }
+    requires { ⌜ Walkable (now s) × (isOld (now s) ≡ false) × (numRecords (now s) < 4294967296)
+        × (numFunctions (now s) ≤ 86 * length (now marks)) ⌝ }
     ensures { λ r. ⌜ Marked (now (s .entry)) (now (marks .exit)) r ⌝ }
 {
     let functions = wire::u32_at(s, layout::NUM_FUNCTIONS_AT) as usize;

@@ -1,5 +1,1 @@
-pub mod Faults
-pub mod Turns
-pub mod Walking
-pub mod Plans
 pub mod Outcomes

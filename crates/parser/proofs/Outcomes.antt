@@ -20,7 +20,7 @@ use Rattle.listing.specs.Listing.{readItems, listedOld, versionLength, itemsOf,
 use Rattle.listing.proofs.Items.{is-item}
 use Rattle.parser_items.specs.Draft.{Whole}
 use Rattle.parser.specs.Outcome.{refusal, Buildable}
-use Rattle.parser.proofs.Plans.{planned-size}
+use Rattle.parser_walk.proofs.Plans.{planned-size}
 
 -- 1
 pub too-long : (l : List ℕ) → listingMost < length l → refusal l ≡ Refused 1 0

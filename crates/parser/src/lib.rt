@@ -3,14 +3,10 @@
 // the version's item.
 ghost use Rattle.parser.specs.Outcome.{Parsed};
 use listing::numbers;
+use parser_draft::Draft;
 use parser_items::Plan;
-use parser_items::draft;
-use parser_items::draft::Draft;
 use parser_items::version;
 use stackmap::Verdict;
-
-mod fault;
-mod walk;
 
 // What the listing comes to.
 pub enum Outcome {
@@ -29,9 +25,9 @@ pub fn parse(l: &[u8]) -> Outcome
     }
     let old = version::listed_old(l);
     let start = listing::version_length(old);
-    match draft::items(&l[start..], old) {
+    match parser_draft::items(&l[start..], old) {
         Draft::Refused(n, p) => Outcome::Refused(n, start + p),
-        Draft::Whole(plan) => match walk::section(&l[start..], plan) {
+        Draft::Whole(plan) => match parser_walk::section(&l[start..], plan) {
             Verdict::Refused(n, p) => Outcome::Refused(n, p),
             Verdict::Valid(size) => Outcome::Section(plan, size),
         },

@@ -1,10 +1,7 @@
-// The items of a listing, counted and held to the listing's own rules: 22, 23 and 28, or what there is to write.
+// The items of a listing, counted.
 // All modules but `version` count places from the first byte after the version's item.
 // No entry point but `version::listed_old`: `parser` has tested the listing's length before.
 pub mod count;
-pub mod draft;
-pub mod grammar;
-pub mod narrow;
 pub mod shape;
 pub mod version;
 

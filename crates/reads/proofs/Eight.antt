@@ -9,7 +9,8 @@ use lib.Seq.{drop-cons, drop-length}
 use Rattle.wire.specs.Word.{word}
 use Rattle.reads.specs.Equal.{hitAt, equal}
 
-pub eight : (s : List ℕ) (at : ℕ) → word 8 s at ≡ getD s at 0 + 256 * getD s (at + 1) 0 + 65536 * getD s (at + 2) 0 + 16777216 * getD s (at + 3) 0 + 4294967296 * getD s (at + 4) 0 + 1099511627776 * getD s (at + 5) 0 + 281474976710656 * getD s (at + 6) 0 + 72057594037927936 * getD s (at + 7) 0
+pub eight : (s : List ℕ) (at : ℕ) → word 8 s at ≡ getD s at 0 + 256 * getD s (at + 1) 0 + 65536 * getD s (at + 2) 0 + 16777216 * getD s (at + 3) 0 +
+    4294967296 * getD s (at + 4) 0 + 1099511627776 * getD s (at + 5) 0 + 281474976710656 * getD s (at + 6) 0 + 72057594037927936 * getD s (at + 7) 0
 unfolding word
 eight s at =
     let p2 : at + 1 + 1 ≡ at + 2 = omega arith in

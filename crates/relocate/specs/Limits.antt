@@ -2,18 +2,20 @@
 -- of the crate below.
 use Prim.Native.Nat.{ℕ}
 use Rattle.relocate.specs.declared.Machine.{Machine}
-use Rattle.relocate.specs.declared.Machine.the-variants.{Amd64}
+use Rattle.relocate.specs.declared.Machine.the-variants.{Amd64, Aarch64}
 
 -- an image's length
 abbrev pub imageMost : ℕ
 imageMost = 1048576
 
--- a machine's frame pointer and stack pointer, by their DWARF numbers: on AMD64 RBP and RSP
+-- a machine's frame pointer and stack pointer, by their DWARF numbers: on AMD64 RBP and RSP, on AArch64 x29 and sp
 abbrev pub framePointer : Machine → ℕ
 framePointer Amd64 = 6
+framePointer Aarch64 = 29
 
 abbrev pub stackPointer : Machine → ℕ
 stackPointer Amd64 = 7
+stackPointer Aarch64 = 31
 
 -- location kinds: memory at register + offset, and the offset sign-extended
 abbrev pub kindIndirect : ℕ

@@ -6,8 +6,10 @@ pub enum Spot {
     Outside,
 }
 
+// The machine that a stopped thread is of.
 pub enum Machine {
     Amd64,
+    Aarch64,
 }
 
 // A frame is an address, and what its machine's frame pointer and stack pointer hold. For version 1 the address is the offset in the

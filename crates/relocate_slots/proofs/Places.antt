@@ -10,20 +10,10 @@ use lib.Dec.{leb}
 use Rattle.stackmap.specs.Section.{Location}
 use Rattle.moves.specs.Pointers.{orZero}
 use Rattle.relocate.specs.declared.Frame.{Frame}
-use Rattle.relocate.specs.declared.Machine.{Machine}
-use Rattle.relocate.specs.declared.Machine.the-variants.{Amd64}
-use Rattle.relocate.specs.Limits.{framePointer, stackPointer}
+use Rattle.relocate.specs.Limits.{framePointer}
 use Rattle.relocate.specs.Statepoint.{pointersIn, registerOf, slotAddress, wholly, slotsInside, slotAt}
 use Rattle.stackmap.specs.Section.{asOffset}
 use Rattle.relocate.specs.Code.{slotIn, positionIn, placeIn}
-
--- a machine's registers
-
-pub frame-number : (m : Machine) → 6 ≡ framePointer m
-frame-number Amd64 = refl
-
-pub stack-number : (m : Machine) → 7 ≡ stackPointer m
-stack-number Amd64 = refl
 
 pub place-past : (p k n : ℕ) → n < p + 8 * k → none ≡ placeIn p k n
 unfolding placeIn

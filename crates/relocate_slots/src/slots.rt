@@ -12,10 +12,14 @@ use relocate::Machine;
 use relocate::Spot;
 use stackmap::layout;
 
-// RBP and RSP, by their DWARF numbers on AMD64.
+// Frame pointer and stack pointer by their DWARF numbers: RBP and RSP on AMD64, x29 and sp on AArch64.
 const RBP: u16 = 6;
 
 const RSP: u16 = 7;
+
+const X29: u16 = 29;
+
+const SP: u16 = 31;
 
 const KIND_INDIRECT: u8 = 3;
 
@@ -76,6 +80,7 @@ fn frame_pointer(machine: Machine) -> u16
 {
     match machine {
         Machine::Amd64 => RBP,
+        Machine::Aarch64 => X29,
     }
 }
 
@@ -84,6 +89,7 @@ fn stack_pointer(machine: Machine) -> u16
 {
     match machine {
         Machine::Amd64 => RSP,
+        Machine::Aarch64 => SP,
     }
 }
 

@@ -1,64 +1,15 @@
-// The header, the functions and the constants.
+// All that comes before the records: the header, the functions and the constants.
 // `is_old` and `stack_size` are no entry points: they require the header, which 1 has tested, and the functions, which 4 has.
 ghost use mathlib.Core.Path.{_≡_};
-ghost use mathlib.Core.Bool.{false};
 ghost use Prim.Native.Nat.{_+_, _*_, _≤_, _<_};
 ghost use lib.ListN.{length};
-ghost use lib.Dec.{eqb};
-ghost use Rattle.stackmap.specs.Layout.{headerSize, functionSize};
-ghost use Rattle.stackmap.specs.Fields.{many};
-ghost use Rattle.stackmap.specs.Section.{numFunctions, isOld, constantsAt, readFunction, counted};
+ghost use Rattle.stackmap.specs.Layout.{headerSize};
+ghost use Rattle.stackmap.specs.Section.{numFunctions, isOld, constantsAt};
 ghost use Rattle.stackmap.specs.Walk.{functionNumber};
 ghost use Rattle.stackmap.specs.Verdict.{chain};
-ghost use Rattle.stackmap.specs.Check.{versionRight, headerCheck, tablesCheck};
+ghost use Rattle.stackmap.specs.Check.{headerCheck, tablesCheck};
 use stackmap::Verdict;
 use stackmap::layout;
-use stackmap_record::record;
-
-// The test of refusal 2.
-fn version_right(version: u8) -> bool
-    ensures { λ r. ⌜ r ≡ versionRight version ⌝ }
-{
-    if version == layout::VERSION {
-        return true;
-    }
-    version == layout::OLD_VERSION
-}
-
-fn check_header(s: &[u8]) -> Verdict
-    ensures { λ r. ⌜ r ≡ headerCheck (now (s .entry)) ⌝ }
-{
-    if s.len() < layout::HEADER_SIZE {
-        return Verdict::Refused(1, 0);
-    }
-    if s.len() > layout::SECTION_MOST {
-        return Verdict::Refused(1, 0);
-    }
-    if version_right(s[0]) {
-        return record::zero_bytes(s, 1, 3);
-    }
-    Verdict::Refused(2, 0)
-}
-
-// Whether the record counts of the first `functions` functions add up to `total`, exactly.
-fn counts_add_up(s: &[u8], functions: usize, total: u64) -> bool
-    requires { ⌜ headerSize + functionSize false * functions ≤ length (now s) ⌝ }
-    ensures { λ r. ⌜ r ≡ eqb (counted (many (readFunction false) (functionSize false) functions (now (s .entry)) headerSize)) total ⌝ }
-{
-    let mut f: usize = layout::HEADER_SIZE;
-    let mut left = functions;
-    let mut rest = total;
-    while left > 0 {
-        let count = wire::u64_at(s, f + layout::RECORD_COUNT_AT);
-        if count > rest {
-            return false;
-        }
-        rest -= count;
-        f += layout::FUNCTION_SIZE;
-        left -= 1;
-    }
-    rest == 0
-}
 
 // Whether the section is of version 1.
 pub fn is_old(s: &[u8]) -> bool
@@ -93,7 +44,7 @@ fn tables(s: &[u8]) -> Verdict
     if is_old(s) {
         return Verdict::Valid(end);
     }
-    if counts_add_up(s, functions, records) {
+    if stackmap_header::counts_add_up(s, functions, records) {
         Verdict::Valid(end)
     } else {
         Verdict::Refused(5, layout::NUM_RECORDS_AT)
@@ -104,7 +55,7 @@ fn tables(s: &[u8]) -> Verdict
 pub fn begin(s: &[u8]) -> Verdict
     ensures { λ r. ⌜ r ≡ chain (headerCheck (now (s .entry))) (tablesCheck (now (s .entry))) ⌝ }
 {
-    if let Verdict::Refused(n, p) = check_header(s) {
+    if let Verdict::Refused(n, p) = stackmap_header::check_header(s) {
         return Verdict::Refused(n, p);
     }
     tables(s)

@@ -25,7 +25,7 @@ use Rattle.relocate.specs.Plan.{imageRight}
 use Rattle.relocate.specs.Relocation.{answer}
 use Rattle.relocate.specs.Lists.{final, Holds}
 use Rattle.relocate.proofs.Demand.{demand3, order-free, disjoint-perm}
-use Rattle.thread.specs.Thread.{listRight, framesOf, passes, judged, pairsIn, threadAnswer, threadImage}
+use Rattle.thread.specs.Thread.{Thread, listRight, framesOf, passes, judged, pointersIn, threadAnswer, threadImage}
 use Rattle.thread.specs.Theorems.{Movable, total, AcceptedOnly, ByFrames, FrameByFrame, OrNone, AnyOrder, OneInstant}
 use Rattle.thread.proofs.Overlaps.{apart-passes, apart-tells}
 
@@ -71,26 +71,26 @@ module _ (R : Restore) (im : List ℕ) where
       rw (eq-eqb _ 0 (a f (List·Memᴰ·head refl))) (judged-passes (suc i) fs k (λ g m. a g (List·Memᴰ·tail m)))
 
   -- the counts of the plain answers, added; and the same sum in any order
-  total-is : (fs : List Frame) → total (map ans fs) ≡ pairsIn R im fs
-  unfolding pairsIn
+  total-is : (fs : List Frame) → total (map ans fs) ≡ pointersIn R im fs
+  unfolding pointersIn
   total-is [] = refl
   total-is (f ∷ fs) = rw (total-is fs)
 
-  pairs-perm : {fs gs : List Frame} → List·Permᴰ fs gs → pairsIn R im fs ≡ pairsIn R im gs
-  unfolding pairsIn
+  pairs-perm : {fs gs : List Frame} → List·Permᴰ fs gs → pointersIn R im fs ≡ pointersIn R im gs
+  unfolding pointersIn
   pairs-perm List·Permᴰ·nil = refl
   pairs-perm (List·Permᴰ·cons e p) = rw (e, pairs-perm p)
   pairs-perm (List·Permᴰ·swap e₁ e₂) = rw (e₁, e₂) (omega arith)
   pairs-perm (List·Permᴰ·trans p q) = pairs-perm p ∙ pairs-perm q
 
-  module _ (ns : List ℕ) where
+  module _ (ns : Thread) where
     accepted-tells : threadAnswer R im ns .number ≡ 0 → Movable R im ns
     unfolding threadAnswer
     accepted-tells h =
         let v = ask-tells (sectionCheck (R .section)) _ (section-numbered (R .section)) h in
         let i = need-tells (imageRight (R .first) (length im)) 12 _ (v .1) in
         let t = need-tells (tableRight (R .olds) (R .news)) 13 _ (i .1) in
-        let l = need-tells (listRight ns) 24 _ (t .1) in
+        let l = need-tells (listRight (ns .list)) 24 _ (t .1) in
         let j = judged-tells 0 (framesOf ns) _ (l .1) in
         let d = apart-tells (R .section) (framesOf ns) _ (j .1) in
         record {
@@ -103,7 +103,7 @@ module _ (R : Restore) (im : List ℕ) where
         }
 
     module _ (m : Movable R im ns) where
-      movable-answer : threadAnswer R im ns ≡ acceptedMove (pairsIn R im (framesOf ns))
+      movable-answer : threadAnswer R im ns ≡ acceptedMove (pointersIn R im (framesOf ns))
       unfolding threadAnswer ask
       movable-answer =
           rw (m .section-right, m .image-right, m .table-right, m .list-right)
@@ -138,7 +138,7 @@ unfolding threadImage
 or-none R im ns h = rw (ne-eqb _ 0 h)
 
 -- movable frames are movable in every order
-movable-perm : (R : Restore) (im ns ns′ : List ℕ) → Movable R im ns → listRight ns′ ≡ true
+movable-perm : (R : Restore) (im : List ℕ) (ns ns′ : Thread) → Movable R im ns → listRight (ns′ .list) ≡ true
     → List·Permᴰ (framesOf ns) (framesOf ns′) → Movable R im ns′
 movable-perm R im ns ns′ m l p =
     record {

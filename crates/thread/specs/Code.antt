@@ -19,16 +19,17 @@ use Rattle.moves.specs.Search.{anyBelow}
 use Rattle.moves.specs.Table.{tableRight}
 use Rattle.moves.specs.Settle.{acceptedMove}
 use Rattle.relocate.specs.declared.Frame.{Frame}
+use Rattle.relocate.specs.declared.Machine.{Machine}
 use Rattle.relocate.specs.Restore.{Restore}
 use Rattle.relocate.specs.Plan.{imageRight, stackSize}
 use Rattle.relocate.specs.Relocation.{moved, OneRecord, extentOf}
 use Rattle.relocate.specs.Lists.{final}
-use Rattle.thread.specs.Thread.{framesMost, frameNumbers, frameAt, share, apart, judged, pairsIn, threadAnswer, threadImage}
+use Rattle.thread.specs.Thread.{Thread, framesMost, frameNumbers, frameAt, share, apart, judged, pointersIn, threadAnswer, threadImage}
 
 -- The addresses of the first n frames, in order; equal ones stand side by side.
 pub record Gathered (ns keys : List ℕ) (n : ℕ) : Type 0 where
   pub sorted : Sorted keys n
-  pub each : (k : ℕ) → k < n → EntryOf keys n (frameAt ns k .address)
+  pub each : (k : ℕ) → k < n → EntryOf keys n (getD ns (frameNumbers * k) 0)
 
 -- What a search has found so far of the address at the place i: four numbers a place, in one array.
 abbrev pub hitNumbers : ℕ
@@ -93,8 +94,8 @@ pub record Sited (s : List ℕ) (f : Frame) : Type 0 where
   pub ends : f .sp + stackSize entry < 2 ^ 64
 
 -- each of the first `count` frames has one
-pub record EachSited (s ns : List ℕ) (count : ℕ) : Type 0 where
-  pub at : (k : ℕ) → k < count → Sited s (frameAt ns k)
+pub record EachSited (s : List ℕ) (t : Thread) (count : ℕ) : Type 0 where
+  pub at : (k : ℕ) → k < count → Sited s (frameAt t k)
 
 -- Stretches of memory, each from its start up to its end, where it no longer is.
 
@@ -108,9 +109,9 @@ pub record Apart (starts ends : List ℕ) (n : ℕ) : Type 0 where
   pub apart : (i j : ℕ) → i < j → j < n → getD ends i 0 ≤ getD starts j 0
 
 -- an answer, and the image that is left, are those of the call
-pub record Threads (R : Restore) (im ns : List ℕ) (r : Move) (after : List ℕ) : Type 0 where
-  pub answer-is : r ≡ threadAnswer R im ns
-  pub image-is : after ≡ threadImage R im ns
+pub record Threads (R : Restore) (im : List ℕ) (t : Thread) (r : Move) (after : List ℕ) : Type 0 where
+  pub answer-is : r ≡ threadAnswer R im t
+  pub image-is : after ≡ threadImage R im t
 
 -- the image after a frame is moved, or is only judged
 abbrev pub movedIf : Bool → Restore → List ℕ → Frame → List ℕ
@@ -120,7 +121,11 @@ movedIf false R im f = im
 -- what is left to do once the list is right: the frames, then 26
 unfoldable pub framesAnswer : Restore → List ℕ → List Frame → Move
 framesAnswer R im fs =
-    judged R im 0 fs (apart 0 [] (map (extentOf (R .section)) fs) (acceptedMove (pairsIn R im fs)))
+    judged R im 0 fs (apart 0 [] (map (extentOf (R .section)) fs) (acceptedMove (pointersIn R im fs)))
 
 unfoldable pub framesImage : Restore → List ℕ → List Frame → List ℕ
 framesImage R im fs = cond (eqb (framesAnswer R im fs .number) 0) (final R fs im) im
+
+-- a thread, by its machine and its list
+abbrev pub threadOf : Machine → List ℕ → Thread
+threadOf m ns = record { machine = m; list = ns }

@@ -13,16 +13,16 @@ use Rattle.relocate.specs.Restore.{Restore}
 use Rattle.relocate.specs.Plan.{imageRight}
 use Rattle.relocate.specs.Relocation.{answer}
 use Rattle.relocate.specs.Lists.{answers, final, Disjoint, Holds}
-use Rattle.thread.specs.Thread.{listRight, framesOf, threadAnswer, threadImage}
+use Rattle.thread.specs.Thread.{Thread, listRight, framesOf, threadAnswer, threadImage}
 
 -- every frame is accepted by itself on the starting image, and no two extents share a byte
-pub record Movable (R : Restore) (im ns : List ℕ) : Type 0 where
+pub record Movable (R : Restore) (im : List ℕ) (t : Thread) : Type 0 where
   pub section-right : Accepted (R .section)
   pub image-right : imageRight (R .first) (length im) ≡ true
   pub table-right : tableRight (R .olds) (R .news) ≡ true
-  pub list-right : listRight ns ≡ true
-  pub each : (f : Frame) → List·Memᴰ f (framesOf ns) → answer R im f .number ≡ 0
-  pub disjoint : Disjoint (R .section) (framesOf ns)
+  pub list-right : listRight (t .list) ≡ true
+  pub each : (f : Frame) → List·Memᴰ f (framesOf t) → answer R im f .number ≡ 0
+  pub disjoint : Disjoint (R .section) (framesOf t)
 
 -- the counts of these answers, added
 abbrev pub total : List Move → ℕ
@@ -31,33 +31,33 @@ total (m ∷ ms) = m .count + total ms
 
 -- 1. A call is accepted only if its frames are movable; that it is then, is 2.
 abbrev pub AcceptedOnly : Type 0
-AcceptedOnly = (R : Restore) (im ns : List ℕ) → threadAnswer R im ns .number ≡ 0 → Movable R im ns
+AcceptedOnly = (R : Restore) (im : List ℕ) (t : Thread) → threadAnswer R im t .number ≡ 0 → Movable R im t
 
 -- 2. Then the image equals the one got frame by frame in list order, each of these moves is accepted, and the answer is 0 and the
--- sum of the pairs.
-pub record ByFrames (R : Restore) (im ns : List ℕ) : Type 0 where
-  pub image-is : threadImage R im ns ≡ final R (framesOf ns) im
-  pub each-accepted : (m : Move) → List·Memᴰ m (answers R (framesOf ns) im) → m .number ≡ 0
-  pub answer-is : threadAnswer R im ns ≡ acceptedMove (total (answers R (framesOf ns) im))
+-- sum of the pointers.
+pub record ByFrames (R : Restore) (im : List ℕ) (t : Thread) : Type 0 where
+  pub image-is : threadImage R im t ≡ final R (framesOf t) im
+  pub each-accepted : (m : Move) → List·Memᴰ m (answers R (framesOf t) im) → m .number ≡ 0
+  pub answer-is : threadAnswer R im t ≡ acceptedMove (total (answers R (framesOf t) im))
   -- and every byte of the image is fixed by the starting image, as demand 3 says
-  pub bytes-are : Holds R im (framesOf ns)
+  pub bytes-are : Holds R im (framesOf t)
 
 abbrev pub FrameByFrame : Type 0
-FrameByFrame = (R : Restore) (im ns : List ℕ) → Movable R im ns → ByFrames R im ns
+FrameByFrame = (R : Restore) (im : List ℕ) (t : Thread) → Movable R im t → ByFrames R im t
 
 -- 3. In every other case the image is untouched.
 abbrev pub OrNone : Type 0
-OrNone = (R : Restore) (im ns : List ℕ) → (threadAnswer R im ns .number ≡ 0 → ⊥) → threadImage R im ns ≡ im
+OrNone = (R : Restore) (im : List ℕ) (t : Thread) → (threadAnswer R im t .number ≡ 0 → ⊥) → threadImage R im t ≡ im
 
 -- 4. The order of the frames changes neither answer nor image of an accepted call.
-pub record SameCall (R : Restore) (im ns ns′ : List ℕ) : Type 0 where
-  pub same-answer : threadAnswer R im ns ≡ threadAnswer R im ns′
-  pub same-image : threadImage R im ns ≡ threadImage R im ns′
+pub record SameCall (R : Restore) (im : List ℕ) (t t′ : Thread) : Type 0 where
+  pub same-answer : threadAnswer R im t ≡ threadAnswer R im t′
+  pub same-image : threadImage R im t ≡ threadImage R im t′
 
 abbrev pub AnyOrder : Type 0
 AnyOrder =
-    (R : Restore) (im ns ns′ : List ℕ) → threadAnswer R im ns .number ≡ 0 → listRight ns′ ≡ true → List·Permᴰ (framesOf ns) (framesOf ns′)
-    → SameCall R im ns ns′
+    (R : Restore) (im : List ℕ) (t t′ : Thread) → threadAnswer R im t .number ≡ 0 → listRight (t′ .list) ≡ true → List·Permᴰ (framesOf t) (framesOf t′)
+    → SameCall R im t t′
 
 pub record OneInstant : Type 0 where
   pub accepted-only : AcceptedOnly

@@ -1,4 +1,4 @@
--- A whole thread in one call: document 02, requests 1 and 2. All frames of the list move, or none does.
+-- A whole thread in one call: document 02, requests 1, 2 and 6. All frames of the list move, or none does.
 use Prim.Native.Nat.{ℕ, zero, suc, _+_, _*_, _/_, _%_}
 use mathlib.Core.Bool.{Bool, cond, _&&_, _||_, false}
 use mathlib.Core.List.{List, [], _∷_, map}
@@ -11,14 +11,17 @@ use Rattle.moves.specs.declared.Move.{Move}
 use Rattle.moves.specs.Table.{tableRight}
 use Rattle.moves.specs.Settle.{refusedMove, acceptedMove}
 use Rattle.relocate.specs.declared.Frame.{Frame}
-use Rattle.relocate.specs.declared.Machine.the-variants.{Amd64}
+use Rattle.relocate.specs.declared.Machine.{Machine}
 use Rattle.relocate.specs.Restore.{Restore}
 use Rattle.relocate.specs.Plan.{imageRight}
 use Rattle.relocate.specs.Relocation.{answer, Extent, extentOf}
 use Rattle.relocate.specs.Lists.{final}
 
--- The list: four numbers a frame, address, RBP, RSP and the function number. In version 1 the address is the offset in that function; in
--- version 3 the function number isn't read.
+-- A thread has one machine, and a list of its frames: four numbers a frame, address, frame pointer, stack pointer and the function number. In
+-- version 1 the address is the offset in that function; in version 3 the function number isn't read.
+pub record Thread : Type 0 where
+  pub machine : Machine
+  pub list : List ℕ
 
 abbrev pub framesMost : ℕ
 framesMost = 4096
@@ -31,23 +34,23 @@ unfoldable pub listRight : List ℕ → Bool
 listRight ns = eqb (length ns % frameNumbers) 0 && leb (length ns / frameNumbers) framesMost
 
 -- the frame at a position, counted from 0
-unfoldable pub frameAt : List ℕ → ℕ → Frame
-frameAt ns k =
+unfoldable pub frameAt : Thread → ℕ → Frame
+frameAt t k =
     record {
-      machine = Amd64;
-      address = getD ns (frameNumbers * k) 0;
-      function = getD ns (frameNumbers * k + 3) 0;
-      fp = getD ns (frameNumbers * k + 1) 0;
-      sp = getD ns (frameNumbers * k + 2) 0;
+      machine = t .machine;
+      address = getD (t .list) (frameNumbers * k) 0;
+      function = getD (t .list) (frameNumbers * k + 3) 0;
+      fp = getD (t .list) (frameNumbers * k + 1) 0;
+      sp = getD (t .list) (frameNumbers * k + 2) 0;
     }
 
 -- n frames, from the position k on
-abbrev pub framesFrom : List ℕ → ℕ → ℕ → List Frame
-framesFrom ns zero k = []
-framesFrom ns (suc n) k = frameAt ns k ∷ framesFrom ns n (suc k)
+abbrev pub framesFrom : Thread → ℕ → ℕ → List Frame
+framesFrom t zero k = []
+framesFrom t (suc n) k = frameAt t k ∷ framesFrom t n (suc k)
 
-unfoldable pub framesOf : List ℕ → List Frame
-framesOf ns = framesFrom ns (length ns / frameNumbers) 0
+unfoldable pub framesOf : Thread → List Frame
+framesOf t = framesFrom t (length (t .list) / frameNumbers) 0
 
 -- the stretches of memory from a up to b and from c up to d share a byte: neither is empty, and each begins before the other ends
 unfoldable pub share : ℕ → ℕ → ℕ → ℕ → Bool
@@ -77,23 +80,23 @@ module _ (R : Restore) (im : List ℕ) where
   judged i [] k = k
   judged i (f ∷ fs) k = passes (answer R im f) i (judged (suc i) fs k)
 
-  -- the sum of the pairs, null ones included
-  unfoldable pub pairsIn : List Frame → ℕ
-  pairsIn [] = 0
-  pairsIn (f ∷ fs) = answer R im f .count + pairsIn fs
+  -- the sum of the pointers, null ones included
+  unfoldable pub pointersIn : List Frame → ℕ
+  pointersIn [] = 0
+  pointersIn (f ∷ fs) = answer R im f .count + pointersIn fs
 
   -- 1 to 9, 13, 14, 25, then the frames, then 26
-  unfoldable pub threadAnswer : List ℕ → Move
-  threadAnswer ns =
+  unfoldable pub threadAnswer : Thread → Move
+  threadAnswer t =
       ask refusedMove
       (need (imageRight (R .first) (length im)) (refusedMove 13 0)
       (need (tableRight (R .olds) (R .news)) (refusedMove 14 0)
-      (need (listRight ns) (refusedMove 25 0)
-      (judged 0 (framesOf ns)
-      (apart 0 [] (map (extentOf (R .section)) (framesOf ns))
-      (acceptedMove (pairsIn (framesOf ns))))))))
+      (need (listRight (t .list)) (refusedMove 25 0)
+      (judged 0 (framesOf t)
+      (apart 0 [] (map (extentOf (R .section)) (framesOf t))
+      (acceptedMove (pointersIn (framesOf t))))))))
       (sectionCheck (R .section))
 
   -- the image got frame by frame in list order, or the image as lent
-  unfoldable pub threadImage : List ℕ → List ℕ
-  threadImage ns = cond (eqb (threadAnswer ns .number) 0) (final R (framesOf ns) im) im
+  unfoldable pub threadImage : Thread → List ℕ
+  threadImage t = cond (eqb (threadAnswer t .number) 0) (final R (framesOf t) im) im

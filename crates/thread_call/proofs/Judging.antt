@@ -1,15 +1,15 @@
 -- The frames of a list, one after another.
-use Prim.Native.Nat.{ℕ, zero, suc, _+_, _*_, _-_, _≤_, _<_}
-use mathlib.Core.Path.{_≡_, refl, sym, ap, _∙_}
+use Prim.Native.Nat.{ℕ, suc, _+_, _*_, _-_, _≤_, _<_}
+use mathlib.Core.Path.{_≡_, refl, sym, _∙_}
 use mathlib.Core.Bool.{Bool, true, false}
-use mathlib.Core.List.{List, [], _∷_}
+use mathlib.Core.List.{List, _∷_}
 use native.Mathlib.Omega.{arith}
 use borrow.Author.Tests.{eq-eqb, ne-eqb}
 use lib.ListN.{length}
 use Rattle.stackmap.specs.Check.{Accepted}
 use Rattle.moves.specs.declared.Move.{Move}
 use Rattle.moves.specs.Table.{tableRight, lookUp}
-use Rattle.moves.specs.Settle.{refusedMove, acceptedMove}
+use Rattle.moves.specs.Settle.{refusedMove}
 use Rattle.moves.specs.Code.{Follows}
 use Rattle.relocate.specs.declared.Frame.{Frame}
 use Rattle.relocate.specs.Restore.{Restore}
@@ -18,8 +18,9 @@ use Rattle.relocate.specs.Code.{planEntry}
 use Rattle.relocate.specs.Relocation.{answer, moved}
 use Rattle.relocate.specs.Lists.{final}
 use Rattle.relocate_frame.proofs.Stages.{plan-on}
-use Rattle.thread.specs.Thread.{frameAt, framesFrom, passes, judged, pairsIn}
+use Rattle.thread.specs.Thread.{Thread, frameAt, framesFrom, passes, judged, pointersIn}
 use Rattle.thread.specs.Code.{movedIf}
+use Rattle.thread.proofs.Frames.{frames-step, frames-end, frames-start}
 use Rattle.thread_call.proofs.Few.{answer-few}
 
 -- One frame.
@@ -33,34 +34,22 @@ module _ (R : Restore) (im : List ℕ) (f : Frame) (k : Accepted (R .section)) (
   one-moved true r after h = rw (plan-on R im f k i t) (h .answer, h .left)
   one-moved false r after h = rw (plan-on R im f k i t) (h .answer, h .left)
 
--- The list from the position k on.
-
-pub frames-step : (ns : List ℕ) (n k : ℕ) → k < n → framesFrom ns (n - k) k ≡ frameAt ns k ∷ framesFrom ns (n - (k + 1)) (k + 1)
-frames-step ns n k h =
-    let e : n - k ≡ suc (n - (k + 1)) = omega arith in
-    let g : suc k ≡ k + 1 = omega arith in
-    rw (e, g)
-
-pub frames-end : (ns : List ℕ) (n k : ℕ) → n ≤ k → framesFrom ns (n - k) k ≡ []
-frames-end ns n k h = let e : n - k ≡ 0 = omega arith in rw e
-
-pub frames-start : (ns : List ℕ) (n : ℕ) → framesFrom ns (n - 0) 0 ≡ framesFrom ns n 0
-frames-start ns n = let e : n - 0 ≡ n = omega arith in rw e
+-- The judgement.
 
 module _ (R : Restore) (im : List ℕ) (f : Frame) (m : Move) (e : m ≡ answer R im f) (fs : List Frame) where
   judge-one : (k : ℕ) (K : Move) → m .number ≡ 0 → judged R im k (f ∷ fs) K ≡ judged R im (k + 1) fs K
   unfolding judged passes
   judge-one k K z = let g : k + 1 ≡ suc k = omega arith in rw (← e, eq-eqb (m .number) 0 z, g)
 
-  count-one : (sum : ℕ) → sum + pairsIn R im (f ∷ fs) ≡ sum + m .count + pairsIn R im fs
-  unfolding pairsIn
+  count-one : (sum : ℕ) → sum + pointersIn R im (f ∷ fs) ≡ sum + m .count + pointersIn R im fs
+  unfolding pointersIn
   count-one sum = rw (← e) (omega arith)
 
-module _ (R : Restore) (im ns : List ℕ) (n : ℕ) (K : Move) where
+module _ (R : Restore) (im : List ℕ) (ns : Thread) (n : ℕ) (K : Move) where
   -- the first k frames are accepted, and have so many pairs
   pub record Judging (k sum : ℕ) : Type 0 where
     pub same : judged R im 0 (framesFrom ns n 0) K ≡ judged R im k (framesFrom ns (n - k) k) K
-    pub added : pairsIn R im (framesFrom ns n 0) ≡ sum + pairsIn R im (framesFrom ns (n - k) k)
+    pub added : pointersIn R im (framesFrom ns n 0) ≡ sum + pointersIn R im (framesFrom ns (n - k) k)
     pub few : sum ≤ R .most * k
     pub most : k ≤ n
 
@@ -85,15 +74,15 @@ module _ (R : Restore) (im ns : List ℕ) (n : ℕ) (K : Move) where
     judging-stop z = sym (j .same ∙ rw (frames-step ns n k l, ← e, ne-eqb (m .number) 0 z))
 
   pub judging-end : {k sum : ℕ} → Judging k sum → n ≤ k
-      → (judged R im 0 (framesFrom ns n 0) K ≡ K) × (pairsIn R im (framesFrom ns n 0) ≡ sum)
-  unfolding judged pairsIn
+      → (judged R im 0 (framesFrom ns n 0) K ≡ K) × (pointersIn R im (framesFrom ns n 0) ≡ sum)
+  unfolding judged pointersIn
   judging-end {k} {sum} j l =
       let z : sum + 0 ≡ sum = omega arith in
       (j .same ∙ rw (frames-end ns n k l), j .added ∙ rw (frames-end ns n k l, z))
 
 -- The moves.
 
-module _ (R : Restore) (im ns : List ℕ) (n : ℕ) where
+module _ (R : Restore) (im : List ℕ) (ns : Thread) (n : ℕ) where
   pub record Moving (k : ℕ) (now : List ℕ) : Type 0 where
     pub same : final R (framesFrom ns n 0) im ≡ final R (framesFrom ns (n - k) k) now
     pub long : length now ≡ length im

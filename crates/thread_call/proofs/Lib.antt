@@ -1,4 +1,4 @@
-pub mod Earlier
 pub mod Few
 pub mod Judging
+pub mod Sited
 pub mod Whole

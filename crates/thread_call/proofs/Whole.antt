@@ -23,13 +23,13 @@ use Rattle.relocate.specs.Restore.{Restore}
 use Rattle.relocate.specs.Plan.{imageRight}
 use Rattle.relocate.specs.Relocation.{answer, extentOf}
 use Rattle.relocate.specs.Lists.{final}
-use Rattle.thread.specs.Thread.{listRight, frameAt, framesFrom, framesOf, passes, apart, judged, pairsIn, threadAnswer, threadImage}
+use Rattle.thread.specs.Thread.{Thread, listRight, frameAt, framesFrom, framesOf, passes, apart, judged, pointersIn, threadAnswer, threadImage}
 use Rattle.thread.specs.Code.{Holding, Counted, EachSited, Threads, framesAnswer, framesImage}
 use Rattle.thread.proofs.OneInstant.{judged-tells, judged-passes}
-use Rattle.thread_call.proofs.Earlier.{accepted-sited}
+use Rattle.thread_call.proofs.Sited.{accepted-sited}
 
 -- a frame of the list, by its position
-frame-in : (ns : List ℕ) (n i k : ℕ) → i ≤ k → k < i + n → List·Memᴰ (frameAt ns k) (framesFrom ns n i)
+frame-in : (ns : Thread) (n i k : ℕ) → i ≤ k → k < i + n → List·Memᴰ (frameAt ns k) (framesFrom ns n i)
 frame-in ns zero i k a b = absurd (omega arith)
 frame-in ns (suc n) i k a b = go (frame-in ns n (suc i) k) (ℕ-discrete i k)
   where
@@ -54,11 +54,11 @@ module _ (R : Restore) (im : List ℕ) where
       go rest true e g = rest g
       go rest false e g = refl
 
-  module _ (fs : List Frame) (r : Move) (e : r ≡ judged R im 0 fs (acceptedMove (pairsIn R im fs))) where
+  module _ (fs : List Frame) (r : Move) (e : r ≡ judged R im 0 fs (acceptedMove (pointersIn R im fs))) where
     pub frames-refused : (r .number ≡ 0 → ⊥) → (r ≡ framesAnswer R im fs) × (im ≡ framesImage R im fs)
     unfolding framesAnswer framesImage
     frames-refused h =
-        let a : r ≡ judged R im 0 fs (apart 0 [] (map (extentOf (R .section)) fs) (acceptedMove (pairsIn R im fs))) =
+        let a : r ≡ judged R im 0 fs (apart 0 [] (map (extentOf (R .section)) fs) (acceptedMove (pointersIn R im fs))) =
         e ∙ judged-ends 0 fs _ _ refl (rw e at h) in
         (a, rw (← a, ne-eqb (r .number) 0 h))
 
@@ -66,10 +66,10 @@ module _ (R : Restore) (im : List ℕ) where
       each : (f : Frame) → List·Memᴰ f fs → answer R im f .number ≡ 0
       each = judged-tells R im 0 fs _ (rw e at z) .0
 
-      pub r-is : r ≡ acceptedMove (pairsIn R im fs)
+      pub r-is : r ≡ acceptedMove (pointersIn R im fs)
       r-is = e ∙ judged-passes R im 0 fs _ each
 
-      answer-is : framesAnswer R im fs ≡ apart 0 [] (map (extentOf (R .section)) fs) (acceptedMove (pairsIn R im fs))
+      answer-is : framesAnswer R im fs ≡ apart 0 [] (map (extentOf (R .section)) fs) (acceptedMove (pointersIn R im fs))
       unfolding framesAnswer
       answer-is = judged-passes R im 0 fs _ each
 
@@ -83,17 +83,17 @@ module _ (R : Restore) (im : List ℕ) where
         pub frames-moved : n ≤ p → (r ≡ framesAnswer R im fs) × (final R fs im ≡ framesImage R im fs)
         unfolding framesImage
         frames-moved l =
-            let a : framesAnswer R im fs ≡ acceptedMove (pairsIn R im fs) = answer-is ∙ q _ ∙ rw (le-ltb p n l) in
+            let a : framesAnswer R im fs ≡ acceptedMove (pointersIn R im fs) = answer-is ∙ q _ ∙ rw (le-ltb p n l) in
             (r-is ∙ sym a, rw a)
 
-  pub each-sited : Accepted (R .section) → imageRight (R .first) (length im) ≡ true → (ns : List ℕ) (n : ℕ) (r : Move)
-      → r ≡ judged R im 0 (framesFrom ns n 0) (acceptedMove (pairsIn R im (framesFrom ns n 0))) → r .number ≡ 0 → EachSited (R .section) ns n
+  pub each-sited : Accepted (R .section) → imageRight (R .first) (length im) ≡ true → (ns : Thread) (n : ℕ) (r : Move)
+      → r ≡ judged R im 0 (framesFrom ns n 0) (acceptedMove (pointersIn R im (framesFrom ns n 0))) → r .number ≡ 0 → EachSited (R .section) ns n
   each-sited k i ns n r e z =
       record { at = λ j l. accepted-sited R im (frameAt ns j) k i (each (framesFrom ns n 0) r e z _ (frame-in ns n 0 j (omega arith) (omega arith))) }
 
   -- The stages before the frames.
 
-  module _ (ns : List ℕ) where
+  module _ (ns : Thread) where
     refused-threads : (n p : ℕ) → (n ≡ 0 → ⊥) → threadAnswer R im ns ≡ refusedMove n p → Threads R im ns (refusedMove n p) im
     unfolding threadImage
     refused-threads n p h e = record { answer-is = sym e; image-is = rw (e, ne-eqb n 0 h) }
@@ -115,11 +115,11 @@ module _ (R : Restore) (im : List ℕ) where
         thread-14 h = refused-threads 14 0 (λ z. omega arith) (rw (k, i, h))
 
         module _ (t : tableRight (R .olds) (R .news) ≡ true) where
-          pub thread-25 : listRight ns ≡ false → Threads R im ns (refusedMove 25 0) im
+          pub thread-25 : listRight (ns .list) ≡ false → Threads R im ns (refusedMove 25 0) im
           unfolding threadAnswer ask
           thread-25 h = refused-threads 25 0 (λ z. omega arith) (rw (k, i, t, h))
 
-          pub thread-frames : (n : ℕ) (r : Move) (after : List ℕ) → listRight ns ≡ true → n ≡ length ns / 4
+          pub thread-frames : (n : ℕ) (r : Move) (after : List ℕ) → listRight (ns .list) ≡ true → n ≡ length (ns .list) / 4
               → (r ≡ framesAnswer R im (framesFrom ns n 0)) × (after ≡ framesImage R im (framesFrom ns n 0))
               → Threads R im ns r after
           unfolding threadAnswer threadImage framesAnswer framesImage framesOf ask

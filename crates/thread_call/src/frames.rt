@@ -7,9 +7,10 @@ ghost use Rattle.moves.specs.Settle.{acceptedMove};
 ghost use Rattle.relocate.specs.Restore.{restore};
 ghost use Rattle.relocate.specs.Relocation.{answer};
 ghost use Rattle.relocate.specs.Lists.{final};
-ghost use Rattle.thread.specs.Thread.{frameAt, framesFrom, judged, pairsIn};
-ghost use Rattle.thread.specs.Code.{Ready, movedIf};
+ghost use Rattle.thread.specs.Thread.{frameAt, framesFrom, judged, pointersIn};
+ghost use Rattle.thread.specs.Code.{Ready, movedIf, threadOf};
 use moves::Move;
+use relocate::Machine;
 use relocate_frame::moving;
 use thread::FRAMES_MOST;
 use thread_search::list;
@@ -23,6 +24,7 @@ fn settle_frame(
     first: u64,
     olds: &[u64],
     news: &[u64],
+    machine: Machine,
     frames: &[u64],
     count: usize,
     keys: &[u64; FRAMES_MOST],
@@ -31,28 +33,29 @@ fn settle_frame(
     write: bool,
 ) -> Move
     requires { ⌜ Ready (restore (now s) (now olds) (now news) first) (length (now image)) (now frames) count (now keys) (now hits) × (k < count) ⌝ }
-    ensures { λ r. ⌜ (r ≡ answer (restore (now (s .entry)) (now (olds .entry)) (now (news .entry)) first) (now (image .entry)) (frameAt (now (frames .entry)) k))
-        × (now (image .exit) ≡ movedIf write (restore (now (s .entry)) (now (olds .entry)) (now (news .entry)) first) (now (image .entry)) (frameAt (now (frames .entry)) k)) ⌝ }
+    ensures { λ r. ⌜ (r ≡ answer (restore (now (s .entry)) (now (olds .entry)) (now (news .entry)) first) (now (image .entry)) (frameAt (threadOf machine (now (frames .entry))) k))
+        × (now (image .exit) ≡ movedIf write (restore (now (s .entry)) (now (olds .entry)) (now (news .entry)) first) (now (image .entry)) (frameAt (threadOf machine (now (frames .entry))) k)) ⌝ }
 {
-    let frame = list::frame_at(frames, k);
+    let frame = list::frame_at(machine, frames, k);
     let found = search::of_frame(s, keys, count, hits, frame);
     moving::move_found(s, found, image, first, olds, news, frame, write)
 }
 
-// The first refused frame's number with its position, or the sum of the pairs.
+// The first refused frame's number with its position, or the sum of the pointers.
 pub fn judge(
     s: &[u8],
     image: &mut [u8],
     first: u64,
     olds: &[u64],
     news: &[u64],
+    machine: Machine,
     frames: &[u64],
     count: usize,
     keys: &[u64; FRAMES_MOST],
     hits: &[usize; HITS_LENGTH],
 ) -> Move
     requires { ⌜ Ready (restore (now s) (now olds) (now news) first) (length (now image)) (now frames) count (now keys) (now hits) ⌝ }
-    ensures { λ r. ⌜ (r ≡ judged (restore (now (s .entry)) (now (olds .entry)) (now (news .entry)) first) (now (image .entry)) 0 (framesFrom (now (frames .entry)) count 0) (acceptedMove (pairsIn (restore (now (s .entry)) (now (olds .entry)) (now (news .entry)) first) (now (image .entry)) (framesFrom (now (frames .entry)) count 0))))
+    ensures { λ r. ⌜ (r ≡ judged (restore (now (s .entry)) (now (olds .entry)) (now (news .entry)) first) (now (image .entry)) 0 (framesFrom (threadOf machine (now (frames .entry))) count 0) (acceptedMove (pointersIn (restore (now (s .entry)) (now (olds .entry)) (now (news .entry)) first) (now (image .entry)) (framesFrom (threadOf machine (now (frames .entry))) count 0))))
         × (now (image .exit) ≡ now (image .entry)) ⌝ }
 {
     let mut sum: usize = 0;
@@ -64,6 +67,7 @@ pub fn judge(
             first,
             olds,
             news,
+            machine,
             frames,
             count,
             keys,
@@ -91,13 +95,14 @@ pub fn move_all(
     first: u64,
     olds: &[u64],
     news: &[u64],
+    machine: Machine,
     frames: &[u64],
     count: usize,
     keys: &[u64; FRAMES_MOST],
     hits: &[usize; HITS_LENGTH],
 )
     requires { ⌜ Ready (restore (now s) (now olds) (now news) first) (length (now image)) (now frames) count (now keys) (now hits) ⌝ }
-    ensures { λ r. ⌜ now (image .exit) ≡ final (restore (now (s .entry)) (now (olds .entry)) (now (news .entry)) first) (framesFrom (now (frames .entry)) count 0) (now (image .entry)) ⌝ }
+    ensures { λ r. ⌜ now (image .exit) ≡ final (restore (now (s .entry)) (now (olds .entry)) (now (news .entry)) first) (framesFrom (threadOf machine (now (frames .entry))) count 0) (now (image .entry)) ⌝ }
 {
     let mut next: usize = 0;
     while next < count {
@@ -107,6 +112,7 @@ pub fn move_all(
             first,
             olds,
             news,
+            machine,
             frames,
             count,
             keys,

@@ -5,9 +5,10 @@ ghost use Prim.Native.Nat.{_/_};
 ghost use lib.ListN.{length};
 ghost use Rattle.relocate.specs.Restore.{restore};
 ghost use Rattle.thread.specs.Thread.{frameNumbers, listRight, framesFrom};
-ghost use Rattle.thread.specs.Code.{Looked, Ready, Threads, framesAnswer, framesImage};
+ghost use Rattle.thread.specs.Code.{Looked, Ready, Threads, framesAnswer, framesImage, threadOf};
 use moves::Move;
 use moves_table::table;
+use relocate::Machine;
 use relocate_frame::extent;
 use relocate_frame::moving;
 use stackmap::Verdict;
@@ -16,9 +17,7 @@ use thread_search::addresses;
 use thread_search::list;
 use thread_search::search;
 
-mod extents;
 mod frames;
-mod stretches;
 
 // The frames of a right list: all are judged, then their extents are compared, then all are moved.
 fn move_frames(
@@ -27,24 +26,25 @@ fn move_frames(
     first: u64,
     olds: &[u64],
     news: &[u64],
+    machine: Machine,
     list: &[u64],
     count: usize,
     keys: &[u64; FRAMES_MOST],
     hits: &[usize; search::HITS_LENGTH],
 ) -> Move
     requires { ⌜ Ready (restore (now s) (now olds) (now news) first) (length (now image)) (now list) count (now keys) (now hits) ⌝ }
-    ensures { λ r. ⌜ (r ≡ framesAnswer (restore (now (s .entry)) (now (olds .entry)) (now (news .entry)) first) (now (image .entry)) (framesFrom (now (list .entry)) count 0))
-        × (now (image .exit) ≡ framesImage (restore (now (s .entry)) (now (olds .entry)) (now (news .entry)) first) (now (image .entry)) (framesFrom (now (list .entry)) count 0)) ⌝ }
+    ensures { λ r. ⌜ (r ≡ framesAnswer (restore (now (s .entry)) (now (olds .entry)) (now (news .entry)) first) (now (image .entry)) (framesFrom (threadOf machine (now (list .entry))) count 0))
+        × (now (image .exit) ≡ framesImage (restore (now (s .entry)) (now (olds .entry)) (now (news .entry)) first) (now (image .entry)) (framesFrom (threadOf machine (now (list .entry))) count 0)) ⌝ }
 {
-    let judged = frames::judge(s, image, first, olds, news, list, count, keys, hits);
+    let judged = frames::judge(s, image, first, olds, news, machine, list, count, keys, hits);
     if judged.number != 0 {
         return judged;
     }
-    let shared = extents::first_shared(s, list, count, keys, hits);
+    let shared = thread_extents::first_shared(machine, s, list, count, keys, hits);
     if shared < count {
         return moving::refused(26, shared);
     }
-    frames::move_all(s, image, first, olds, news, list, count, keys, hits);
+    frames::move_all(s, image, first, olds, news, machine, list, count, keys, hits);
     judged
 }
 
@@ -55,18 +55,19 @@ fn of_section(
     first: u64,
     olds: &[u64],
     news: &[u64],
+    machine: Machine,
     list: &[u64],
     count: usize,
     keys: &[u64; FRAMES_MOST],
     hits: &[usize; search::HITS_LENGTH],
 ) -> Move
     requires { ⌜ Looked (now s) (now list) count (now keys) (now hits) × (listRight (now list) ≡ true → count ≡ length (now list) / frameNumbers) ⌝ }
-    ensures { λ r. ⌜ Threads (restore (now (s .entry)) (now (olds .entry)) (now (news .entry)) first) (now (image .entry)) (now (list .entry)) r (now (image .exit)) ⌝ }
+    ensures { λ r. ⌜ Threads (restore (now (s .entry)) (now (olds .entry)) (now (news .entry)) first) (now (image .entry)) (threadOf machine (now (list .entry))) r (now (image .exit)) ⌝ }
 {
     if extent::image_right(first, image.len()) {
         if table::table_right(olds, news) {
             if list::list_right(list) {
-                return move_frames(s, image, first, olds, news, list, count, keys, hits);
+                return move_frames(s, image, first, olds, news, machine, list, count, keys, hits);
             }
             return moving::refused(25, 0);
         }
@@ -75,17 +76,18 @@ fn of_section(
     moving::refused(13, 0)
 }
 
-// Relocates the frames of a list, four numbers each, in the stack image that starts at the address `first`: a refusal's number and
-// place, with the image as it was; or 0, 0 and the sum of the pairs, with each derived slot moved.
+// Relocates the frames of a list, four numbers each, of this machine, in the stack image that starts at the address `first`: a refusal's number and
+// place, with the image as it was; or 0, 0 and the sum of the pointers, with each derived slot moved.
 pub fn relocate_thread(
     section: &[u8],
     image: &mut [u8],
     first: u64,
     olds: &[u64],
     news: &[u64],
+    machine: Machine,
     list: &[u64],
 ) -> Move
-    ensures { λ r. ⌜ Threads (restore (now (section .entry)) (now (olds .entry)) (now (news .entry)) first) (now (image .entry)) (now (list .entry)) r (now (image .exit)) ⌝ }
+    ensures { λ r. ⌜ Threads (restore (now (section .entry)) (now (olds .entry)) (now (news .entry)) first) (now (image .entry)) (threadOf machine (now (list .entry))) r (now (image .exit)) ⌝ }
 {
     let count = list::count(list);
     let mut keys = [0u64; FRAMES_MOST];
@@ -99,6 +101,7 @@ pub fn relocate_thread(
             first,
             olds,
             news,
+            machine,
             list,
             count,
             &keys,

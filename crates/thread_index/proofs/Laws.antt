@@ -23,7 +23,7 @@ use Rattle.moves.specs.Settle.{refusedMove}
 use Rattle.relocate.specs.Restore.{Restore}
 use Rattle.relocate.specs.Plan.{imageRight}
 use Rattle.relocate.specs.Lists.{final}
-use Rattle.thread.specs.Thread.{framesOf, threadAnswer, threadImage}
+use Rattle.thread.specs.Thread.{Thread, framesOf, threadAnswer, threadImage}
 use Rattle.thread.specs.Code.{Threads}
 use Rattle.thread_index.specs.ByIndex.{threadByIndexAnswer, threadByIndexImage, ThreadsByIndex}
 use Rattle.thread_index.specs.Laws.{IndexMoves}
@@ -42,7 +42,7 @@ twice : (b : Bool) (x y : List ℕ) → cond b (cond b x y) y ≡ cond b x y
 twice true x y = refl
 twice false x y = refl
 
-module _ (R : Restore) (im ns : List ℕ) where
+module _ (R : Restore) (im : List ℕ) (ns : Thread) where
   with-index : isOld (R .section) ≡ false → threadByIndexAnswer R im (indexOf (R .section)) ns ≡ threadAnswer R im ns
   unfolding threadByIndexAnswer threadAnswer
   with-index new = rw (new, same-self (indexOf (R .section))) (once (sectionCheck (R .section)) (imageRight (R .first) (length im)) (tableRight (R .olds) (R .news)) refusedMove _ 13 14)
@@ -58,7 +58,7 @@ pub own-number : (r : Found) → ofSection r ≡ true → r .number ≡ 0 → �
 unfolding ofSection
 own-number r h z = true≢false (sym (rw z at h))
 
-module _ (R : Restore) (im index ns : List ℕ) where
+module _ (R : Restore) (im index : List ℕ) (ns : Thread) where
   -- a refusal leaves the image as lent
   pub refused-so : {r : Move} (n p : ℕ) → (n ≡ 0 → ⊥) → r ≡ refusedMove n p → threadByIndexAnswer R im index ns ≡ refusedMove n p
       → ThreadsByIndex R im index ns r im

@@ -15,25 +15,25 @@ use Rattle.moves.specs.Table.{tableRight}
 use Rattle.moves.specs.Settle.{refusedMove}
 use Rattle.relocate.specs.Restore.{Restore}
 use Rattle.relocate.specs.Plan.{imageRight}
-use Rattle.thread.specs.Thread.{threadAnswer, threadImage}
+use Rattle.thread.specs.Thread.{Thread, threadAnswer, threadImage}
 
 module _ (R : Restore) (im index : List ℕ) where
   -- 1 to 9, 13, 14, 27, 29, and then what the call without an index gives, whose 1 to 9, 13 and 14 have passed: 25, the frames, 26
-  unfoldable pub threadByIndexAnswer : List ℕ → Move
-  threadByIndexAnswer ns =
+  unfoldable pub threadByIndexAnswer : Thread → Move
+  threadByIndexAnswer t =
       ask refusedMove
       (need (imageRight (R .first) (length im)) (refusedMove 13 0)
       (need (tableRight (R .olds) (R .news)) (refusedMove 14 0)
       (need (not (isOld (R .section))) (refusedMove 27 0)
       (need (same index (indexOf (R .section))) (refusedMove 29 0)
-      (threadAnswer R im ns)))))
+      (threadAnswer R im t)))))
       (sectionCheck (R .section))
 
   -- the image that the call without an index leaves, or the image as lent
-  unfoldable pub threadByIndexImage : List ℕ → List ℕ
-  threadByIndexImage ns = cond (eqb (threadByIndexAnswer ns .number) 0) (threadImage R im ns) im
+  unfoldable pub threadByIndexImage : Thread → List ℕ
+  threadByIndexImage t = cond (eqb (threadByIndexAnswer t .number) 0) (threadImage R im t) im
 
   -- an answer, and the image that is left, are those of the call
-  pub record ThreadsByIndex (ns : List ℕ) (r : Move) (after : List ℕ) : Type 0 where
-    pub answer-is : r ≡ threadByIndexAnswer ns
-    pub image-is : after ≡ threadByIndexImage ns
+  pub record ThreadsByIndex (t : Thread) (r : Move) (after : List ℕ) : Type 0 where
+    pub answer-is : r ≡ threadByIndexAnswer t
+    pub image-is : after ≡ threadByIndexImage t

@@ -6,11 +6,11 @@ use mathlib.Core.List.{List}
 use Rattle.stackmap.specs.Section.{isOld}
 use Rattle.index.specs.Index.{indexOf}
 use Rattle.relocate.specs.Restore.{Restore}
-use Rattle.thread.specs.Thread.{threadAnswer, threadImage}
+use Rattle.thread.specs.Thread.{Thread, threadAnswer, threadImage}
 use Rattle.thread_index.specs.ByIndex.{threadByIndexAnswer, threadByIndexImage}
 
 pub record IndexMoves : Type 0 where
-  pub same-answer : (R : Restore) (im ns : List ℕ) → isOld (R .section) ≡ false
+  pub same-answer : (R : Restore) (im : List ℕ) (ns : Thread) → isOld (R .section) ≡ false
       → threadByIndexAnswer R im (indexOf (R .section)) ns ≡ threadAnswer R im ns
-  pub same-image : (R : Restore) (im ns : List ℕ) → isOld (R .section) ≡ false
+  pub same-image : (R : Restore) (im : List ℕ) (ns : Thread) → isOld (R .section) ≡ false
       → threadByIndexImage R im (indexOf (R .section)) ns ≡ threadImage R im ns

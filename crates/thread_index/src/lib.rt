@@ -1,10 +1,12 @@
 // A whole thread in one call that is handed an index of the section. The index is tested; where it is the right one, the call is that
 // without an index.
 ghost use Rattle.relocate.specs.Restore.{restore};
+ghost use Rattle.thread.specs.Code.{threadOf};
 ghost use Rattle.thread_index.specs.ByIndex.{ThreadsByIndex};
 use moves::Move;
 use moves_table::table;
 use questions_find::find;
+use relocate::Machine;
 use relocate_frame::extent;
 use relocate_frame::moving;
 use stackmap_tables::tables;
@@ -20,10 +22,11 @@ pub fn relocate_thread_by_index(
     first: u64,
     olds: &[u64],
     news: &[u64],
+    machine: Machine,
     list: &[u64],
     index: &[u64],
 ) -> Move
-    ensures { λ r. ⌜ ThreadsByIndex (restore (now (section .entry)) (now (olds .entry)) (now (news .entry)) first) (now (image .entry)) (now (index .entry)) (now (list .entry)) r (now (image .exit)) ⌝ }
+    ensures { λ r. ⌜ ThreadsByIndex (restore (now (section .entry)) (now (olds .entry)) (now (news .entry)) first) (now (image .entry)) (now (index .entry)) (threadOf machine (now (list .entry))) r (now (image .exit)) ⌝ }
 {
     let checked = index_check::check(section, index, 0);
     let found = checked.found;
@@ -36,7 +39,7 @@ pub fn relocate_thread_by_index(
                 return moving::refused(OTHER_VERSION, 0);
             }
             if checked.right {
-                return thread_call::relocate_thread(section, image, first, olds, news, list);
+                return thread_call::relocate_thread(section, image, first, olds, news, machine, list);
             }
             return moving::refused(OTHER_INDEX, 0);
         }

@@ -3,7 +3,7 @@
 ghost use mathlib.Core.Path.{_≡_};
 ghost use Prim.Native.Nat.{ℕ, _*_, _≤_, _<_};
 ghost use lib.ListN.{length, getD};
-ghost use Rattle.thread.specs.Thread.{framesMost, frameNumbers, frameAt};
+ghost use Rattle.thread.specs.Thread.{framesMost, frameNumbers};
 ghost use Rattle.thread.specs.Code.{Gathered};
 use thread::FRAME_NUMBERS;
 use thread::FRAMES_MOST;
@@ -11,7 +11,7 @@ use thread::FRAMES_MOST;
 // Copies the addresses of the first `count` frames.
 fn copy(frames: &[u64], count: usize, keys: &mut [u64])
     requires { ⌜ (frameNumbers * count ≤ length (now frames)) × (count ≤ length (now keys)) ⌝ }
-    ensures { λ r. ⌜ ((j : ℕ) → j < count → getD (now (keys .exit)) j 0 ≡ frameAt (now (frames .entry)) j .address) ⌝ }
+    ensures { λ r. ⌜ ((j : ℕ) → j < count → getD (now (keys .exit)) j 0 ≡ getD (now (frames .entry)) (frameNumbers * j) 0) ⌝ }
 {
     let mut k: usize = 0;
     while k < count {

@@ -1,10 +1,11 @@
-// The list of frames: four numbers a frame, address, RBP, RSP and the function number.
+// The list of frames: four numbers a frame, address, frame pointer, stack pointer and the function number.
 // `frame_at` is no entry point: it requires a position in the list.
 ghost use mathlib.Core.Path.{_≡_};
 ghost use mathlib.Core.Bool.{true};
 ghost use Prim.Native.Nat.{_+_, _*_, _/_, _≤_};
 ghost use lib.ListN.{length};
 ghost use Rattle.thread.specs.Thread.{framesMost, frameNumbers, listRight, frameAt};
+ghost use Rattle.thread.specs.Code.{threadOf};
 use relocate::Frame;
 use relocate::Machine;
 use thread::FRAME_NUMBERS;
@@ -34,9 +35,9 @@ pub fn count(frames: &[u64]) -> usize
 }
 
 // The frame at a position.
-pub fn frame_at(frames: &[u64], k: usize) -> Frame
+pub fn frame_at(machine: Machine, frames: &[u64], k: usize) -> Frame
     requires { ⌜ frameNumbers * k + frameNumbers ≤ length (now frames) ⌝ }
-    ensures { λ r. ⌜ r ≡ frameAt (now (frames .entry)) k ⌝ }
+    ensures { λ r. ⌜ r ≡ frameAt (threadOf machine (now (frames .entry))) k ⌝ }
 {
     let p = FRAME_NUMBERS * k;
     Frame {
@@ -44,6 +45,6 @@ pub fn frame_at(frames: &[u64], k: usize) -> Frame
         fp: frames[p + 1],
         sp: frames[p + 2],
         function: frames[p + 3],
-        machine: Machine::Amd64,
+        machine,
     }
 }

@@ -76,7 +76,7 @@ fn apart_in(pairs: &mut [u64], n: usize, ends: &[u64]) -> bool
     ensures { λ r. ⌜ (r ≡ true → (from to : ℕ → ℕ) (k : ℕ) → k < 2 ^ 64
         → Listed from to k n (now (pairs .entry)) (now (ends .entry)) → AllApart from to k) ⌝ }
 {
-    sorted_pairs::sort(pairs, n);
+    sorted_shell::sort(pairs, n);
     neighbours(pairs, n, ends)
 }
 

@@ -3,8 +3,11 @@ ghost use mathlib.Core.Path.{_≡_};
 ghost use Rattle.index.specs.Index.{byIndex, allByIndex};
 ghost use Rattle.relocate.specs.Restore.{restore};
 ghost use Rattle.thread_index.specs.ByIndex.{threadByIndexAnswer, threadByIndexImage};
+ghost use Rattle.thread.specs.Code.{threadOf};
 ghost use Rattle.treskibben_answers.specs.Answer.{findAnswerOf, moveAnswer};
+ghost use Rattle.treskibben_answers.specs.Machine.{machineOf, ofMachine, imageOf};
 ghost use Rattle.treskibben.specs.AddressIndex.{listed};
+use crate::LAST_MACHINE;
 
 // The question by address through an index: the section's refusal, 27 on version 1, 29 unless the list is the section's index, 10 exactly if
 // no record has the address; or the first record with it, its function, and how many records share it.
@@ -46,17 +49,26 @@ pub extern "C" fn treskibben_thread_by_index(
     first: u64,
     olds: &[u64],
     news: &[u64],
+    machine: u64,
     frames: &[u64],
     index: &[u64],
 ) -> treskibben_answers::Answer
-    ensures { λ r. ⌜ (r ≡ moveAnswer (threadByIndexAnswer (restore (now (section .entry)) (now (olds .entry)) (now (news .entry)) first) (now (image .entry)) (now (index .entry)) (now (frames .entry)))) × (now (image .exit) ≡ threadByIndexImage (restore (now (section .entry)) (now (olds .entry)) (now (news .entry)) first) (now (image .entry)) (now (index .entry)) (now (frames .entry))) ⌝ }
+    ensures { λ r. ⌜ (r ≡ moveAnswer (ofMachine machine (now (section .entry)) (threadByIndexAnswer (restore (now (section .entry)) (now (olds .entry)) (now (news .entry)) first)
+        (now (image .entry)) (now (index .entry)) (threadOf (machineOf machine) (now (frames .entry))))))
+        × (now (image .exit) ≡ imageOf machine (now (image .entry)) (threadByIndexImage (restore (now (section .entry)) (now (olds .entry)) (now (news .entry)) first)
+        (now (image .entry)) (now (index .entry)) (threadOf (machineOf machine) (now (frames .entry))))) ⌝ }
 {
+    if machine > LAST_MACHINE {
+        return treskibben_answers::unknown_machine(stackmap_check::check(section));
+    }
+    let known = treskibben_answers::machine_of(machine);
     treskibben_answers::move_answer(thread_index::relocate_thread_by_index(
         section,
         image,
         first,
         olds,
         news,
+        known,
         frames,
         index,
     ))

@@ -6,11 +6,17 @@ ghost use Rattle.listing.specs.Listing.{toListing, toSection};
 ghost use Rattle.relocate.specs.Restore.{restore};
 ghost use Rattle.relocate.specs.Relocation;
 ghost use Rattle.thread.specs.Thread.{threadAnswer, threadImage};
+ghost use Rattle.thread.specs.Code.{threadOf};
+ghost use Rattle.treskibben_answers.specs.Machine.{machineOf, ofMachine, imageOf};
 ghost use Rattle.treskibben_answers.specs.Answer.{answer, converted, moveAnswer, frameOf, findAnswerOf, recordPlaceOf, locationOf, liveOutOf};
 ghost use Rattle.treskibben_answers.specs.Version.{version};
 use treskibben_answers as answers;
 
+// AArch64, the machine with the greatest number.
+pub const LAST_MACHINE: u64 = 1;
+
 pub mod address_index;
+pub mod edition_calls;
 pub mod flat_sections;
 pub mod index_lookups;
 
@@ -24,7 +30,7 @@ pub extern "C" fn treskibben_version() -> u32
 
 // The same. Its name is of this version alone, so that a program that refers to it can't be linked with a library of another.
 #[no_mangle]
-pub extern "C" fn treskibben_version_1() -> u32
+pub extern "C" fn treskibben_version_2() -> u32
     ensures { λ r. ⌜ r ≡ version ⌝ }
 {
     answers::version()
@@ -109,7 +115,8 @@ pub extern "C" fn treskibben_to_section(listing: &[u8], output: &mut [u8]) -> an
 }
 
 // The move of one frame in the stack image that starts at the address `first`, by the move table of old and new starts: a refusal,
-// with the image as it was; or accepted with the number of pairs, and each derived slot moved.
+// with the image as it was; or accepted with the number of pointers, and each derived slot moved. The machine is 0 for AMD64 and 1 for
+// AArch64; any other number is 33 after the section's own refusals.
 #[no_mangle]
 pub extern "C" fn treskibben_relocate(
     section: &[u8],
@@ -117,22 +124,30 @@ pub extern "C" fn treskibben_relocate(
     first: u64,
     olds: &[u64],
     news: &[u64],
+    machine: u64,
     frame: answers::Frame,
 ) -> answers::Answer
-    ensures { λ r. ⌜ (r ≡ moveAnswer (Relocation.answer (restore (now (section .entry)) (now (olds .entry)) (now (news .entry)) first) (now (image .entry)) (frameOf frame))) × (now (image .exit) ≡ Relocation.moved (restore (now (section .entry)) (now (olds .entry)) (now (news .entry)) first) (now (image .entry)) (frameOf frame)) ⌝ }
+    ensures { λ r. ⌜ (r ≡ moveAnswer (ofMachine machine (now (section .entry))
+        (Relocation.answer (restore (now (section .entry)) (now (olds .entry)) (now (news .entry)) first) (now (image .entry)) (frameOf (machineOf machine) frame))))
+        × (now (image .exit) ≡ imageOf machine (now (image .entry))
+        (Relocation.moved (restore (now (section .entry)) (now (olds .entry)) (now (news .entry)) first) (now (image .entry)) (frameOf (machineOf machine) frame))) ⌝ }
 {
+    if machine > LAST_MACHINE {
+        return answers::unknown_machine(stackmap_check::check(section));
+    }
+    let known = answers::machine_of(machine);
     answers::move_answer(relocate_frame::relocate(
         section,
         image,
         first,
         olds,
         news,
-        answers::frame_of(frame),
+        answers::frame_of(known, frame),
     ))
 }
 
-// The move of a whole thread: the frames of a list, four numbers each, address, RBP, RSP and function, at most 4,096 frames. A refusal, with
-// the image as it was; or accepted with the sum of the pairs, and each derived slot of each frame moved.
+// The move of a whole thread: the frames of a list, four numbers each, address, frame pointer, stack pointer and function, at most 4,096
+// frames. A refusal, with the image as it was; or accepted with the sum of the pointers, and each derived slot of each frame moved.
 #[no_mangle]
 pub extern "C" fn treskibben_thread(
     section: &[u8],
@@ -140,9 +155,25 @@ pub extern "C" fn treskibben_thread(
     first: u64,
     olds: &[u64],
     news: &[u64],
+    machine: u64,
     frames: &[u64],
 ) -> answers::Answer
-    ensures { λ r. ⌜ (r ≡ moveAnswer (threadAnswer (restore (now (section .entry)) (now (olds .entry)) (now (news .entry)) first) (now (image .entry)) (now (frames .entry)))) × (now (image .exit) ≡ threadImage (restore (now (section .entry)) (now (olds .entry)) (now (news .entry)) first) (now (image .entry)) (now (frames .entry))) ⌝ }
+    ensures { λ r. ⌜ (r ≡ moveAnswer (ofMachine machine (now (section .entry)) (threadAnswer (restore (now (section .entry)) (now (olds .entry)) (now (news .entry)) first)
+        (now (image .entry)) (threadOf (machineOf machine) (now (frames .entry))))))
+        × (now (image .exit) ≡ imageOf machine (now (image .entry)) (threadImage (restore (now (section .entry)) (now (olds .entry)) (now (news .entry)) first)
+        (now (image .entry)) (threadOf (machineOf machine) (now (frames .entry))))) ⌝ }
 {
-    answers::move_answer(thread_call::relocate_thread(section, image, first, olds, news, frames))
+    if machine > LAST_MACHINE {
+        return answers::unknown_machine(stackmap_check::check(section));
+    }
+    let known = answers::machine_of(machine);
+    answers::move_answer(thread_call::relocate_thread(
+        section,
+        image,
+        first,
+        olds,
+        news,
+        known,
+        frames,
+    ))
 }

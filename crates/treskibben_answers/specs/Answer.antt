@@ -9,7 +9,7 @@ use Rattle.questions.specs.Questions.{SignedLocation}
 use Rattle.listing.specs.Listing.{Converted}
 use Rattle.moves.specs.declared.Move.{Move}
 use Rattle.relocate.specs.declared.Frame.{Frame}
-use Rattle.relocate.specs.declared.Machine.the-variants.{Amd64}
+use Rattle.relocate.specs.declared.Machine.{Machine}
 use Rattle.treskibben_answers.specs.declared.Frame
 use Rattle.treskibben_answers.specs.declared.Answer.{Answer}
 use Rattle.treskibben_answers.specs.declared.FindAnswer
@@ -29,8 +29,9 @@ converted c = record { number = c .number; place = c .place; value = c .written 
 abbrev pub moveAnswer : Move → Answer
 moveAnswer m = record { number = m .number; place = m .place; value = m .count }
 
-abbrev pub frameOf : Frame.Frame → Frame
-frameOf f = record { machine = Amd64; address = f .address; function = f .function; fp = f .rbp; sp = f .rsp }
+-- a frame of a machine
+abbrev pub frameOf : Machine → Frame.Frame → Frame
+frameOf m f = record { machine = m; address = f .address; function = f .function; fp = f .fp; sp = f .sp }
 
 -- The answers of the questions, field by field.
 

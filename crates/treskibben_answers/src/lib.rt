@@ -1,7 +1,9 @@
 // What crosses the C boundary: the structs, and the answers of the layers below turned into them, field by field.
 ghost use mathlib.Core.Path.{_≡_};
 ghost use Rattle.treskibben_answers.specs.Answer.{answer, moveAnswer, frameOf, findAnswerOf, recordPlaceOf, locationOf, liveOutOf};
-ghost use Rattle.questions.specs.Questions.{signed};
+ghost use Rattle.questions.specs.Questions.{signed, ask};
+ghost use Rattle.moves.specs.Settle.{refusedMove};
+ghost use Rattle.treskibben_answers.specs.Machine.{machineOf};
 ghost use Rattle.treskibben_answers.specs.Version.{version};
 use stackmap::Verdict;
 
@@ -9,7 +11,7 @@ use stackmap::Verdict;
 pub fn version() -> u32
     ensures { λ r. ⌜ r ≡ version ⌝ }
 {
-    1
+    2
 }
 
 // A refusal's number and place, or 0 and 0 and the value that the call is for.
@@ -138,29 +140,57 @@ pub fn conversion_answer(c: listing::Conversion) -> Answer
     }
 }
 
-// A frame: an address, RBP and RSP. For version 1 the address is the offset in the function with the number `function`, which is not read
-// for version 3.
-#[repr(C)]
-pub struct Frame {
-    pub address: u64,
-    pub rbp: u64,
-    pub rsp: u64,
-    pub function: u64,
+// A machine that is known, by its number.
+pub fn machine_of(number: u64) -> relocate::Machine
+    ensures { λ r. ⌜ r ≡ machineOf number ⌝ }
+{
+    if number == 0 {
+        return relocate::Machine::Amd64;
+    }
+    relocate::Machine::Aarch64
 }
 
-pub fn frame_of(f: Frame) -> relocate::Frame
-    ensures { λ r. ⌜ r ≡ frameOf f ⌝ }
+// A move for a machine that is not known: the section's refusal, or 33.
+pub fn unknown_machine(v: Verdict) -> Answer
+    ensures { λ r. ⌜ r ≡ moveAnswer (ask refusedMove (refusedMove 33 0) v) ⌝ }
 {
-    relocate::Frame {
-        machine: relocate::Machine::Amd64,
-        address: f.address,
-        function: f.function,
-        fp: f.rbp,
-        sp: f.rsp,
+    match v {
+        Verdict::Valid(_) => Answer {
+            number: 33,
+            place: 0,
+            value: 0,
+        },
+        Verdict::Refused(n, p) => Answer {
+            number: n as u64,
+            place: p as u64,
+            value: 0,
+        },
     }
 }
 
-// The move of one frame or of a thread: a refusal, or the number of pairs.
+// A frame: an address, and what the frame pointer and the stack pointer hold. For version 1 the address is the offset in the function with the
+// number `function`, which is not read for version 3.
+#[repr(C)]
+pub struct Frame {
+    pub address: u64,
+    pub fp: u64,
+    pub sp: u64,
+    pub function: u64,
+}
+
+pub fn frame_of(machine: relocate::Machine, f: Frame) -> relocate::Frame
+    ensures { λ r. ⌜ r ≡ frameOf machine f ⌝ }
+{
+    relocate::Frame {
+        machine,
+        address: f.address,
+        function: f.function,
+        fp: f.fp,
+        sp: f.sp,
+    }
+}
+
+// The move of one frame or of a thread: a refusal, or the number of pointers.
 pub fn move_answer(m: moves::Move) -> Answer
     ensures { λ r. ⌜ r ≡ moveAnswer m ⌝ }
 {

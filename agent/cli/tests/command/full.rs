@@ -97,3 +97,22 @@ fn a_cut() {
     };
     full(&ran, "parts/part-", "all\n");
 }
+
+/// There is no room for the new store, and then there is.
+#[test]
+fn an_edition() {
+    let folder = Folder::new();
+    let make = "edition make --store s --machine x86-64";
+    let begin = format!("{make} --new");
+    let begun = folder.run(begin.split(' '));
+    assert_eq!(begun.status, Some(0), "{}", begun.err);
+    for call in [make, "edition retire --store s 1"] {
+        let Some(ran) = on_a_disk(&folder, 4, "s", call) else {
+            return;
+        };
+        full(&ran, "s: cannot be replaced: ", "s\n");
+    }
+    // With room the store is another one, which is what status 98 tells here.
+    let ran = on_a_disk(&folder, 8, "s", make).unwrap();
+    assert_eq!(ran.status, Some(98), "{}", ran.err);
+}

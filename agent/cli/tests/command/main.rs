@@ -4,6 +4,7 @@ mod build;
 mod check;
 mod cut;
 mod document;
+mod edition;
 mod fixtures;
 mod flat;
 mod full;

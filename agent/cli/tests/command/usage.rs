@@ -5,7 +5,7 @@ use crate::run::{Folder, Ran, PROGRAM};
 use std::path::Path;
 use std::process::{Command, Stdio};
 
-const COMMANDS: [&str; 9] = [
+const COMMANDS: [&str; 10] = [
     "check",
     "list",
     "build",
@@ -13,6 +13,7 @@ const COMMANDS: [&str; 9] = [
     "index",
     "cut",
     "flat",
+    "edition",
     "restore",
     "completions",
 ];

@@ -45,6 +45,21 @@ part-section-end c =
     let h = start-inside (c .before .before .before .before .before .before .before .before .args .listing .now) (k .version) (c .version-length .ensures .0) in
     search needs
 
+returns-3 : tie.Need-returns-3
+returns-3 c =
+    let a = c .before .before .before .before .before .before .before .before .before .before .before .before .before .args in
+    let w : Bytes (a .listing .now) = record { below = λ i. omega (arith, c .before .before .before .before .before .before .before .before .before .before .before .before .shared-slice-known .given i) } in
+    let k = rw (c .before .before .before .before .before .before .before .before .plan .given .1) at (c .before .before .before .before .before .before .before .before .before .before .parse .ensures) in
+    rw (converted (a .listing .now) w (a .out .now) k (omega arith))
+    (record {
+      number = refl;
+      place = refl;
+      written = refl;
+      output =
+          rw (part-is (a .listing .now) (k .version) (c .before .before .before .before .before .version-length .ensures .0), read-as (a .listing .now) w (a .out .now) k)
+          at (c .before .before .section .ensures);
+    })
+
 section-requires : tie.Need-section-requires
 section-requires c κs =
     let k = rw (c .before .before .before .before .before .plan .given .1) at (c .before .before .before .before .before .before .before .parse .ensures) in
@@ -62,21 +77,6 @@ returns-2 c =
 
 same-length : tie.Need-same-length
 same-length c = search needs
-
-returns-3 : tie.Need-returns-3
-returns-3 c =
-    let a = c .before .before .before .before .before .before .before .before .before .before .before .before .before .args in
-    let w : Bytes (a .listing .now) = record { below = λ i. omega (arith, c .before .before .before .before .before .before .before .before .before .before .before .before .shared-slice-known .given i) } in
-    let k = rw (c .before .before .before .before .before .before .before .before .plan .given .1) at (c .before .before .before .before .before .before .before .before .before .before .parse .ensures) in
-    rw (converted (a .listing .now) w (a .out .now) k (c .before .before .before .before .before .before .if1 .left))
-    (record {
-      number = refl;
-      place = refl;
-      written = refl;
-      output =
-          rw (part-is (a .listing .now) (k .version) (c .before .before .before .before .before .version-length .ensures .0), read-as (a .listing .now) w (a .out .now) k)
-          at (c .before .before .section .ensures);
-    })
 
 pub to-section-spec : {M : Type 1} → statement M
 to-section-spec =

@@ -22,10 +22,9 @@ record-shape-requires c κs =
 whole-record-requires : tie.Need-whole-record-requires Inv-loop μ-loop
 whole-record-requires c κs =
     let w = c .before .before .before .loop .inv in
-    let h = c .before .before .loop-test .taken in
     let s = c .before .record-shape .ensures in
-    let m = ready-small (w .ready) h s in
-    (s, m .0, m .1, record-room w h s)
+    let m = ready-small (w .ready) (omega arith) s in
+    (s, m .0, m .1, record-room w (omega arith) s)
 
 record-size-requires : tie.Need-record-size-requires Inv-loop μ-loop
 record-size-requires c κs =
@@ -50,7 +49,7 @@ loop-again c =
     let w = c .before .before .before in
     let s = w .before .before in
     rw (c .record-size .ensures)
-    (records-on (s .before .before .loop .inv) (s .before .loop-test .taken) (s .record-shape .ensures) (w .whole-record .last .1 .1 .1 .1 .0) (w .whole-record .ensures))
+    (records-on (s .before .before .loop .inv) (omega arith) (s .record-shape .ensures) (w .whole-record .last .1 .1 .1 .1 .0) (w .whole-record .ensures))
 
 same-length : tie.Need-same-length Inv-loop μ-loop
 same-length c = let w = c .before .loop .inv .long in search needs

@@ -6,6 +6,25 @@ use borrow.Author.Needs.{needs}
 use Rattle.builder_records.proofs.whole_record.Statement.{statement}
 use Rattle.builder_records.proofs.whole_record.Tie as tie
 
+returns : tie.Need-returns
+returns c =
+    let o = c .before .before .before .before .before .before in
+    let z = o .before .before .before .before .before .before .before .before in
+    let h = z .before .before .before .before .before .before .before .before in
+    let b = h .before .before .before .before .before .before in
+    let a = b .args in
+    rw (
+      c .before .before .zeros2 .ensures,
+      o .live-outs .ensures,
+      o .before .before .before .before .put-u16 .ensures,
+      z .zeros .ensures,
+      z .before .before .before .before .locations .ensures,
+      h .head .ensures,
+      h .before .before .locations-padding .ensures .0,
+      h .before .before .before .location-size .ensures .0,
+    )
+    (record-put (a .old) (b .pre .0) (a .out .now) (a .to))
+
 add-first : tie.Need-add-first
 add-first c = search needs
 
@@ -84,25 +103,6 @@ zeros-requires-2 c κs = let e = scaled (c .before .before .before .before .befo
 
 same-length : tie.Need-same-length
 same-length c = search needs
-
-returns : tie.Need-returns
-returns c =
-    let o = c .before .before .before .before .before .before in
-    let z = o .before .before .before .before .before .before .before .before in
-    let h = z .before .before .before .before .before .before .before .before in
-    let b = h .before .before .before .before .before .before in
-    let a = b .args in
-    rw (
-      c .before .before .zeros2 .ensures,
-      o .live-outs .ensures,
-      o .before .before .before .before .put-u16 .ensures,
-      z .zeros .ensures,
-      z .before .before .before .before .locations .ensures,
-      h .head .ensures,
-      h .before .before .locations-padding .ensures .0,
-      h .before .before .before .location-size .ensures .0,
-    )
-    (record-put (a .old) (b .pre .0) (a .out .now) (a .to))
 
 pub whole-record-spec : {M : Type 1} → statement M
 whole-record-spec =

@@ -43,10 +43,16 @@ reserved-clear-requires : tie.Need-reserved-clear-requires
 reserved-clear-requires c κs = (omega arith, (sym (c .before .before .before .offsets-right .ensures) ∙ not-false _ (c .before .before .if5 .left)), c .before .before .before .before .num-registers .ensures .0)
 
 returns-7 : tie.Need-returns-7
-returns-7 c = wrong-reserved _ (omega arith) (omega arith) (omega arith) (sym (c .before .before .before .before .before .offsets-right .ensures) ∙ not-false _ (c .before .before .before .before .if5 .left)) (sym (c .before .before .before .ranges-right .ensures) ∙ not-false _ (c .before .before .if6 .left)) (sym (c .before .reserved-clear .ensures) ∙ not-true _ (c .if7 .taken))
+returns-7 c = wrong-reserved _ (omega arith) (omega arith) (omega arith)
+    (sym (c .before .before .before .before .before .offsets-right .ensures) ∙ not-false _ (c .before .before .before .before .if5 .left))
+    (sym (c .before .before .before .ranges-right .ensures) ∙ not-false _ (c .before .before .if6 .left))
+    (sym (c .before .reserved-clear .ensures) ∙ not-true _ (c .if7 .taken))
 
 returns-8 : tie.Need-returns-8
-returns-8 c = all-right _ (omega arith) (omega arith) (omega arith) (sym (c .before .before .before .before .before .offsets-right .ensures) ∙ not-false _ (c .before .before .before .before .if5 .left)) (sym (c .before .before .before .ranges-right .ensures) ∙ not-false _ (c .before .before .if6 .left)) (sym (c .before .reserved-clear .ensures) ∙ not-false _ (c .if7 .left))
+returns-8 c = all-right _ (omega arith) (omega arith) (omega arith)
+    (sym (c .before .before .before .before .before .offsets-right .ensures) ∙ not-false _ (c .before .before .before .before .if5 .left))
+    (sym (c .before .before .before .ranges-right .ensures) ∙ not-false _ (c .before .before .if6 .left))
+    (sym (c .before .reserved-clear .ensures) ∙ not-false _ (c .if7 .left))
 
 pub check-spec : {M : Type 1} → statement M
 check-spec =

@@ -1,5 +1,5 @@
 use native.Mathlib.Omega.{arith}
-use Rattle.flat_find.proofs.Ordered.{keyed-none}
+use Rattle.flat_keys.proofs.Filling.{keyed-none}
 use borrow.Author.Needs.{needs}
 use Rattle.flat_find.proofs.one_by_one.Statement.{statement}
 use Rattle.flat_find.proofs.one_by_one.Tie as tie

@@ -1,7 +1,7 @@
 -- The answer of each case of the definition.
 use mathlib.Core.Path.{sym, _∙_}
 use native.Mathlib.Omega.{arith}
-use Rattle.index_fill.proofs.Walk.{tabled}
+use Rattle.index_rows.proofs.Walk.{tabled}
 use Rattle.index_fill.proofs.Whole.{accepted, answers, fill-refused, fill-old, fill-short, fill-all}
 use borrow.Author.Needs.{needs}
 use Rattle.index_fill.proofs.fill.Statement.{statement}

@@ -4,7 +4,8 @@ use lib.ListN.{length}
 use Rattle.stackmap.specs.Section.{entries}
 use Rattle.questions.proofs.Standing.{tables-inside}
 use Rattle.index.specs.Index.{answersOf}
-use Rattle.index_find_all.proofs.Writes.{answers-length, listed, too-short, all-written, indexed}
+use Rattle.index_answers.proofs.Writes.{answers-length}
+use Rattle.index_find_all.proofs.Calls.{listed, too-short, all-written, indexed}
 use borrow.Author.Needs.{needs}
 use Rattle.index_find_all.proofs.answered.Statement.{statement}
 use Rattle.index_find_all.proofs.answered.Tie as tie

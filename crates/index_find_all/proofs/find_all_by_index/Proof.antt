@@ -5,7 +5,7 @@ use Rattle.questions.proofs.Standing.{tables-inside}
 use Rattle.questions.proofs.Searched.{asked, section-refused, section-accepted}
 use Rattle.index.specs.Index.{indexOf, notListed, allByIndex}
 use Rattle.index_check.proofs.Laws.{same-one}
-use Rattle.index_find_all.proofs.Writes.{listed}
+use Rattle.index_find_all.proofs.Calls.{listed}
 use borrow.Author.Needs.{needs}
 use Rattle.index_find_all.proofs.find_all_by_index.Statement.{statement}
 use Rattle.index_find_all.proofs.find_all_by_index.Tie as tie

@@ -39,7 +39,13 @@ mul-result-2 : tie.Need-mul-result-2
 mul-result-2 c = omega (arith, c .shared-slice-known3 .given (c .before .before .before .args .at + 2))
 
 add-result-4 : tie.Need-add-result-4
-add-result-4 c = omega (arith, c .before .before .shared-slice-known .given (c .before .before .before .args .at), c .before .shared-slice-known2 .given (c .before .before .before .args .at + 1), c .shared-slice-known3 .given (c .before .before .before .args .at + 2))
+add-result-4 c = omega (
+  arith,
+  c .before .before .shared-slice-known .given (c .before .before .before .args .at),
+  c .before .shared-slice-known2 .given (c .before .before .before .args .at + 1),
+  c .shared-slice-known3 .given
+      (c .before .before .before .args .at + 2),
+)
 
 add-result-5 : tie.Need-add-result-5
 add-result-5 c = search needs
@@ -54,7 +60,14 @@ mul-result-3 : tie.Need-mul-result-3
 mul-result-3 c = omega (arith, c .shared-slice-known4 .given (c .before .before .before .before .args .at + 3))
 
 add-result-6 : tie.Need-add-result-6
-add-result-6 c = omega (arith, c .before .before .before .shared-slice-known .given (c .before .before .before .before .args .at), c .before .before .shared-slice-known2 .given (c .before .before .before .before .args .at + 1), c .before .shared-slice-known3 .given (c .before .before .before .before .args .at + 2), c .shared-slice-known4 .given (c .before .before .before .before .args .at + 3))
+add-result-6 c = omega (
+  arith,
+  c .before .before .before .shared-slice-known .given (c .before .before .before .before .args .at),
+  c .before .before .shared-slice-known2 .given (c .before .before .before .before .args .at + 1),
+  c .before .shared-slice-known3 .given
+      (c .before .before .before .before .args .at + 2),
+  c .shared-slice-known4 .given (c .before .before .before .before .args .at + 3),
+)
 
 add-result-7 : tie.Need-add-result-7
 add-result-7 c = search needs
@@ -69,7 +82,16 @@ mul-result-4 : tie.Need-mul-result-4
 mul-result-4 c = omega (arith, c .shared-slice-known5 .given (c .before .before .before .before .before .args .at + 4))
 
 add-result-8 : tie.Need-add-result-8
-add-result-8 c = omega (arith, c .before .before .before .before .shared-slice-known .given (c .before .before .before .before .before .args .at), c .before .before .before .shared-slice-known2 .given (c .before .before .before .before .before .args .at + 1), c .before .before .shared-slice-known3 .given (c .before .before .before .before .before .args .at + 2), c .before .shared-slice-known4 .given (c .before .before .before .before .before .args .at + 3), c .shared-slice-known5 .given (c .before .before .before .before .before .args .at + 4))
+add-result-8 c = omega (
+  arith,
+  c .before .before .before .before .shared-slice-known .given (c .before .before .before .before .before .args .at),
+  c .before .before .before .shared-slice-known2 .given (c .before .before .before .before .before .args .at + 1),
+  c .before .before .shared-slice-known3 .given (c .before .before .before .before .before .args .at + 2),
+  c .before .shared-slice-known4 .given
+      (c .before .before .before .before .before .args .at + 3),
+  c .shared-slice-known5 .given
+      (c .before .before .before .before .before .args .at + 4),
+)
 
 add-result-9 : tie.Need-add-result-9
 add-result-9 c = search needs
@@ -84,7 +106,21 @@ mul-result-5 : tie.Need-mul-result-5
 mul-result-5 c = omega (arith, c .shared-slice-known6 .given (c .before .before .before .before .before .before .args .at + 5))
 
 add-result-10 : tie.Need-add-result-10
-add-result-10 c = omega (arith, c .before .before .before .before .before .shared-slice-known .given (c .before .before .before .before .before .before .args .at), c .before .before .before .before .shared-slice-known2 .given (c .before .before .before .before .before .before .args .at + 1), c .before .before .before .shared-slice-known3 .given (c .before .before .before .before .before .before .args .at + 2), c .before .before .shared-slice-known4 .given (c .before .before .before .before .before .before .args .at + 3), c .before .shared-slice-known5 .given (c .before .before .before .before .before .before .args .at + 4), c .shared-slice-known6 .given (c .before .before .before .before .before .before .args .at + 5))
+add-result-10 c = omega (
+  arith,
+  c .before .before .before .before .before .shared-slice-known .given
+      (c .before .before .before .before .before .before .args .at),
+  c .before .before .before .before .shared-slice-known2 .given
+      (c .before .before .before .before .before .before .args .at + 1),
+  c .before .before .before .shared-slice-known3 .given
+      (c .before .before .before .before .before .before .args .at + 2),
+  c .before .before .shared-slice-known4 .given
+      (c .before .before .before .before .before .before .args .at + 3),
+  c .before .shared-slice-known5 .given
+      (c .before .before .before .before .before .before .args .at + 4),
+  c .shared-slice-known6 .given
+      (c .before .before .before .before .before .before .args .at + 5),
+)
 
 add-result-11 : tie.Need-add-result-11
 add-result-11 c = search needs
@@ -99,7 +135,23 @@ mul-result-6 : tie.Need-mul-result-6
 mul-result-6 c = omega (arith, c .shared-slice-known7 .given (c .before .before .before .before .before .before .before .args .at + 6))
 
 add-result-12 : tie.Need-add-result-12
-add-result-12 c = omega (arith, c .before .before .before .before .before .before .shared-slice-known .given (c .before .before .before .before .before .before .before .args .at), c .before .before .before .before .before .shared-slice-known2 .given (c .before .before .before .before .before .before .before .args .at + 1), c .before .before .before .before .shared-slice-known3 .given (c .before .before .before .before .before .before .before .args .at + 2), c .before .before .before .shared-slice-known4 .given (c .before .before .before .before .before .before .before .args .at + 3), c .before .before .shared-slice-known5 .given (c .before .before .before .before .before .before .before .args .at + 4), c .before .shared-slice-known6 .given (c .before .before .before .before .before .before .before .args .at + 5), c .shared-slice-known7 .given (c .before .before .before .before .before .before .before .args .at + 6))
+add-result-12 c = omega (
+  arith,
+  c .before .before .before .before .before .before .shared-slice-known .given
+      (c .before .before .before .before .before .before .before .args .at),
+  c .before .before .before .before .before .shared-slice-known2 .given
+      (c .before .before .before .before .before .before .before .args .at + 1),
+  c .before .before .before .before .shared-slice-known3 .given
+      (c .before .before .before .before .before .before .before .args .at + 2),
+  c .before .before .before .shared-slice-known4 .given
+      (c .before .before .before .before .before .before .before .args .at + 3),
+  c .before .before .shared-slice-known5 .given
+      (c .before .before .before .before .before .before .before .args .at + 4),
+  c .before .shared-slice-known6 .given
+      (c .before .before .before .before .before .before .before .args .at + 5),
+  c .shared-slice-known7 .given
+      (c .before .before .before .before .before .before .before .args .at + 6),
+)
 
 add-result-13 : tie.Need-add-result-13
 add-result-13 c = search needs
@@ -114,10 +166,32 @@ mul-result-7 : tie.Need-mul-result-7
 mul-result-7 c = omega (arith, c .shared-slice-known8 .given (c .before .before .before .before .before .before .before .before .args .at + 7))
 
 add-result-14 : tie.Need-add-result-14
-add-result-14 c = omega (arith, c .before .before .before .before .before .before .before .shared-slice-known .given (c .before .before .before .before .before .before .before .before .args .at), c .before .before .before .before .before .before .shared-slice-known2 .given (c .before .before .before .before .before .before .before .before .args .at + 1), c .before .before .before .before .before .shared-slice-known3 .given (c .before .before .before .before .before .before .before .before .args .at + 2), c .before .before .before .before .shared-slice-known4 .given (c .before .before .before .before .before .before .before .before .args .at + 3), c .before .before .before .shared-slice-known5 .given (c .before .before .before .before .before .before .before .before .args .at + 4), c .before .before .shared-slice-known6 .given (c .before .before .before .before .before .before .before .before .args .at + 5), c .before .shared-slice-known7 .given (c .before .before .before .before .before .before .before .before .args .at + 6), c .shared-slice-known8 .given (c .before .before .before .before .before .before .before .before .args .at + 7))
+add-result-14 c = omega (
+  arith,
+  c .before .before .before .before .before .before .before .shared-slice-known .given
+      (c .before .before .before .before .before .before .before .before .args .at),
+  c .before .before .before .before .before .before .shared-slice-known2 .given
+      (c .before .before .before .before .before .before .before .before .args .at + 1),
+  c .before .before .before .before .before .shared-slice-known3 .given
+      (c .before .before .before .before .before .before .before .before .args .at + 2),
+  c .before .before .before .before .shared-slice-known4 .given
+      (c .before .before .before .before .before .before .before .before .args .at + 3),
+  c .before .before .before .shared-slice-known5 .given
+      (c .before .before .before .before .before .before .before .before .args .at + 4),
+  c .before .before .shared-slice-known6 .given
+      (c .before .before .before .before .before .before .before .before .args .at + 5),
+  c .before .shared-slice-known7 .given
+      (c .before .before .before .before .before .before .before .before .args .at + 6),
+  c .shared-slice-known8 .given
+      (c .before .before .before .before .before .before .before .before .args .at + 7),
+)
 
 returns : tie.Need-returns
 returns c = omega (arith, eight (c .before .before .before .before .before .before .before .before .args .s .now) (c .before .before .before .before .before .before .before .before .args .at))
 
 pub by-bytes-spec : {M : Type 1} → statement M
-by-bytes-spec = tie.close (tie.spec shared-slice-read-result cast-result add-result shared-slice-read-result-2 cast-result-2 mul-result add-result-2 add-result-3 shared-slice-read-result-3 cast-result-3 mul-result-2 add-result-4 add-result-5 shared-slice-read-result-4 cast-result-4 mul-result-3 add-result-6 add-result-7 shared-slice-read-result-5 cast-result-5 mul-result-4 add-result-8 add-result-9 shared-slice-read-result-6 cast-result-6 mul-result-5 add-result-10 add-result-11 shared-slice-read-result-7 cast-result-7 mul-result-6 add-result-12 add-result-13 shared-slice-read-result-8 cast-result-8 mul-result-7 add-result-14 returns)
+by-bytes-spec = tie.close (tie.spec shared-slice-read-result cast-result add-result shared-slice-read-result-2 cast-result-2 mul-result add-result-2
+    add-result-3 shared-slice-read-result-3 cast-result-3 mul-result-2 add-result-4 add-result-5 shared-slice-read-result-4 cast-result-4
+    mul-result-3 add-result-6 add-result-7 shared-slice-read-result-5 cast-result-5 mul-result-4 add-result-8 add-result-9 shared-slice-read-result-6
+    cast-result-6 mul-result-5 add-result-10 add-result-11 shared-slice-read-result-7 cast-result-7 mul-result-6 add-result-12 add-result-13
+    shared-slice-read-result-8 cast-result-8 mul-result-7 add-result-14 returns)

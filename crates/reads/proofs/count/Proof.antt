@@ -34,10 +34,14 @@ loop-less : tie.Need-loop-less Inv-loop μ-loop
 loop-less c = search needs
 
 loop-again : tie.Need-loop-again Inv-loop μ-loop
-loop-again c = counting-on (c .before .before .before .before .before .before .args .s .now) (c .before .before .before .before .before .before .args .number) (c .before .before .before .before .before .before .args .places .now) (c .before .before .before .loop .found) (c .before .before .before .loop .i) (c .before .before .before .loop .inv) (c .before .before .loop-test .taken) (c .hit .result) (c .hit .ensures .0) (c .hit .ensures .1)
+loop-again c = counting-on (c .before .before .before .before .before .before .args .s .now)
+    (c .before .before .before .before .before .before .args .number) (c .before .before .before .before .before .before .args .places .now)
+    (c .before .before .before .loop .found) (c .before .before .before .loop .i) (c .before .before .before .loop .inv)
+    (c .before .before .loop-test .taken) (c .hit .result) (c .hit .ensures .0) (c .hit .ensures .1)
 
 returns : tie.Need-returns Inv-loop μ-loop
-returns c = counting-end (c .before .before .before .before .args .s .now) (c .before .before .before .before .args .number) (c .before .before .before .before .args .places .now) (c .before .loop .found) (c .before .loop .i) (c .before .loop .inv) (omega arith)
+returns c = counting-end (c .before .before .before .before .args .s .now) (c .before .before .before .before .args .number)
+    (c .before .before .before .before .args .places .now) (c .before .loop .found) (c .before .loop .i) (c .before .loop .inv) (omega arith)
 
 pub count-spec : {M : Type 1} → statement M
 count-spec = tie.close (tie.spec Inv-loop μ-loop loop-holds mul-hit shared-slice-read-hit hit-requires add-found add-i loop-less loop-again returns)

@@ -1,6 +1,7 @@
 use mathlib.Core.Path.{sym, _∙_}
 use Rattle.relocate.specs.Restore.{restore}
 use Rattle.thread_call.proofs.Whole.{thread-13, thread-14, thread-25, thread-frames}
+use Rattle.thread.specs.Code.{threadOf}
 use borrow.Author.Needs.{needs}
 use Rattle.thread_call.proofs.of_section.Statement.{statement}
 use Rattle.thread_call.proofs.of_section.Tie as tie
@@ -26,7 +27,7 @@ returns c =
     let q = c .before .before .before .before .before .before .before .before .before .before .before .before .before .before .before in
     let a = q .args in
     let l = sym (c .before .before .before .before .before .list-right .ensures) ∙ c .before .before .before .before .if3 .taken in
-    thread-frames (restore (a .s .now) (a .olds .now) (a .news .now) (a .first)) (a .image .now) (a .list .now) (q .pre .0 .section-right) (sym (c .before .before .before .before .before .before .before .before .before .image-right .ensures) ∙ c .before .before .before .before .before .before .before .before .if1 .taken) (sym (c .before .before .before .before .before .before .before .table-right .ensures) ∙ c .before .before .before .before .before .before .if2 .taken) (a .count) _ _ l (q .pre .1 l) (c .before .before .move-frames .ensures)
+    thread-frames (restore (a .s .now) (a .olds .now) (a .news .now) (a .first)) (a .image .now) (threadOf (a .machine) (a .list .now)) (q .pre .0 .section-right) (sym (c .before .before .before .before .before .before .before .before .before .image-right .ensures) ∙ c .before .before .before .before .before .before .before .before .if1 .taken) (sym (c .before .before .before .before .before .before .before .table-right .ensures) ∙ c .before .before .before .before .before .before .if2 .taken) (a .count) _ _ l (q .pre .1 l) (c .before .before .move-frames .ensures)
 
 refused-requires : tie.Need-refused-requires
 refused-requires c κs = search needs
@@ -35,7 +36,7 @@ returns-2 : tie.Need-returns-2
 returns-2 c =
     let q = c .before .before .before .before .before .before .before .before .before .before .before .before in
     let a = q .args in
-    rw (c .refused .ensures) (thread-25 (restore (a .s .now) (a .olds .now) (a .news .now) (a .first)) (a .image .now) (a .list .now) (q .pre .0 .section-right) (sym (c .before .before .before .before .before .before .image-right .ensures) ∙ c .before .before .before .before .before .if1 .taken) (sym (c .before .before .before .before .table-right .ensures) ∙ c .before .before .before .if2 .taken) (sym (c .before .before .list-right .ensures) ∙ c .before .if3 .left))
+    rw (c .refused .ensures) (thread-25 (restore (a .s .now) (a .olds .now) (a .news .now) (a .first)) (a .image .now) (threadOf (a .machine) (a .list .now)) (q .pre .0 .section-right) (sym (c .before .before .before .before .before .before .image-right .ensures) ∙ c .before .before .before .before .before .if1 .taken) (sym (c .before .before .before .before .table-right .ensures) ∙ c .before .before .before .if2 .taken) (sym (c .before .before .list-right .ensures) ∙ c .before .if3 .left))
 
 refused-requires-2 : tie.Need-refused-requires-2
 refused-requires-2 c κs = search needs
@@ -44,7 +45,7 @@ returns-3 : tie.Need-returns-3
 returns-3 c =
     let q = c .before .before .before .before .before .before .before .before .before .before in
     let a = q .args in
-    rw (c .refused2 .ensures) (thread-14 (restore (a .s .now) (a .olds .now) (a .news .now) (a .first)) (a .image .now) (a .list .now) (q .pre .0 .section-right) (sym (c .before .before .before .before .image-right .ensures) ∙ c .before .before .before .if1 .taken) (sym (c .before .before .table-right .ensures) ∙ c .before .if2 .left))
+    rw (c .refused2 .ensures) (thread-14 (restore (a .s .now) (a .olds .now) (a .news .now) (a .first)) (a .image .now) (threadOf (a .machine) (a .list .now)) (q .pre .0 .section-right) (sym (c .before .before .before .before .image-right .ensures) ∙ c .before .before .before .if1 .taken) (sym (c .before .before .table-right .ensures) ∙ c .before .if2 .left))
 
 refused-requires-3 : tie.Need-refused-requires-3
 refused-requires-3 c κs = search needs
@@ -53,7 +54,7 @@ returns-4 : tie.Need-returns-4
 returns-4 c =
     let q = c .before .before .before .before .before .before .before .before in
     let a = q .args in
-    rw (c .refused3 .ensures) (thread-13 (restore (a .s .now) (a .olds .now) (a .news .now) (a .first)) (a .image .now) (a .list .now) (q .pre .0 .section-right) (sym (c .before .before .image-right .ensures) ∙ c .before .if1 .left))
+    rw (c .refused3 .ensures) (thread-13 (restore (a .s .now) (a .olds .now) (a .news .now) (a .first)) (a .image .now) (threadOf (a .machine) (a .list .now)) (q .pre .0 .section-right) (sym (c .before .before .image-right .ensures) ∙ c .before .if1 .left))
 
 pub of-section-spec : {M : Type 1} → statement M
 of-section-spec =

@@ -1,6 +1,7 @@
 use mathlib.Core.Path.{sym, _∙_}
 use Rattle.relocate.specs.Restore.{restore}
 use Rattle.thread_call.proofs.Whole.{thread-section, valid-accepted, blank-holds, blank-counted}
+use Rattle.thread.specs.Code.{threadOf}
 use borrow.Author.Needs.{needs}
 use Rattle.thread_call.proofs.relocate_thread.Statement.{statement}
 use Rattle.thread_call.proofs.relocate_thread.Tie as tie
@@ -35,7 +36,7 @@ returns : tie.Need-returns
 returns c =
     let q = c .before .before .before .before .before .before .before .before .before .before .before .before .before .before .before in
     let a = q .args in
-    rw (c .refused .ensures) (thread-section (restore (a .section .now) (a .olds .now) (a .news .now) (a .first)) (a .image .now) (a .list .now) _ _ (sym (c .before .before .before .before .find-all .ensures .0) ∙ c .before .before .n .given .1))
+    rw (c .refused .ensures) (thread-section (restore (a .section .now) (a .olds .now) (a .news .now) (a .first)) (a .image .now) (threadOf (a .machine) (a .list .now)) _ _ (sym (c .before .before .before .before .find-all .ensures .0) ∙ c .before .before .n .given .1))
 
 same-length : tie.Need-same-length
 same-length c = search needs

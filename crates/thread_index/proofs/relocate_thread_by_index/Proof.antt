@@ -7,6 +7,7 @@ use Rattle.questions.proofs.Standing.{tables-inside}
 use Rattle.questions.proofs.Searched.{section-refused, section-accepted}
 use Rattle.thread_index.specs.ByIndex.{threadByIndexAnswer}
 use Rattle.thread_index.proofs.Laws.{own-number, refused-so, moved-so, by-13, by-14, by-27, by-29, by-call}
+use Rattle.thread.specs.Code.{threadOf}
 use borrow.Author.Needs.{needs}
 use Rattle.thread_index.proofs.relocate_thread_by_index.Statement.{statement}
 use Rattle.thread_index.proofs.relocate_thread_by_index.Tie as tie
@@ -26,7 +27,9 @@ returns c =
     let a = c .before .before .before .before .before .before .before .before .before .before .before .args in
     let f = c .before .before .before .before .check .result .found in
     let o = sym (c .before .before .of-section .ensures) ∙ c .before .if1 .taken in
-    refused-so (restore (a .section .now) (a .olds .now) (a .news .now) (a .first)) (a .image .now) (a .index .now) (a .list .now) (f .number) (f .place) (own-number f o) (c .refused .ensures) (section-refused (a .section .now) 0 f (c .before .before .before .before .check .ensures .0) refusedMove _ o)
+    refused-so (restore (a .section .now) (a .olds .now) (a .news .now) (a .first)) (a .image .now) (a .index .now) (threadOf (a .machine) (a .list .now)) (f .number)
+    (f .place) (own-number f o) (c .refused .ensures) (section-refused (a .section .now) 0 f
+    (c .before .before .before .before .check .ensures .0) refusedMove _ o)
 
 image-right-requires : tie.Need-image-right-requires
 image-right-requires c κs = search needs
@@ -37,7 +40,10 @@ table-right-requires c κs = search needs
 is-old-requires : tie.Need-is-old-requires
 is-old-requires c κs =
     let a = c .before .before .before .before .before .before .before .before .before .before .before .before .before .before .args in
-    let k = tables-inside (a .section .now) (length (a .section .now)) (section-accepted (a .section .now) 0 (c .before .before .before .before .before .before .before .check .result .found) (c .before .before .before .before .before .before .before .check .ensures .0) (sym (c .before .before .before .before .before .of-section .ensures) ∙ c .before .before .before .before .if1 .left)) in
+    let k = tables-inside (a .section .now) (length (a .section .now))
+    (section-accepted (a .section .now) 0 (c .before .before .before .before .before .before .before .check .result .found)
+    (c .before .before .before .before .before .before .before .check .ensures .0)
+    (sym (c .before .before .before .before .before .of-section .ensures) ∙ c .before .before .before .before .if1 .left)) in
     omega arith
 
 refused-requires-2 : tie.Need-refused-requires-2
@@ -46,11 +52,17 @@ refused-requires-2 c κs = search needs
 returns-2 : tie.Need-returns-2
 returns-2 c =
     let a = c .before .before .before .before .before .before .before .before .before .before .before .before .before .before .before .before .before .args in
-    let h = section-accepted (a .section .now) 0 (c .before .before .before .before .before .before .before .before .before .before .check .result .found) (c .before .before .before .before .before .before .before .before .before .before .check .ensures .0) (sym (c .before .before .before .before .before .before .before .before .of-section .ensures) ∙ c .before .before .before .before .before .before .before .if1 .left) in
+    let h = section-accepted (a .section .now) 0
+    (c .before .before .before .before .before .before .before .before .before .before .check .result .found)
+    (c .before .before .before .before .before .before .before .before .before .before .check .ensures .0)
+    (sym (c .before .before .before .before .before .before .before .before .of-section .ensures)
+    ∙ c .before .before .before .before .before .before .before .if1 .left) in
     let i = sym (c .before .before .before .before .before .before .image-right .ensures) ∙ c .before .before .before .before .before .if2 .taken in
     let t = sym (c .before .before .before .before .table-right .ensures) ∙ c .before .before .before .if3 .taken in
     let o = sym (c .before .before .is-old .ensures) ∙ c .before .if4 .taken in
-    refused-so (restore (a .section .now) (a .olds .now) (a .news .now) (a .first)) (a .image .now) (a .index .now) (a .list .now) 27 0 (λ z. omega arith) (c .refused2 .ensures) (by-27 (restore (a .section .now) (a .olds .now) (a .news .now) (a .first)) (a .image .now) (a .index .now) (a .list .now) h i t o)
+    refused-so (restore (a .section .now) (a .olds .now) (a .news .now) (a .first)) (a .image .now) (a .index .now) (threadOf (a .machine) (a .list .now)) 27 0
+    (λ z. omega arith) (c .refused2 .ensures) (by-27 (restore (a .section .now) (a .olds .now) (a .news .now) (a .first)) (a .image .now)
+    (a .index .now) (threadOf (a .machine) (a .list .now)) h i t o)
 
 relocate-thread-requires : tie.Need-relocate-thread-requires
 relocate-thread-requires c κs = search needs
@@ -61,12 +73,18 @@ same-length c = search needs
 returns-3 : tie.Need-returns-3
 returns-3 c =
     let a = c .before .before .before .before .before .before .before .before .before .before .before .before .before .before .before .before .before .before .before .before .before .args in
-    let h = section-accepted (a .section .now) 0 (c .before .before .before .before .before .before .before .before .before .before .before .before .before .before .check .result .found) (c .before .before .before .before .before .before .before .before .before .before .before .before .before .before .check .ensures .0) (sym (c .before .before .before .before .before .before .before .before .before .before .before .before .of-section .ensures) ∙ c .before .before .before .before .before .before .before .before .before .before .before .if1 .left) in
+    let h = section-accepted (a .section .now) 0
+    (c .before .before .before .before .before .before .before .before .before .before .before .before .before .before .check .result .found)
+    (c .before .before .before .before .before .before .before .before .before .before .before .before .before .before .check .ensures .0)
+    (sym (c .before .before .before .before .before .before .before .before .before .before .before .before .of-section .ensures)
+    ∙ c .before .before .before .before .before .before .before .before .before .before .before .if1 .left) in
     let i = sym (c .before .before .before .before .before .before .before .before .before .before .image-right .ensures) ∙ c .before .before .before .before .before .before .before .before .before .if2 .taken in
     let t = sym (c .before .before .before .before .before .before .before .before .table-right .ensures) ∙ c .before .before .before .before .before .before .before .if3 .taken in
     let o = sym (c .before .before .before .before .before .before .is-old .ensures) ∙ c .before .before .before .before .before .if4 .left in
     let r = sym (c .before .before .before .before .before .before .before .before .before .before .before .before .before .before .check .ensures .1 h o) ∙ c .before .before .before .before .if5 .taken in
-    moved-so (restore (a .section .now) (a .olds .now) (a .news .now) (a .first)) (a .image .now) (a .index .now) (a .list .now) (by-call (restore (a .section .now) (a .olds .now) (a .news .now) (a .first)) (a .image .now) (a .index .now) (a .list .now) h i t o r) (c .before .before .relocate-thread .ensures)
+    moved-so (restore (a .section .now) (a .olds .now) (a .news .now) (a .first)) (a .image .now) (a .index .now) (threadOf (a .machine) (a .list .now))
+    (by-call (restore (a .section .now) (a .olds .now) (a .news .now) (a .first)) (a .image .now) (a .index .now) (threadOf (a .machine) (a .list .now)) h i t o r)
+    (c .before .before .relocate-thread .ensures)
 
 refused-requires-3 : tie.Need-refused-requires-3
 refused-requires-3 c κs = search needs
@@ -74,12 +92,18 @@ refused-requires-3 c κs = search needs
 returns-4 : tie.Need-returns-4
 returns-4 c =
     let a = c .before .before .before .before .before .before .before .before .before .before .before .before .before .before .before .before .before .before .args in
-    let h = section-accepted (a .section .now) 0 (c .before .before .before .before .before .before .before .before .before .before .before .check .result .found) (c .before .before .before .before .before .before .before .before .before .before .before .check .ensures .0) (sym (c .before .before .before .before .before .before .before .before .before .of-section .ensures) ∙ c .before .before .before .before .before .before .before .before .if1 .left) in
+    let h = section-accepted (a .section .now) 0
+    (c .before .before .before .before .before .before .before .before .before .before .before .check .result .found)
+    (c .before .before .before .before .before .before .before .before .before .before .before .check .ensures .0)
+    (sym (c .before .before .before .before .before .before .before .before .before .of-section .ensures)
+    ∙ c .before .before .before .before .before .before .before .before .if1 .left) in
     let i = sym (c .before .before .before .before .before .before .before .image-right .ensures) ∙ c .before .before .before .before .before .before .if2 .taken in
     let t = sym (c .before .before .before .before .before .table-right .ensures) ∙ c .before .before .before .before .if3 .taken in
     let o = sym (c .before .before .before .is-old .ensures) ∙ c .before .before .if4 .left in
     let r = sym (c .before .before .before .before .before .before .before .before .before .before .before .check .ensures .1 h o) ∙ c .before .if5 .left in
-    refused-so (restore (a .section .now) (a .olds .now) (a .news .now) (a .first)) (a .image .now) (a .index .now) (a .list .now) 29 0 (λ z. omega arith) (c .refused3 .ensures) (by-29 (restore (a .section .now) (a .olds .now) (a .news .now) (a .first)) (a .image .now) (a .index .now) (a .list .now) h i t o r)
+    refused-so (restore (a .section .now) (a .olds .now) (a .news .now) (a .first)) (a .image .now) (a .index .now) (threadOf (a .machine) (a .list .now)) 29 0
+    (λ z. omega arith) (c .refused3 .ensures) (by-29 (restore (a .section .now) (a .olds .now) (a .news .now) (a .first)) (a .image .now)
+    (a .index .now) (threadOf (a .machine) (a .list .now)) h i t o r)
 
 refused-requires-4 : tie.Need-refused-requires-4
 refused-requires-4 c κs = search needs
@@ -87,10 +111,14 @@ refused-requires-4 c κs = search needs
 returns-5 : tie.Need-returns-5
 returns-5 c =
     let a = c .before .before .before .before .before .before .before .before .before .before .before .before .before .before .before .args in
-    let h = section-accepted (a .section .now) 0 (c .before .before .before .before .before .before .before .before .check .result .found) (c .before .before .before .before .before .before .before .before .check .ensures .0) (sym (c .before .before .before .before .before .before .of-section .ensures) ∙ c .before .before .before .before .before .if1 .left) in
+    let h = section-accepted (a .section .now) 0 (c .before .before .before .before .before .before .before .before .check .result .found)
+    (c .before .before .before .before .before .before .before .before .check .ensures .0)
+    (sym (c .before .before .before .before .before .before .of-section .ensures) ∙ c .before .before .before .before .before .if1 .left) in
     let i = sym (c .before .before .before .before .image-right .ensures) ∙ c .before .before .before .if2 .taken in
     let t = sym (c .before .before .table-right .ensures) ∙ c .before .if3 .left in
-    refused-so (restore (a .section .now) (a .olds .now) (a .news .now) (a .first)) (a .image .now) (a .index .now) (a .list .now) 14 0 (λ z. omega arith) (c .refused4 .ensures) (by-14 (restore (a .section .now) (a .olds .now) (a .news .now) (a .first)) (a .image .now) (a .index .now) (a .list .now) h i t)
+    refused-so (restore (a .section .now) (a .olds .now) (a .news .now) (a .first)) (a .image .now) (a .index .now) (threadOf (a .machine) (a .list .now)) 14 0
+    (λ z. omega arith) (c .refused4 .ensures) (by-14 (restore (a .section .now) (a .olds .now) (a .news .now) (a .first)) (a .image .now)
+    (a .index .now) (threadOf (a .machine) (a .list .now)) h i t)
 
 refused-requires-5 : tie.Need-refused-requires-5
 refused-requires-5 c κs = search needs
@@ -98,9 +126,13 @@ refused-requires-5 c κs = search needs
 returns-6 : tie.Need-returns-6
 returns-6 c =
     let a = c .before .before .before .before .before .before .before .before .before .before .before .before .before .args in
-    let h = section-accepted (a .section .now) 0 (c .before .before .before .before .before .before .check .result .found) (c .before .before .before .before .before .before .check .ensures .0) (sym (c .before .before .before .before .of-section .ensures) ∙ c .before .before .before .if1 .left) in
+    let h = section-accepted (a .section .now) 0 (c .before .before .before .before .before .before .check .result .found)
+    (c .before .before .before .before .before .before .check .ensures .0)
+    (sym (c .before .before .before .before .of-section .ensures) ∙ c .before .before .before .if1 .left) in
     let i = sym (c .before .before .image-right .ensures) ∙ c .before .if2 .left in
-    refused-so (restore (a .section .now) (a .olds .now) (a .news .now) (a .first)) (a .image .now) (a .index .now) (a .list .now) 13 0 (λ z. omega arith) (c .refused5 .ensures) (by-13 (restore (a .section .now) (a .olds .now) (a .news .now) (a .first)) (a .image .now) (a .index .now) (a .list .now) h i)
+    refused-so (restore (a .section .now) (a .olds .now) (a .news .now) (a .first)) (a .image .now) (a .index .now) (threadOf (a .machine) (a .list .now)) 13 0
+    (λ z. omega arith) (c .refused5 .ensures) (by-13 (restore (a .section .now) (a .olds .now) (a .news .now) (a .first)) (a .image .now)
+    (a .index .now) (threadOf (a .machine) (a .list .now)) h i)
 
 pub relocate-thread-by-index-spec : {M : Type 1} → statement M
 relocate-thread-by-index-spec =

@@ -45,9 +45,28 @@ returns-4 c = fronts-not _ (right-not _ (λ r. omega (arith, r .registers)))
 
 returns-5 : tie.Need-returns-5
 returns-5 c = fronts-told _ (record {
-  constants = omega (arith, c .before .before .before .before .before .before .before .before .before .before .before .offset .ensures .0, c .before .before .before .before .before .before .if2 .left, c .before .before .before .before .before .before .before .after .ensures);
-  frames = omega (arith, c .before .before .before .before .before .before .before .before .before .before .offset2 .ensures .0, c .before .before .before .before .before .before .before .before .before .before .before .offset .ensures .0, c .before .before .before .if3 .left, c .before .before .before .before .after2 .ensures, c .before .before .before .before .before .num-constants .ensures);
-  registers = omega (arith, c .before .before .before .before .before .before .before .before .before .offset3 .ensures .0, c .before .before .before .before .before .before .before .before .before .before .offset2 .ensures .0, c .if4 .left, c .before .after3 .ensures, c .before .before .num-frames .ensures);
+  constants = omega (
+    arith,
+    c .before .before .before .before .before .before .before .before .before .before .before .offset .ensures .0,
+    c .before .before .before .before .before .before .if2 .left,
+    c .before .before .before .before .before .before .before .after .ensures,
+  );
+  frames = omega (
+    arith,
+    c .before .before .before .before .before .before .before .before .before .before .offset2 .ensures .0,
+    c .before .before .before .before .before .before .before .before .before .before .before .offset .ensures .0,
+    c .before .before .before .if3 .left,
+    c .before .before .before .before .after2 .ensures,
+    c .before .before .before .before .before .num-constants .ensures,
+  );
+  registers = omega (
+    arith,
+    c .before .before .before .before .before .before .before .before .before .offset3 .ensures .0,
+    c .before .before .before .before .before .before .before .before .before .before .offset2 .ensures .0,
+    c .if4 .left,
+    c .before .after3 .ensures,
+    c .before .before .num-frames .ensures,
+  );
   inside = omega (arith, c .before .before .before .before .before .before .before .before .before .offset3 .ensures .0, c .before .before .before .before .before .before .before .before .if1 .left);
 })
 

@@ -41,20 +41,53 @@ unfolding numLocations
 after-requires-3 c κs = search needs
 
 returns-3 : tie.Need-returns-3
-returns-3 c = not-live-outs _ _ _ _ _ (c .before .before .before .before .before .before .before .before .offset4 .ensures .0) (c .before .before .before .before .before .before .before .before .before .offset3 .ensures .0) (c .before .before .num-locations .ensures) (c .before .after3 .ensures) (c .if3 .taken)
+returns-3 c = not-live-outs _ _ _ _ _ (c .before .before .before .before .before .before .before .before .offset4 .ensures .0)
+    (c .before .before .before .before .before .before .before .before .before .offset3 .ensures .0) (c .before .before .num-locations .ensures)
+    (c .before .after3 .ensures) (c .if3 .taken)
 
 num-live-outs-requires : tie.Need-num-live-outs-requires
 num-live-outs-requires c κs = search needs
 
 after-requires-4 : tie.Need-after-requires-4
 unfolding numLiveOuts
-after-requires-4 c κs = (omega arith, omega arith, omega (arith, c .before .before .before .before .before .before .before .before .before .before .before .before .before .before .pre .1, c .num-live-outs .ensures, c .before .before .before .before .before .before .before .before .before .offset4 .ensures .1))
+after-requires-4 c κs
+    = (
+      omega arith,
+      omega arith,
+      omega (
+        arith,
+        c .before .before .before .before .before .before .before .before .before .before .before .before .before .before .pre .1,
+        c .num-live-outs .ensures,
+        c .before .before .before .before .before .before .before .before .before .offset4 .ensures .1,
+      ),
+    )
 
 returns-4 : tie.Need-returns-4
 returns-4 c = let f = c .before .before .before .before .before .before .before .before .before .before .before .before .before .before .before .pre .2 in right-last _ _ (f .constants) (f .frames) (f .registers)
-    (omega (arith, c .before .before .before .before .before .before .before .before .before .before .before .before .offset2 .ensures .0, c .before .before .before .before .before .before .before .before .before .before .before .before .before .offset .ensures .0, c .before .before .before .before .before .before .before .before .if1 .left, c .before .before .before .before .before .before .before .before .before .after .ensures, c .before .before .before .before .before .before .before .before .before .before .before .before .before .before .before .pre .3))
-    (omega (arith, c .before .before .before .before .before .before .before .before .before .before .before .offset3 .ensures .0, c .before .before .before .before .before .before .before .before .before .before .before .before .offset2 .ensures .0, c .before .before .before .before .before .if2 .left, c .before .before .before .before .before .before .after2 .ensures, c .before .before .before .before .before .before .before .num-records .ensures))
-    (omega (arith, c .before .before .before .before .before .before .before .before .before .before .offset4 .ensures .0, c .before .before .before .before .before .before .before .before .before .before .before .offset3 .ensures .0, c .before .before .if3 .left, c .before .before .before .after3 .ensures, c .before .before .before .before .num-locations .ensures))
+    (omega (
+      arith,
+      c .before .before .before .before .before .before .before .before .before .before .before .before .offset2 .ensures .0,
+      c .before .before .before .before .before .before .before .before .before .before .before .before .before .offset .ensures .0,
+      c .before .before .before .before .before .before .before .before .if1 .left,
+      c .before .before .before .before .before .before .before .before .before .after .ensures,
+      c .before .before .before .before .before .before .before .before .before .before .before .before .before .before .before .pre .3,
+    ))
+    (omega (
+      arith,
+      c .before .before .before .before .before .before .before .before .before .before .before .offset3 .ensures .0,
+      c .before .before .before .before .before .before .before .before .before .before .before .before .offset2 .ensures .0,
+      c .before .before .before .before .before .if2 .left,
+      c .before .before .before .before .before .before .after2 .ensures,
+      c .before .before .before .before .before .before .before .num-records .ensures,
+    ))
+    (omega (
+      arith,
+      c .before .before .before .before .before .before .before .before .before .before .offset4 .ensures .0,
+      c .before .before .before .before .before .before .before .before .before .before .before .offset3 .ensures .0,
+      c .before .before .if3 .left,
+      c .before .before .before .after3 .ensures,
+      c .before .before .before .before .num-locations .ensures,
+    ))
     (omega (arith, c .after4 .ensures, c .before .num-live-outs .ensures, c .before .before .before .before .before .before .before .before .before .before .offset4 .ensures .0))
 
 pub offsets-right-spec : {M : Type 1} → statement M

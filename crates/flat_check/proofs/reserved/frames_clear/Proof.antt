@@ -1,6 +1,6 @@
 use native.Mathlib.Omega.{arith}
 use Rattle.flat.proofs.Arrays.{arranged, right-told}
-use Rattle.flat_check.proofs.Below.{frames-flags}
+use Rattle.flat_check.proofs.Flags.{frames-flags}
 use borrow.Author.Needs.{needs}
 use Rattle.flat_check.proofs.reserved.frames_clear.Statement.{statement}
 use Rattle.flat_check.proofs.reserved.frames_clear.Tie as tie

@@ -33,7 +33,9 @@ both-requires : tie.Need-both-requires
 both-requires c κs = search needs
 
 returns : tie.Need-returns
-returns c = let o = c .before .before .before .before .offset .ensures .0 in let n = c .before .before .before .before .before .before .pre .2 in let m = c .before .before .before .offset2 .ensures .0 in both-same (c .both .ensures) (rw (o, n) at (c .before .before .each-below .ensures)) (rw (o, n, m) at (c .before .each-below2 .ensures))
+returns c = let o = c .before .before .before .before .offset .ensures .0 in let n = c .before .before .before .before .before .before .pre .2
+    in let m = c .before .before .before .offset2 .ensures .0 in both-same (c .both .ensures) (rw (o, n) at (c .before .before .each-below .ensures))
+    (rw (o, n, m) at (c .before .each-below2 .ensures))
 
 pub registers-clear-spec : {M : Type 1} → statement M
 registers-clear-spec =

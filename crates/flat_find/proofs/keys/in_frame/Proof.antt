@@ -57,7 +57,9 @@ not-found-requires-2 c κs = search needs
 -- src/keys.rt:64:9
 returns-3 : tie.Need-returns-3
 returns-3 c =
-    too-far _ _ _ _ _ _ _ _ _ (c .before .before .before .before .before .before .before .before .pre .5) (omega arith) (c .before .before .before .before .offset .ensures .0) (c .before .before .before .u64-at .ensures) _ (omega arith) (omega arith) (c .not-found2 .ensures)
+    too-far _ _ _ _ _ _ _ _ _ (c .before .before .before .before .before .before .before .before .pre .5) (omega arith)
+    (c .before .before .before .before .offset .ensures .0) (c .before .before .before .u64-at .ensures) _ (omega arith) (omega arith)
+    (c .not-found2 .ensures)
 
 -- src/keys.rt:66:16
 mul-base : tie.Need-mul-base
@@ -78,7 +80,9 @@ not-found-requires-3 c κs = search needs
 -- src/keys.rt:69:9
 returns-4 : tie.Need-returns-4
 returns-4 c =
-    none-at _ _ _ _ _ _ _ _ _ (c .before .before .before .before .before .before .before .before .before .before .pre .5) (omega arith) (c .before .before .before .before .before .before .offset .ensures .0) (c .before .before .before .before .before .u64-at .ensures) _ (omega arith) (c .before .before .lower-bound .ensures .1) _ (λ l. omega arith) (c .not-found3 .ensures)
+    none-at _ _ _ _ _ _ _ _ _ (c .before .before .before .before .before .before .before .before .before .before .pre .5) (omega arith)
+    (c .before .before .before .before .before .before .offset .ensures .0) (c .before .before .before .before .before .u64-at .ensures) _
+    (omega arith) (c .before .before .lower-bound .ensures .1) _ (λ l. omega arith) (c .not-found3 .ensures)
 
 -- src/keys.rt:71:15
 mul-key : tie.Need-mul-key
@@ -99,7 +103,10 @@ not-found-requires-4 c κs = search needs
 -- src/keys.rt:73:9
 returns-5 : tie.Need-returns-5
 returns-5 c =
-    none-at _ _ _ _ _ _ _ _ _ (c .before .before .before .before .before .before .before .before .before .before .before .before .pre .5) (omega arith) (c .before .before .before .before .before .before .before .before .offset .ensures .0) (c .before .before .before .before .before .before .before .u64-at .ensures) _ (omega arith) (c .before .before .before .before .lower-bound .ensures .1) _ (λ l. omega arith) (c .not-found4 .ensures)
+    none-at _ _ _ _ _ _ _ _ _ (c .before .before .before .before .before .before .before .before .before .before .before .before .pre .5)
+    (omega arith) (c .before .before .before .before .before .before .before .before .offset .ensures .0)
+    (c .before .before .before .before .before .before .before .u64-at .ensures) _ (omega arith)
+    (c .before .before .before .before .lower-bound .ensures .1) _ (λ l. omega arith) (c .not-found4 .ensures)
 
 -- src/keys.rt:75:14
 sub-j : tie.Need-sub-j
@@ -117,7 +124,10 @@ in-frame-requires-2 c κs = search needs
 -- src/keys.rt:40:1
 returns-6 : tie.Need-returns-6
 returns-6 c =
-    from-key _ _ _ _ _ _ _ _ _ (c .before .before .before .before .before .before .before .before .before .before .before .before .pre .5) (omega arith) (c .before .before .before .before .before .before .before .before .offset .ensures .0) (c .before .before .before .before .before .before .before .u64-at .ensures) _ (omega arith) (c .before .before .before .before .lower-bound .ensures .1) _ _ (omega arith) (omega arith) refl (c .in-frame2 .ensures)
+    from-key _ _ _ _ _ _ _ _ _ (c .before .before .before .before .before .before .before .before .before .before .before .before .pre .5)
+    (omega arith) (c .before .before .before .before .before .before .before .before .offset .ensures .0)
+    (c .before .before .before .before .before .before .before .u64-at .ensures) _ (omega arith)
+    (c .before .before .before .before .lower-bound .ensures .1) _ _ (omega arith) (omega arith) refl (c .in-frame2 .ensures)
 
 pub in-frame-spec : {M : Type 1} → statement M
 in-frame-spec =

@@ -34,7 +34,13 @@ address-right-requires c κs = search needs
 returns-2 : tie.Need-returns-2
 unfolding recordCheck chain must
 returns-2 c =
-    rw (← c .before .before .before .before .before .record-inside .ensures, c .before .before .before .enum-told .given .1, ← c .before .before .u32-at .ensures, ← c .before .address-right .ensures, not-true (c .before .address-right .result) (c .if1 .taken))
+    rw (
+      ← c .before .before .before .before .before .record-inside .ensures,
+      c .before .before .before .enum-told .given .1,
+      ← c .before .before .u32-at .ensures,
+      ← c .before .address-right .ensures,
+      not-true (c .before .address-right .result) (c .if1 .taken),
+    )
 
 record-bytes-requires : tie.Need-record-bytes-requires
 record-bytes-requires c κs = is-inside _ _ _ (sym (c .before .before .before .before .before .record-inside .ensures) ∙ c .before .before .before .enum-told .given .1)
@@ -42,7 +48,15 @@ record-bytes-requires c κs = is-inside _ _ _ (sym (c .before .before .before .b
 returns-3 : tie.Need-returns-3
 unfolding recordCheck chain must
 returns-3 c =
-    rw (← c .before .before .before .before .before .before .record-inside .ensures, c .before .before .before .before .enum-told .given .1, ← c .before .before .before .u32-at .ensures, ← c .before .before .address-right .ensures, not-false (c .before .before .address-right .result) (c .before .if1 .left), ← c .record-bytes .ensures)
+    rw (
+      ← c .before .before .before .before .before .before .record-inside .ensures,
+      c .before .before .before .before .enum-told .given .1,
+      ← c .before .before .before .u32-at .ensures,
+      ← c .before .before .address-right .ensures,
+      not-false
+          (c .before .before .address-right .result) (c .before .if1 .left),
+      ← c .record-bytes .ensures,
+    )
 
 pub check-record-spec : {M : Type 1} → statement M
 check-record-spec =

@@ -3,25 +3,26 @@ use mathlib.Core.Path.{_≡_, refl, sym, ap, _∙_}
 use native.Mathlib.Omega.{arith}
 use lib.ListN.{length}
 use Rattle.moves.specs.Settle.{acceptedMove}
-use Rattle.thread.specs.Thread.{framesFrom, pairsIn}
+use Rattle.thread.specs.Thread.{framesFrom, pointersIn}
 use Rattle.relocate.specs.Restore.{restore}
 use Rattle.thread_call.proofs.Judging.{Judging, judging-start, judging-few, judging-on, judging-stop, judging-end}
+use Rattle.thread.specs.Code.{threadOf}
 use borrow.Author.Needs.{needs}
 use Rattle.thread_call.proofs.frames.judge.Statement.{statement}
 use Rattle.thread_call.proofs.frames.judge.Tie as tie
 
 abbrev Inv-loop : tie.InvT-loop
-Inv-loop s image₀ first olds news frames count keys hits sum₀ k₀ image sum k =
-    Judging (restore s olds news first) image₀ frames count (acceptedMove (pairsIn (restore s olds news first) image₀ (framesFrom frames count 0))) k sum × (image ≡ image₀)
+Inv-loop s image₀ first olds news machine frames count keys hits sum₀ k₀ image sum k =
+    Judging (restore s olds news first) image₀ (threadOf machine frames) count (acceptedMove (pointersIn (restore s olds news first) image₀ (framesFrom (threadOf machine frames) count 0))) k sum × (image ≡ image₀)
 
 abbrev μ-loop : tie.MeasureT-loop
-μ-loop s image₀ first olds news frames count keys hits sum₀ k₀ image sum k = count - k
+μ-loop s image₀ first olds news machine frames count keys hits sum₀ k₀ image sum k = count - k
 
 loop-holds : tie.Need-loop-holds Inv-loop μ-loop
 loop-holds c =
     let q = c .before .before .before .before .before in
     let a = q .args in
-    (judging-start (restore (a .s .now) (a .olds .now) (a .news .now) (a .first)) (a .image .now) (a .frames .now) (a .count) (acceptedMove (pairsIn (restore (a .s .now) (a .olds .now) (a .news .now) (a .first)) (a .image .now) (framesFrom (a .frames .now) (a .count) 0))), refl)
+    (judging-start (restore (a .s .now) (a .olds .now) (a .news .now) (a .first)) (a .image .now) (threadOf (a .machine) (a .frames .now)) (a .count) (acceptedMove (pointersIn (restore (a .s .now) (a .olds .now) (a .news .now) (a .first)) (a .image .now) (framesFrom (threadOf (a .machine) (a .frames .now)) (a .count) 0))), refl)
 
 settle-frame-requires : tie.Need-settle-frame-requires Inv-loop μ-loop
 settle-frame-requires c κs =
@@ -40,14 +41,14 @@ returns c =
     let q = c .before .before .before .before .before .before .before .before .before .before .before .before .before .before in
     let a = q .args in
     let i = c .before .before .before .before .before .before .before .before .loop .inv .1 in
-    (c .refused .ensures ∙ judging-stop (restore (a .s .now) (a .olds .now) (a .news .now) (a .first)) (a .image .now) (a .frames .now) (a .count) (acceptedMove (pairsIn (restore (a .s .now) (a .olds .now) (a .news .now) (a .first)) (a .image .now) (framesFrom (a .frames .now) (a .count) 0))) (c .before .before .before .before .before .before .before .before .loop .inv .0) (c .before .before .before .before .before .before .before .loop-test .taken) (c .before .before .before .before .before .settle-frame .result) (rw i at (c .before .before .before .before .before .settle-frame .ensures .0)) (c .before .if1 .taken), c .before .before .before .before .before .settle-frame .ensures .1 ∙ i)
+    (c .refused .ensures ∙ judging-stop (restore (a .s .now) (a .olds .now) (a .news .now) (a .first)) (a .image .now) (threadOf (a .machine) (a .frames .now)) (a .count) (acceptedMove (pointersIn (restore (a .s .now) (a .olds .now) (a .news .now) (a .first)) (a .image .now) (framesFrom (threadOf (a .machine) (a .frames .now)) (a .count) 0))) (c .before .before .before .before .before .before .before .before .loop .inv .0) (c .before .before .before .before .before .before .before .loop-test .taken) (c .before .before .before .before .before .settle-frame .result) (rw i at (c .before .before .before .before .before .settle-frame .ensures .0)) (c .before .if1 .taken), c .before .before .before .before .before .settle-frame .ensures .1 ∙ i)
 
 add-sum : tie.Need-add-sum Inv-loop μ-loop
 add-sum c =
     let q = c .before .before .before .before .before .before .before .before .before .before .before .before .before .before in
     let a = q .args in
     let i = c .before .before .before .before .before .before .before .before .loop .inv .1 in
-    let w = judging-few (restore (a .s .now) (a .olds .now) (a .news .now) (a .first)) (a .image .now) (a .frames .now) (a .count) (acceptedMove (pairsIn (restore (a .s .now) (a .olds .now) (a .news .now) (a .first)) (a .image .now) (framesFrom (a .frames .now) (a .count) 0))) (c .before .before .before .before .before .before .before .before .loop .inv .0) (c .before .before .before .before .before .before .before .loop-test .taken) (c .before .before .before .before .before .settle-frame .result) (rw i at (c .before .before .before .before .before .settle-frame .ensures .0)) in
+    let w = judging-few (restore (a .s .now) (a .olds .now) (a .news .now) (a .first)) (a .image .now) (threadOf (a .machine) (a .frames .now)) (a .count) (acceptedMove (pointersIn (restore (a .s .now) (a .olds .now) (a .news .now) (a .first)) (a .image .now) (framesFrom (threadOf (a .machine) (a .frames .now)) (a .count) 0))) (c .before .before .before .before .before .before .before .before .loop .inv .0) (c .before .before .before .before .before .before .before .loop-test .taken) (c .before .before .before .before .before .settle-frame .result) (rw i at (c .before .before .before .before .before .settle-frame .ensures .0)) in
     omega (arith, w, c .before .before .before .before .before .before .before .before .loop .inv .0 .few, c .before .before .before .before .before .before .before .before .loop .inv .0 .most, q .pre .looked .most)
 
 add-k : tie.Need-add-k Inv-loop μ-loop
@@ -64,7 +65,7 @@ loop-again c =
     let q = c .before .before .before .before .before .before .before .before .before .before .before .before .before .before in
     let a = q .args in
     let i = c .before .before .before .before .before .before .before .before .loop .inv .1 in
-    (judging-on (restore (a .s .now) (a .olds .now) (a .news .now) (a .first)) (a .image .now) (a .frames .now) (a .count) (acceptedMove (pairsIn (restore (a .s .now) (a .olds .now) (a .news .now) (a .first)) (a .image .now) (framesFrom (a .frames .now) (a .count) 0))) (c .before .before .before .before .before .before .before .before .loop .inv .0) (c .before .before .before .before .before .before .before .loop-test .taken) (c .before .before .before .before .before .settle-frame .result) (rw i at (c .before .before .before .before .before .settle-frame .ensures .0)) (c .before .if1 .left), c .before .before .before .before .before .settle-frame .ensures .1 ∙ i)
+    (judging-on (restore (a .s .now) (a .olds .now) (a .news .now) (a .first)) (a .image .now) (threadOf (a .machine) (a .frames .now)) (a .count) (acceptedMove (pointersIn (restore (a .s .now) (a .olds .now) (a .news .now) (a .first)) (a .image .now) (framesFrom (threadOf (a .machine) (a .frames .now)) (a .count) 0))) (c .before .before .before .before .before .before .before .before .loop .inv .0) (c .before .before .before .before .before .before .before .loop-test .taken) (c .before .before .before .before .before .settle-frame .result) (rw i at (c .before .before .before .before .before .settle-frame .ensures .0)) (c .before .if1 .left), c .before .before .before .before .before .settle-frame .ensures .1 ∙ i)
 
 same-length-2 : tie.Need-same-length-2 Inv-loop μ-loop
 same-length-2 c = rw (c .before .loop .inv .1)
@@ -73,7 +74,7 @@ returns-2 : tie.Need-returns-2 Inv-loop μ-loop
 returns-2 c =
     let q = c .before .before .before .before .before .before .before in
     let a = q .args in
-    let e = judging-end (restore (a .s .now) (a .olds .now) (a .news .now) (a .first)) (a .image .now) (a .frames .now) (a .count) (acceptedMove (pairsIn (restore (a .s .now) (a .olds .now) (a .news .now) (a .first)) (a .image .now) (framesFrom (a .frames .now) (a .count) 0))) (c .before .loop .inv .0) (c .loop-test .left) in
+    let e = judging-end (restore (a .s .now) (a .olds .now) (a .news .now) (a .first)) (a .image .now) (threadOf (a .machine) (a .frames .now)) (a .count) (acceptedMove (pointersIn (restore (a .s .now) (a .olds .now) (a .news .now) (a .first)) (a .image .now) (framesFrom (threadOf (a .machine) (a .frames .now)) (a .count) 0))) (c .before .loop .inv .0) (c .loop-test .left) in
     (ap (λ (n : ℕ). acceptedMove n) (sym (e .1)) ∙ sym (e .0), c .before .loop .inv .1)
 
 pub judge-spec : {M : Type 1} → statement M

@@ -1,5 +1,6 @@
 use native.Mathlib.Omega.{arith}
 use Rattle.relocate.specs.Restore.{restore}
+use Rattle.thread.specs.Thread.{frameAt}
 use Rattle.thread_call.proofs.Judging.{one-moved}
 use borrow.Author.Needs.{needs}
 use Rattle.thread_call.proofs.frames.settle_frame.Statement.{statement}
@@ -10,6 +11,7 @@ frame-at-requires c κs =
     let s = c .before .before .before .before .before in let r = s .pre .0 .looked .room in let l = s .pre .1 in omega arith
 
 of-frame-requires : tie.Need-of-frame-requires
+unfolding frameAt
 of-frame-requires c κs =
     let s = c .before .before .before .before .before .before in (s .pre .0 .looked .section-right, s .pre .0 .looked .most, s .pre .0 .looked .gathered .sorted, rw (c .frame-at .ensures) (s .pre .0 .looked .gathered .each _ (s .pre .1)), s .pre .0 .looked .found)
 

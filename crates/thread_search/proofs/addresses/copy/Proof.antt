@@ -1,9 +1,9 @@
 use Prim.Native.Nat.{_-_, _≤_}
-use mathlib.Core.Path.{_≡_, _∙_}
+use mathlib.Core.Path.{_≡_, refl, _∙_}
 use native.Mathlib.Omega.{arith}
 use borrow.Author.Needs.{needs}
 use lib.ListN.{length, length-set}
-use Rattle.thread_search.proofs.Gathering.{Copied, copied-start, copied-on, first-number}
+use Rattle.thread_search.proofs.Gathering.{Copied, copied-start, copied-on}
 use Rattle.thread_search.proofs.addresses.copy.Statement.{statement}
 use Rattle.thread_search.proofs.addresses.copy.Tie as tie
 
@@ -41,7 +41,7 @@ loop-again : tie.Need-loop-again Inv-loop μ-loop
 loop-again c =
     let l = c .before .before .loop in
     let a = c .before .before .before .args in
-    (copied-on _ (l .inv .0) (omega (arith, l .inv .2)) (first-number (a .frames .now) (l .k)), omega arith, simp length-set (l .inv .2))
+    (copied-on _ (l .inv .0) (omega (arith, l .inv .2)) refl, omega arith, simp length-set (l .inv .2))
 
 same-length : tie.Need-same-length Inv-loop μ-loop
 same-length c = c .before .loop .inv .2

@@ -1,0 +1,3 @@
+pub mod Ends
+pub mod Limits
+pub mod Drafts

@@ -1,0 +1,27 @@
+-- A machine by its number at the C boundary.
+use Prim.Native.Nat.{ℕ}
+use mathlib.Core.Bool.{Bool, cond}
+use mathlib.Core.List.{List}
+use lib.Dec.{eqb, leb}
+use Rattle.stackmap.specs.Verdict.{need}
+use Rattle.stackmap.specs.Check.{sectionCheck}
+use Rattle.questions.specs.Questions.{ask}
+use Rattle.moves.specs.declared.Move.{Move}
+use Rattle.moves.specs.Settle.{refusedMove}
+use Rattle.relocate.specs.declared.Machine.{Machine}
+use Rattle.relocate.specs.declared.Machine.the-variants.{Amd64, Aarch64}
+
+-- 0 is AMD64 and 1 is AArch64, as document 02 numbers them in request 9
+abbrev pub machineKnown : ℕ → Bool
+machineKnown n = leb n 1
+
+abbrev pub machineOf : ℕ → Machine
+machineOf n = cond (eqb n 0) Amd64 Aarch64
+
+-- any other number is 33, directly after the section's own refusals
+abbrev pub ofMachine : ℕ → List ℕ → Move → Move
+ofMachine n s m = need (machineKnown n) (ask refusedMove (refusedMove 33 0) (sectionCheck s)) m
+
+-- and leaves the image as lent
+abbrev pub imageOf : ℕ → List ℕ → List ℕ → List ℕ
+imageOf n im moved = cond (machineKnown n) moved im
