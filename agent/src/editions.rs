@@ -41,14 +41,7 @@ use crate::Refusal;
 use std::error::Error;
 use std::fmt;
 
-/// A machine whose frames are moved.
-#[derive(Clone, Copy, Debug, PartialEq, Eq, Hash)]
-pub enum Machine {
-    /// AMD64, which is number 0.
-    Amd64,
-    /// AArch64, which is number 1.
-    Aarch64,
-}
+pub use crate::Machine;
 
 /// The versions of sections that are allowed.
 #[derive(Clone, Copy, Debug, PartialEq, Eq, Hash)]
@@ -89,10 +82,7 @@ impl Settings {
     fn numbers(self) -> ffi::Settings {
         ffi::Settings {
             most: self.pointers,
-            machine: match self.machine {
-                Machine::Amd64 => 0,
-                Machine::Aarch64 => 1,
-            },
+            machine: self.machine.number(),
             version_1: self.versions.one().into(),
             version_3: self.versions.three().into(),
         }

@@ -125,8 +125,8 @@ mod tests {
 
     #[test]
     fn each_number_has_words_of_its_own() {
-        let editions = (30..).zip(EDITION_CAUSES);
         let machine = (33..).zip(MACHINE_CAUSES);
+        let editions = (30..).zip(EDITION_CAUSES);
         let settings = (51..).zip(SETTINGS_CAUSES);
         let numbers = (1..).zip(CAUSES).chain((36..).zip(FLAT_CAUSES));
         let numbers = numbers.chain(editions).chain(machine).chain(settings);
@@ -158,8 +158,8 @@ mod tests {
             (30, "64 editions"),
             (31, "unknown or retired"),
             (32, "2^32 - 1"),
-            (51, "pointer count"),
             (33, "machine not known"),
+            (51, "pointer count"),
             (36, "under 32"),
             (37, "version not 2"),
             (38, "aligned place"),

@@ -5,7 +5,6 @@
 
 use crate::library::{self, Damage, Edition, Editions, Settings};
 use crate::numbers::count;
-use crate::registers;
 use crate::replace::{self, Held};
 use crate::trouble::Trouble;
 use crate::{files, system};
@@ -76,14 +75,6 @@ fn not_standard_input(path: &Path) -> Result<(), Trouble> {
             "--store needs a file with a name: the store is replaced".to_string(),
         )),
         false => Ok(()),
-    }
-}
-
-/// The machine by the names of the command.
-pub fn machine(machine: registers::Machine) -> library::Machine {
-    match machine {
-        registers::Machine::X86_64 => library::Machine::Amd64,
-        registers::Machine::Aarch64 => library::Machine::Aarch64,
     }
 }
 

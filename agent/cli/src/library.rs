@@ -2,7 +2,7 @@
 //!
 //! Every answer on a section, a listing or a frame comes from the crate `treskibben`.
 
-use crate::registers::Machine;
+use crate::registers;
 use treskibben::{MoveTable, ThreadRefusal};
 
 /// Why a call was refused: number, place and cause.
@@ -83,16 +83,16 @@ pub fn flat_find(section: &[u8], address: u64) -> Result<[usize; 2], Refusal> {
 }
 
 /// A machine as the library knows it.
-fn of_library(machine: Machine) -> treskibben::Machine {
+pub fn machine(machine: registers::Machine) -> Machine {
     match machine {
-        Machine::X86_64 => treskibben::Machine::Amd64,
-        Machine::Aarch64 => treskibben::Machine::Aarch64,
+        registers::Machine::X86_64 => Machine::Amd64,
+        registers::Machine::Aarch64 => Machine::Aarch64,
     }
 }
 
 /// The DWARF numbers of a machine's frame pointer and stack pointer.
-pub fn pointers_of(machine: Machine) -> [u16; 2] {
-    let machine = of_library(machine);
+pub fn pointers_of(machine: registers::Machine) -> [u16; 2] {
+    let machine = self::machine(machine);
     [machine.frame_pointer(), machine.stack_pointer()]
 }
 
@@ -103,10 +103,13 @@ pub fn relocate_thread(
     image: &mut [u8],
     first: u64,
     table: &Table,
-    machine: Machine,
+    machine: registers::Machine,
     frames: &[Frame],
 ) -> Result<u64, (Refusal, Option<usize>)> {
-    let (moves, machine) = (MoveTable::new(&table.old, &table.new), of_library(machine));
+    let (moves, machine) = (
+        MoveTable::new(&table.old, &table.new),
+        self::machine(machine),
+    );
     let pointers = treskibben::relocate_thread(section, image, first, moves, machine, frames);
     let told = |refusal: ThreadRefusal| {
         (
@@ -124,10 +127,13 @@ pub fn pair_at_fault(
     image: &[u8],
     first: u64,
     table: &Table,
-    machine: Machine,
+    machine: registers::Machine,
     frame: Frame,
 ) -> Option<u64> {
-    let (moves, machine) = (MoveTable::new(&table.old, &table.new), of_library(machine));
+    let (moves, machine) = (
+        MoveTable::new(&table.old, &table.new),
+        self::machine(machine),
+    );
     let image = &mut image.to_vec();
     let refused = treskibben::relocate(section, image, first, moves, machine, frame).err()?;
     matches!(refused.number(), 18..=21).then_some(refused.place())

@@ -117,7 +117,7 @@ impl Make {
     fn settings(&self) -> Settings {
         Settings {
             pointers: self.pointers,
-            machine: editions::machine(self.machine),
+            machine: library::machine(self.machine),
             versions: match self.versions {
                 Versions::One => library::Versions::One,
                 Versions::Three => library::Versions::Three,
