@@ -5,6 +5,7 @@ use generator::frames::Scene;
 use generator::Rng;
 use std::collections::{BTreeMap, HashSet};
 use std::error::Error;
+use treskibben::editions::{Editions, MakeRefusal, Settings, Versions};
 use treskibben::{check, flat, Frame, Machine, MoveTable, Refusal};
 
 /// A section of 16 bytes with these counts, `rest` after it.
@@ -221,6 +222,27 @@ fn refused_flat() -> [Refusal; 6] {
     ]
 }
 
+/// The refusals of a store of editions. 32 needs a store with a long past, which tests/editions.rs has.
+fn refused_editions() -> [Refusal; 4] {
+    let mut editions = Editions::new();
+    let right = Settings {
+        pointers: 256,
+        machine: Machine::Amd64,
+        versions: Versions::Both,
+    };
+    let wrong = Settings {
+        pointers: 257,
+        ..right
+    };
+    while editions.make(right).is_ok() {}
+    [
+        editions.make(right).unwrap_err().into(),
+        editions.read(65).unwrap_err().into(),
+        MakeRefusal::NumbersUsedUp.into(),
+        editions.make(wrong).unwrap_err().into(),
+    ]
+}
+
 /// Each number, as a call gives it, has the words of its line in docs/REFUSALS.md; and the table has no
 /// other number.
 #[test]
@@ -230,7 +252,7 @@ fn the_words_are_those_of_the_table() {
     assert_eq!(no_machine.as_deref(), Some("machine not known"));
     assert_eq!(
         table.keys().copied().collect::<Vec<u64>>(),
-        (1..=29).chain(36..=41).collect::<Vec<u64>>()
+        (1..=32).chain(36..=41).chain([51]).collect::<Vec<u64>>()
     );
     let section = section([0, 0, 0], &[]);
     let record = with_location([0; 8], [1, 0, 8, 0, 3, 0, 0, 0, 0, 0, 0, 0]);
@@ -245,6 +267,7 @@ fn the_words_are_those_of_the_table() {
     told.extend(refused_threads());
     told.push(refused_index());
     told.extend(refused_flat());
+    told.extend(refused_editions());
     let told: BTreeMap<u64, String> = told
         .iter()
         .map(|it| (it.number(), it.cause().to_string()))
