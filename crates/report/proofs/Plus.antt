@@ -9,6 +9,7 @@ use Rattle.stackmap.proofs.Tests.{and-true}
 use lib.Dec.{leb}
 use Rattle.report.specs.declared.Kinds.{Kinds}
 use Rattle.report.specs.declared.Totals.{Totals}
+use Rattle.report.specs.Bounds.{KindsMost, TotalsMost}
 use Rattle.report.specs.Totals.{totalMost, none, noKinds, plusKinds, plus, total, kindsFit, fits}
 
 -- numbers that are equal one by one
@@ -25,13 +26,16 @@ totals-are a b p q r s t u v w x =
     (record { sections = b .sections; refused = b .refused; functions = b .functions; records = b .records; statepoints = b .statepoints; pairs = b .pairs; kinds = b .kinds; stack = b .stack; unknown = b .unknown }) = cc in
     e
 
-kinds-none : (b : Kinds) → plusKinds b noKinds ≡ b
+pub kinds-none : (b : Kinds) → plusKinds b noKinds ≡ b
 unfolding plusKinds
 kinds-none b = kinds-are _ _ (omega arith) (omega arith) (omega arith) (omega arith) (omega arith)
 
 kinds-comm : (a b : Kinds) → plusKinds a b ≡ plusKinds b a
 unfolding plusKinds
 kinds-comm a b = kinds-are _ _ (omega arith) (omega arith) (omega arith) (omega arith) (omega arith)
+
+pub kinds-start : (b : Kinds) → plusKinds noKinds b ≡ b
+kinds-start b = kinds-comm noKinds b ∙ kinds-none b
 
 pub kinds-assoc : (a b c : Kinds) → plusKinds (plusKinds a b) c ≡ plusKinds a (plusKinds b c)
 unfolding plusKinds
@@ -54,25 +58,7 @@ plus-assoc a b c = totals-are _ _ (omega arith) (omega arith) (omega arith) (ome
 
 -- Each of the thirteen is at most 2^64 - 1.
 
-pub record KindsEach (k : Kinds) : Type 0 where
-  pub register : k .register ≤ totalMost
-  pub direct : k .direct ≤ totalMost
-  pub indirect : k .indirect ≤ totalMost
-  pub constant : k .constant ≤ totalMost
-  pub pool : k .pool ≤ totalMost
-
-pub record Each (t : Totals) : Type 0 where
-  pub sections : t .sections ≤ totalMost
-  pub refused : t .refused ≤ totalMost
-  pub functions : t .functions ≤ totalMost
-  pub records : t .records ≤ totalMost
-  pub statepoints : t .statepoints ≤ totalMost
-  pub pairs : t .pairs ≤ totalMost
-  pub kinds : KindsEach (t .kinds)
-  pub stack : t .stack ≤ totalMost
-  pub unknown : t .unknown ≤ totalMost
-
-kinds-fit : (k : Kinds) → kindsFit k ≡ true → KindsEach k
+kinds-fit : (k : Kinds) → kindsFit k ≡ true → KindsMost totalMost k
 unfolding kindsFit
 kinds-fit k h =
     let a = and-true _ _ h in
@@ -87,7 +73,7 @@ kinds-fit k h =
       pool = leb-true _ _ (a .1);
     }
 
-pub fits-each : (t : Totals) → fits t ≡ true → Each t
+pub fits-each : (t : Totals) → fits t ≡ true → TotalsMost totalMost t
 unfolding fits
 fits-each t h =
     let a = and-true _ _ h in
@@ -110,11 +96,11 @@ fits-each t h =
       unknown = leb-true _ _ (a .1);
     }
 
-kinds-each : (k : Kinds) → KindsEach k → kindsFit k ≡ true
+kinds-each : (k : Kinds) → KindsMost totalMost k → kindsFit k ≡ true
 unfolding kindsFit
 kinds-each k h = rw (le-leb (k .register) totalMost (h .register), le-leb (k .direct) totalMost (h .direct), le-leb (k .indirect) totalMost (h .indirect), le-leb (k .constant) totalMost (h .constant), le-leb (k .pool) totalMost (h .pool))
 
-pub each-fits : (t : Totals) → Each t → fits t ≡ true
+pub each-fits : (t : Totals) → TotalsMost totalMost t → fits t ≡ true
 unfolding fits
 each-fits t h =
     rw (le-leb (t .sections) totalMost (h .sections), le-leb (t .refused) totalMost (h .refused), le-leb (t .functions) totalMost (h .functions), le-leb (t .records) totalMost (h .records), le-leb (t .statepoints) totalMost (h .statepoints), le-leb (t .pairs) totalMost (h .pairs), kinds-each (t .kinds) (h .kinds), le-leb (t .stack) totalMost (h .stack), le-leb (t .unknown) totalMost (h .unknown))
@@ -136,6 +122,23 @@ fits-part a b h =
       stack = omega (arith, e .stack);
       unknown = omega (arith, e .unknown);
     })
+
+-- Sums of numbers that are at most m and at most n.
+
+pub kinds-most : (m n : ℕ) (a b : Kinds) → KindsMost m a → KindsMost n b → KindsMost (m + n) (plusKinds a b)
+unfolding plusKinds
+kinds-most m n a b h k =
+    record {
+      register = omega (arith, h .register, k .register);
+      direct = omega (arith, h .direct, k .direct);
+      indirect = omega (arith, h .indirect, k .indirect);
+      constant = omega (arith, h .constant, k .constant);
+      pool = omega (arith, h .pool, k .pool);
+    }
+
+pub kinds-below : (m n : ℕ) (a : Kinds) → m ≤ n → KindsMost m a → KindsMost n a
+kinds-below m n a l h =
+    record { register = omega (arith, h .register); direct = omega (arith, h .direct); indirect = omega (arith, h .indirect); constant = omega (arith, h .constant); pool = omega (arith, h .pool) }
 
 -- of a list
 
