@@ -106,24 +106,11 @@ fn record_counts(s: &[u8], old: bool, at: usize) -> Counts
     }
 }
 
-fn kinds_sum(a: Kinds, b: Kinds) -> Kinds
-    requires { ⌜ KindsMost totalMost (plusKinds a b) ⌝ }
-    ensures { λ r. ⌜ r ≡ plusKinds a b ⌝ }
-{
-    Kinds {
-        register: a.register + b.register,
-        direct: a.direct + b.direct,
-        indirect: a.indirect + b.indirect,
-        constant: a.constant + b.constant,
-        pool: a.pool + b.pool,
-    }
-}
-
 fn sum(a: Counts, b: Counts) -> Counts
     requires { ⌜ Most totalMost (grown a b) ⌝ }
     ensures { λ r. ⌜ r ≡ grown a b ⌝ }
 {
-    let kinds = kinds_sum(a.kinds, b.kinds);
+    let kinds = report_sums::kinds_sum(a.kinds, b.kinds);
     Counts {
         records: a.records + b.records,
         statepoints: a.statepoints + b.statepoints,

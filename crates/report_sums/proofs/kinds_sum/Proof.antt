@@ -1,8 +1,8 @@
 use native.Mathlib.Omega.{arith}
 use Rattle.report.specs.Totals.{plusKinds}
 use borrow.Author.Needs.{needs}
-use Rattle.report_records.proofs.kinds_sum.Statement.{statement}
-use Rattle.report_records.proofs.kinds_sum.Tie as tie
+use Rattle.report_sums.proofs.kinds_sum.Statement.{statement}
+use Rattle.report_sums.proofs.kinds_sum.Tie as tie
 
 add-t3 : tie.Need-add-t3
 unfolding plusKinds
