@@ -31,6 +31,7 @@ pub record Summing (s : List ℕ) (left p known unknown : ℕ) : Type 0 where
   pub few : left ≤ numFunctions s
   pub inside : p + functionSize (isOld s) * left ≤ length s
   pub unknown-few : unknown ≤ numFunctions s - left
+  pub known-fits : known ≤ totalMost
 
 -- one function more
 one-more : (n known unknown more hit : ℕ) (f : Function) → more ≡ cond (eqb (f .stackSize) stackSizeUnknown) 0 (f .stackSize) → hit ≡ one (eqb (f .stackSize) stackSizeUnknown)
@@ -43,7 +44,7 @@ module _ (s : List ℕ) where
   unfolding functionTotals
   sum-start h {n} e =
       let z : numFunctions s - numFunctions s ≡ 0 = omega arith in
-      rw e (record { all = rw z (sym (plus-none _)); few = omega arith; inside = h; unknown-few = omega arith })
+      rw e (record { all = rw z (sym (plus-none _)); few = omega arith; inside = h; unknown-few = omega arith; known-fits = omega arith })
 
   module _ {left p known unknown : ℕ} (h : Summing s left p known unknown) (l : 0 < left) where
     this : Function
@@ -66,15 +67,19 @@ module _ (s : List ℕ) where
       unfolding plus ofFunction functionTotals
       sum-passes m = rw (apart, size-is, ← k) (omega arith)
 
-      pub sum-on : {hit : ℕ} → hit ≡ one (eqb size stackSizeUnknown) → hit ≤ 1 → Summing s (left - 1) (p + functionSize (isOld s)) (known + more) (unknown + hit)
-      sum-on {hit} q m =
+      pub sum-on : {hit : ℕ} → hit ≡ one (eqb size stackSizeUnknown) → hit ≤ 1 → known + more ≤ totalMost → {step : ℕ} → step ≡ functionSize (isOld s)
+          → Summing s (left - 1) (p + step) (known + more) (unknown + hit)
+      unfolding total rest
+      sum-on {hit} q m fit w =
           let n : numFunctions s - (left - 1) ≡ numFunctions s - left + 1 = omega (arith, h .few) in
-          record {
+          rw w
+          (record {
             all = rw n (apart ∙ sym (plus-assoc _ _ _) ∙ ap (λ (t : Totals). plus t rest) (sym (one-more _ known unknown more hit this (rw size-is k) (rw size-is q))));
             few = omega (arith, h .few);
             inside = let d = mul-step (functionSize (isOld s)) left l in omega (arith, h .inside);
             unknown-few = rw n (omega (arith, h .unknown-few));
-          }
+            known-fits = fit;
+          })
 
   pub sum-end : {left p known unknown : ℕ} → Summing s left p known unknown → left ≡ 0 → Stacked s (record { exact = true; known = known; unknown = unknown })
   unfolding readSection readFunctions total many

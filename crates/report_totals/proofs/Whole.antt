@@ -14,7 +14,7 @@ use Rattle.questions.specs.Questions.{ask}
 use Rattle.questions.proofs.Asked.{ask-refused, ask-begun}
 use Rattle.report.specs.declared.Totals.{Totals}
 use Rattle.report.specs.Totals.{totalMost, plus, total, ofFunction, ofEntry, ofAccepted, ofRefused, contribution, fits, passed, joinedAt, addSection}
-use Rattle.report.proofs.Plus.{fits-each}
+use Rattle.report.proofs.Plus.{kinds-start, totals-are, fits-each}
 use Rattle.report_records.specs.declared.Counts.{Counts}
 use Rattle.report_records.specs.Counts.{asTotals}
 use Rattle.report_totals.specs.declared.Stacks.{Stacks}
@@ -38,6 +38,7 @@ module _ (s : List ℕ) where
 
     -- a record is refused, or something follows
     pub tally-wrong : false ≡ ask (λ n p. false) true (walkCheck s) → {t : Totals} → t ≡ ofRefused → Tallied (contribution s) (record { exact = true; totals = t })
+    unfolding ask
     tally-wrong k e = record { is = λ _. e ∙ sym (walked false k ∙ go (walkCheck s) k); passes = λ z. absurd (true≢false z) }
       where
         go : (v : Verdict) → false ≡ ask (λ n p. false) true v → ask refusal (ofAccepted s) v ≡ ofRefused
@@ -45,6 +46,7 @@ module _ (s : List ℕ) where
         go (Refused n p) k = refl
 
     accepted : true ≡ ask (λ n p. false) true (walkCheck s) → contribution s ≡ ofAccepted s
+    unfolding ofAccepted ask
     accepted k = walked true k ∙ go (walkCheck s) k
       where
         go : (v : Verdict) → true ≡ ask (λ n p. false) true v → ask refusal (ofAccepted s) v ≡ ofAccepted s
@@ -52,11 +54,11 @@ module _ (s : List ℕ) where
         go (Refused n p) k = absurd (true≢false k)
 
     -- all is accepted
-    pub tally-right : true ≡ ask (λ n p. false) true (walkCheck s) → {counts : Counts} → asTotals counts ≡ total ofEntry (entries s) → {stacks : Stacks} → Stacked s stacks
+    pub tally-right : true ≡ ask (λ n p. false) true (walkCheck s) → (counts : Counts) → asTotals counts ≡ total ofEntry (entries s) → {stacks : Stacks} → Stacked s stacks
         → {n : ℕ} → n ≡ numFunctions s → {t : Totals} → t ≡ plus oneSection (plus (functionTotals n (stacks .known) (stacks .unknown)) (asTotals counts))
         → Tallied (contribution s) (record { exact = stacks .exact; totals = t })
     unfolding ofAccepted
-    tally-right k c f q e =
+    tally-right k counts c f q e =
         record {
           is = λ z. e ∙ rw (accepted k, f .sums z, c, q);
           passes = λ z. rw (accepted k) (let l = f .passes z in over l);
@@ -64,6 +66,14 @@ module _ (s : List ℕ) where
       where
         over : totalMost < total ofFunction (readSection s .functions) .stack → totalMost < plus oneSection (plus (total ofFunction (readSection s .functions)) (total ofEntry (entries s))) .stack
         over l = unfold plus in omega arith
+
+-- the numbers of an accepted section, one by one
+pub accepted-are : (n known unknown : ℕ) (c : Counts)
+    → _≡_ {A = Totals} (record { sections = 1; refused = 0; functions = n; records = c .records; statepoints = c .statepoints; pairs = c .pairs; kinds = c .kinds; stack = known; unknown = unknown })
+    (plus oneSection (plus (functionTotals n known unknown) (asTotals c)))
+unfolding plus functionTotals asTotals
+accepted-are n known unknown c =
+    totals-are _ _ (omega arith) (omega arith) (omega arith) (omega arith) (omega arith) (omega arith) (sym (kinds-start _ ∙ kinds-start _)) (omega arith) (omega arith)
 
 -- A section whose own stack sizes pass is 34.
 pub add-over : (s : List ℕ) (t : Totals) → totalMost < contribution s .stack → addSection s t ≡ passed (t .sections) t

@@ -111,6 +111,7 @@ fn refused_totals() -> Totals
 fn accepted_totals(functions: u64, stacks: Stacks, counts: Counts) -> Totals
     ensures { λ r. ⌜ r ≡ plus oneSection (plus (functionTotals functions (stacks .known) (stacks .unknown)) (asTotals counts)) ⌝ }
 {
+    let kinds = counts.kinds;
     Totals {
         sections: 1,
         refused: 0,
@@ -118,7 +119,7 @@ fn accepted_totals(functions: u64, stacks: Stacks, counts: Counts) -> Totals
         records: counts.records,
         statepoints: counts.statepoints,
         pairs: counts.pairs,
-        kinds: counts.kinds,
+        kinds,
         stack: stacks.known,
         unknown: stacks.unknown,
     }

@@ -2,53 +2,37 @@ use Rattle.report.specs.Totals.{plus, fits}
 use borrow.Author.Needs.{needs}
 use Rattle.report_sums.proofs.all_fit.Statement.{statement}
 use Rattle.report_sums.proofs.all_fit.Tie as tie
-use Rattle.report_sums.proofs.all_fit.Reads as reads
-use Rattle.report_sums.proofs.all_fit.Lts as lts
-use Rattle.report_sums.proofs.both.Reads as both-reads
-use Rattle.report_sums.proofs.fit.Reads as fit-reads
-use Rattle.report_sums.proofs.kinds_fit.Reads as kinds-fit-reads
 
--- src/lib.rt:50:9
 fit-requires : tie.Need-fit-requires
 fit-requires c κs = search needs
 
--- src/lib.rt:51:5
 fit-requires-2 : tie.Need-fit-requires-2
 fit-requires-2 c κs = search needs
 
--- src/lib.rt:52:5
 fit-requires-3 : tie.Need-fit-requires-3
 fit-requires-3 c κs = search needs
 
--- src/lib.rt:53:5
 fit-requires-4 : tie.Need-fit-requires-4
 fit-requires-4 c κs = search needs
 
--- src/lib.rt:54:5
 fit-requires-5 : tie.Need-fit-requires-5
 fit-requires-5 c κs = search needs
 
--- src/lib.rt:55:5
 fit-requires-6 : tie.Need-fit-requires-6
 fit-requires-6 c κs = search needs
 
--- src/lib.rt:56:25
 kinds-fit-requires : tie.Need-kinds-fit-requires
 kinds-fit-requires c κs = search needs
 
--- src/lib.rt:56:5
 both-requires : tie.Need-both-requires
 both-requires c κs = search needs
 
--- src/lib.rt:57:5
 fit-requires-7 : tie.Need-fit-requires-7
 fit-requires-7 c κs = search needs
 
--- src/lib.rt:58:5
 fit-requires-8 : tie.Need-fit-requires-8
 fit-requires-8 c κs = search needs
 
--- src/lib.rt:47:1
 returns : tie.Need-returns
 unfolding fits plus
 returns c =

@@ -2,31 +2,22 @@ use Rattle.report.specs.Totals.{plusKinds, kindsFit}
 use borrow.Author.Needs.{needs}
 use Rattle.report_sums.proofs.kinds_fit.Statement.{statement}
 use Rattle.report_sums.proofs.kinds_fit.Tie as tie
-use Rattle.report_sums.proofs.kinds_fit.Reads as reads
-use Rattle.report_sums.proofs.kinds_fit.Lts as lts
-use Rattle.report_sums.proofs.fit.Reads as fit-reads
 
--- src/lib.rt:40:9
 fit-requires : tie.Need-fit-requires
 fit-requires c κs = search needs
 
--- src/lib.rt:41:5
 fit-requires-2 : tie.Need-fit-requires-2
 fit-requires-2 c κs = search needs
 
--- src/lib.rt:42:5
 fit-requires-3 : tie.Need-fit-requires-3
 fit-requires-3 c κs = search needs
 
--- src/lib.rt:43:5
 fit-requires-4 : tie.Need-fit-requires-4
 fit-requires-4 c κs = search needs
 
--- src/lib.rt:44:5
 fit-requires-5 : tie.Need-fit-requires-5
 fit-requires-5 c κs = search needs
 
--- src/lib.rt:37:1
 returns : tie.Need-returns
 unfolding kindsFit plusKinds
 returns c = rw (c .fit5 .ensures, c .before .fit4 .ensures, c .before .before .fit3 .ensures, c .before .before .before .fit2 .ensures, c .before .before .before .before .fit .ensures)
