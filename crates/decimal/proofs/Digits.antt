@@ -11,7 +11,7 @@ use native.Mathlib.Numerals.{add-one}
 use lib.ListN.{length, set, getD, take, length-append}
 use lib.Seq.{sets, take-suc, length-take-le}
 use Rattle.wire.proofs.Laws.{sets-append}
-use Rattle.program.specs.Line.{digits}
+use Rattle.decimal.specs.Line.{digits}
 
 pub digits-last : (k n : ℕ) → 0 < k → n < 10 → digits k n ≡ (48 + n) ∷ []
 unfolding digits

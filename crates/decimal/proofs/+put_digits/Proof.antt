@@ -2,18 +2,18 @@ use Prim.Native.Nat.{_+_, _-_, _/_, _%_}
 use mathlib.Core.Path.{_≡_, refl}
 use mathlib.Core.List.{[], _∷_}
 use lib.ListN.{length-append}
-use Rattle.program.specs.Line.{digits}
-use Rattle.program.proofs.Digits.{digits-last, digits-more, digits-length, shorter, sets-last}
+use Rattle.decimal.specs.Line.{digits}
+use Rattle.decimal.proofs.Digits.{digits-last, digits-more, digits-length, shorter, sets-last}
 use borrow.Author.Needs.{needs}
 use native.Mathlib.Omega.{arith}
 use Prim.Native.Nat.{ℕ, _<_}
 use borrow.Fn.Kinds.{In}
 use borrow.Fn.PlainCycle.{Measures, is, falls, and}
-use Rattle.program.proofs.put_digits.Reads as put-digits
-use Rattle.program.proofs.put_digits.Kinds as put-digits-kinds
-use Rattle.program.proofs.+put_digits.Lts-put_digits as put-digits-lts
-use Rattle.program.proofs.+put_digits.{statement}
-use Rattle.program.proofs.+put_digits.Tie.{close}
+use Rattle.decimal.proofs.put_digits.Reads as put-digits
+use Rattle.decimal.proofs.put_digits.Kinds as put-digits-kinds
+use Rattle.decimal.proofs.+put_digits.Lts-put_digits as put-digits-lts
+use Rattle.decimal.proofs.+put_digits.{statement}
+use Rattle.decimal.proofs.+put_digits.Tie.{close}
 
 abbrev μ-put-digits : Measures 1 put-digits-kinds.ps ℕ
 μ-put-digits κs a = a .1 .1 .1 .0

@@ -5,9 +5,9 @@ use native.Mathlib.Omega.{arith}
 use borrow.Author.Needs.{needs}
 use lib.ListN.{length, take, length-set}
 use lib.Seq.{sets, take-all}
-use Rattle.program.proofs.Digits.{text-on}
-use Rattle.program.proofs.put_text.Statement.{statement}
-use Rattle.program.proofs.put_text.Tie as tie
+use Rattle.decimal.proofs.Digits.{text-on}
+use Rattle.decimal.proofs.put_text.Statement.{statement}
+use Rattle.decimal.proofs.put_text.Tie as tie
 
 abbrev Inv-loop : tie.InvT-loop
 Inv-loop out₀ at text i₀ out i = (i ≤ length text) × (length out ≡ length out₀) × (out ≡ sets out₀ at (take i text))
