@@ -13,6 +13,7 @@ use treskibben_answers as answers;
 pub mod address_index;
 pub mod flat_sections;
 pub mod index_lookups;
+pub mod reports;
 
 // The number of this interface, which include/treskibben.h has as TRESKIBBEN_VERSION.
 #[no_mangle]
