@@ -31,10 +31,11 @@ Stops = (ss : List (List ℕ)) → fits (total contribution ss) ≡ false → St
 abbrev pub OrderFree : Type 0
 OrderFree = (ss ss′ : List (List ℕ)) → List·Permᴰ ss ss′ → report ss .number ≡ 0 → report ss′ ≡ report ss
 
--- The totals of two halves add up to those of the whole: the two reports are joined without 34 where the whole has a report, and only there.
+-- The totals of two halves add up to those of the whole: the two reports are joined without 34 where the whole has none, and only there.
 pub record Halved (xs ys : List (List ℕ)) : Type 0 where
   pub whole : report (xs ++ ys) .number ≡ 0 → joined (report xs .totals) (report ys .totals) ≡ report (xs ++ ys)
-  pub halves : report xs .number ≡ 0 → report ys .number ≡ 0 → joined (report xs .totals) (report ys .totals) .number ≡ report (xs ++ ys) .number
+  pub halves : report xs .number ≡ 0 → report ys .number ≡ 0
+      → joined (report xs .totals) (report ys .totals) .number ≡ report (xs ++ ys) .number
 
 abbrev pub Halves : Type 0
 Halves = (xs ys : List (List ℕ)) → Halved xs ys

@@ -116,12 +116,14 @@ ofEntry e = ofRecord (e .body)
 -- an accepted section: itself, its functions and its records
 unfoldable pub ofAccepted : List ℕ → Totals
 ofAccepted s =
-    plus (record { sections = 1; refused = 0; functions = 0; records = 0; statepoints = 0; pairs = 0; kinds = noKinds; stack = 0; unknown = 0 })
+    plus
+    (record { sections = 1; refused = 0; functions = 0; records = 0; statepoints = 0; pairs = 0; kinds = noKinds; stack = 0; unknown = 0 })
     (plus (total ofFunction (readSection s .functions)) (total ofEntry (entries s)))
 
 -- a refused section adds nothing else
 unfoldable pub ofRefused : Totals
-ofRefused = record { sections = 1; refused = 1; functions = 0; records = 0; statepoints = 0; pairs = 0; kinds = noKinds; stack = 0; unknown = 0 }
+ofRefused =
+    record { sections = 1; refused = 1; functions = 0; records = 0; statepoints = 0; pairs = 0; kinds = noKinds; stack = 0; unknown = 0 }
 
 unfoldable pub contribution : List ℕ → Totals
 contribution s = ask (λ n p. ofRefused) (ofAccepted s) (sectionCheck s)
@@ -129,13 +131,16 @@ contribution s = ask (λ n p. ofRefused) (ofAccepted s) (sectionCheck s)
 -- A report.
 
 unfoldable pub kindsFit : Kinds → Bool
-kindsFit k = leb (k .register) totalMost && leb (k .direct) totalMost && leb (k .indirect) totalMost && leb (k .constant) totalMost && leb (k .pool) totalMost
+kindsFit k =
+    leb (k .register) totalMost && leb (k .direct) totalMost && leb (k .indirect) totalMost && leb (k .constant) totalMost
+    && leb (k .pool) totalMost
 
 -- none of the thirteen passes 2^64 - 1
 unfoldable pub fits : Totals → Bool
 fits t =
-    leb (t .sections) totalMost && leb (t .refused) totalMost && leb (t .functions) totalMost && leb (t .records) totalMost && leb (t .statepoints) totalMost
-    && leb (t .pairs) totalMost && kindsFit (t .kinds) && leb (t .stack) totalMost && leb (t .unknown) totalMost
+    leb (t .sections) totalMost && leb (t .refused) totalMost && leb (t .functions) totalMost && leb (t .records) totalMost
+    && leb (t .statepoints) totalMost && leb (t .pairs) totalMost && kindsFit (t .kinds) && leb (t .stack) totalMost
+    && leb (t .unknown) totalMost
 
 abbrev pub reported : Totals → Reported
 reported t = record { number = 0; place = 0; totals = t }

@@ -12,12 +12,23 @@ use Rattle.report_totals.specs.declared.Share.{Share}
 
 -- a section without functions and records
 abbrev pub oneSection : Totals
-oneSection = record { sections = 1; refused = 0; functions = 0; records = 0; statepoints = 0; pairs = 0; kinds = noKinds; stack = 0; unknown = 0 }
+oneSection =
+    record { sections = 1; refused = 0; functions = 0; records = 0; statepoints = 0; pairs = 0; kinds = noKinds; stack = 0; unknown = 0 }
 
 -- n functions, with their stack sizes
 unfoldable pub functionTotals : ℕ → ℕ → ℕ → Totals
 functionTotals n known unknown =
-    record { sections = 0; refused = 0; functions = n; records = 0; statepoints = 0; pairs = 0; kinds = noKinds; stack = known; unknown = unknown }
+    record {
+      sections = 0;
+      refused = 0;
+      functions = n;
+      records = 0;
+      statepoints = 0;
+      pairs = 0;
+      kinds = noKinds;
+      stack = known;
+      unknown = unknown;
+    }
 
 -- the stack sizes of a section's functions
 pub record Stacked (s : List ℕ) (r : Stacks) : Type 0 where
