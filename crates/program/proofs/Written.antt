@@ -14,7 +14,7 @@ use Rattle.stackmap.proofs.Numbers.{Numbered, section-numbered}
 use Rattle.listing.specs.Listing.{encodeListing, give, toListing}
 use Rattle.listing.proofs.Short.{listing-short}
 use Rattle.listing.proofs.Writes.{sets-whole}
-use Rattle.program.specs.Line.{line}
+use Rattle.decimal.specs.Line.{line}
 use Rattle.program.specs.Program.{written}
 
 -- input that is too long

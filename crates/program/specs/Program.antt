@@ -9,7 +9,7 @@ use Rattle.stackmap.specs.declared.Verdict.the-variants.{Valid, Refused}
 use Rattle.stackmap.specs.Section.{readSection}
 use Rattle.stackmap.specs.Check.{sectionCheck}
 use Rattle.listing.specs.Listing.{encodeListing}
-use Rattle.program.specs.Line.{line}
+use Rattle.decimal.specs.Line.{line}
 
 -- the longest section that it reads
 abbrev pub inputMost : ℕ

@@ -19,6 +19,7 @@ pub mod address_index;
 pub mod edition_calls;
 pub mod flat_sections;
 pub mod index_lookups;
+pub mod reports;
 
 // The number of this interface, which include/treskibben.h has as TRESKIBBEN_VERSION.
 #[no_mangle]

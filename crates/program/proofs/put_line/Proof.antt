@@ -1,7 +1,7 @@
 -- Text, digits, text, digits and a newline, one after the other.
 use native.Mathlib.Omega.{arith}
-use Rattle.program.specs.Line.{line, decimal, digits, refusedText, atText}
-use Rattle.program.proofs.Digits.{digits-length, line-put}
+use Rattle.decimal.specs.Line.{line, decimal, digits, refusedText, atText}
+use Rattle.decimal.proofs.Digits.{digits-length, line-put}
 use borrow.Author.Needs.{needs}
 use Rattle.program.proofs.put_line.Statement.{statement}
 use Rattle.program.proofs.put_line.Tie as tie

@@ -1,0 +1,4 @@
+pub mod Kept
+pub mod Kindred
+pub mod Single
+pub mod Tally

@@ -1,0 +1,4 @@
+// The same tool without arguments.
+fn main() {
+    report_files::run();
+}
