@@ -1,14 +1,16 @@
 -- Slots as numbers compare as the slots do.
-use Prim.Native.Nat.{ℕ, _+_, _-_, _*_, _/_, _%_, _≤_, _<_}
+use Prim.Native.Nat.{ℕ, _+_, _-_, _/_, _%_, _≤_, _<_}
 use mathlib.Core.Path.{_≡_, refl, sym, ap, _∙_}
-use mathlib.Core.Bool.{Bool, true, false, not, _&&_, and-false}
+use mathlib.Core.Bool.{Bool, true, false, not, and-false}
 use mathlib.Core.List.{List}
 use native.Mathlib.Omega.{arith}
 use native.Mathlib.Decide.{decLt}
 use borrow.Author.Tests.{eq-eqb, ne-eqb, lt-ltb, le-ltb, eqb-true, eqb-false}
 use lib.Dec.{eqb, ltb}
-use lib.ListN.{length, getD}
-use Rattle.moves.specs.Slots.{Slot, memory, register, State, same, overlap}
+use lib.ListN.{getD, set}
+use lib.Seq.{sets}
+use Rattle.wire.specs.Word.{word, bytes}
+use Rattle.moves.specs.Slots.{memory, register, state, same, overlap, read, put}
 use Rattle.moves.specs.Pointers.{anyOverlap, slotsClash}
 use Rattle.moves.specs.Arrays.{registersFrom, slotOf, Placed, overlapAt, anyOverlapAt, slotsClashAt, Within, AllPlaced}
 use Rattle.moves.proofs.Cells.{SlotIn}
@@ -88,6 +90,10 @@ placed-in m registers x p = go (decLt x registersFrom)
     go (yes a) = rw (slot-memory x a) (p .in-window a)
     go (no a) = rw (slot-register x (omega arith)) (p .in-list (omega arith))
 
+-- where the lengths are the same
+pub placed-same : (m registers m′ registers′ x : ℕ) → m′ ≡ m → registers′ ≡ registers → Placed m registers x → Placed m′ registers′ x
+placed-same m registers m′ registers′ x e f p = rw (e, f) p
+
 -- slots in memory alone
 pub placed-memory : (m registers x : ℕ) → m ≤ registersFrom → x + 8 ≤ m → Placed m registers x
 placed-memory m registers x h k = record { in-window = λ a. k; in-list = λ a. absurd (omega arith); apart = λ a. absurd (omega arith) }
@@ -103,3 +109,18 @@ placed-most m registers x h k p = go (decLt x registersFrom)
     go : Dec (x < registersFrom) → x + 8 ≤ 4294967552
     go (yes a) = omega (arith, p .in-window a)
     go (no a) = let i = p .in-list (omega arith) in omega (arith, p .in-list (omega arith), p .apart (omega arith))
+
+-- What the code reads and writes at a number is what stands in its slot.
+
+module _ (w rs : List ℕ) (x : ℕ) where
+  pub read-memory : x < registersFrom → word 8 w x ≡ read (state w rs) (slotOf x)
+  read-memory h = rw (slot-memory x h)
+
+  pub read-register : registersFrom ≤ x → getD rs ((x - registersFrom) / 8) 0 ≡ read (state w rs) (slotOf x)
+  read-register h = rw (slot-register x h)
+
+  pub put-memory : (v : ℕ) (w′ : List ℕ) → x < registersFrom → w′ ≡ sets w x (bytes 8 v) → state w′ rs ≡ put (state w rs) (slotOf x) v
+  put-memory v w′ h e = rw (slot-memory x h, e)
+
+  pub put-register : (v : ℕ) → registersFrom ≤ x → state w (set rs ((x - registersFrom) / 8) v) ≡ put (state w rs) (slotOf x) v
+  put-register v h = rw (slot-register x h)

@@ -10,7 +10,7 @@ use lib.Seq.{sets, sets-eq, length-sets, getD-set-other, getD-set-same, ext-getD
 use Rattle.moves.specs.Window.{splice, In}
 use Rattle.wire.specs.Word.{bytes}
 use Rattle.wire.proofs.Laws.{length-bytes}
-use Rattle.moves.specs.Slots.{Slot, memory, register, State, read, put}
+use Rattle.moves.specs.Slots.{Slot, memory, register, State, state, read, put}
 use Rattle.moves.specs.Pointers.{Pointer, null, slots, newContent}
 use Rattle.moves.specs.Settle.{write, write1}
 use Rattle.moves.proofs.Splice.{splice-in}
@@ -20,6 +20,12 @@ use Rattle.moves.proofs.Cells.{Cell, byte, whole, at, Touches, touches?
 pub record Shape (w v : State) : Type 0 where
   pub windows : length (w .window) ≡ length (v .window)
   pub lists : length (w .registers) ≡ length (v .registers)
+
+pub shape-on : (w v u : State) → Shape w v → Shape v u → Shape w u
+shape-on w v u a b = record { windows = a .windows ∙ b .windows; lists = a .lists ∙ b .lists }
+
+pub state-same : {w v rs qs : List ℕ} → w ≡ v → rs ≡ qs → state w rs ≡ state v qs
+state-same e f = rw (e, f)
 
 pub put-shape : (w : State) (s : Slot) (v : ℕ) → Shape (put w s v) w
 put-shape w (memory x) v = record { windows = length-sets (w .window) x (bytes 8 v); lists = refl }
@@ -84,9 +90,7 @@ module _ (table : ℕ → Option ℕ) where
   pub write-shape : (ps : List Pointer) (old cur : State) → Shape (write table old cur ps) cur
   write-shape [] old cur = record { windows = refl; lists = refl }
   write-shape (p ∷ ps) old cur =
-      let a = write-shape ps old (write1 table old cur p) in
-      let b = write1-shape old cur p in
-      record { windows = a .windows ∙ b .windows; lists = a .lists ∙ b .lists }
+      shape-on (write table old (write1 table old cur p) ps) (write1 table old cur p) cur (write-shape ps old (write1 table old cur p)) (write1-shape old cur p)
 
   pub write-miss : (ps : List Pointer) (old cur : State) (c : Cell) → (Hits c ps → ⊥) → at (write table old cur ps) c ≡ at cur c
   write-miss [] old cur c n = refl
