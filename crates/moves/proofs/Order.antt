@@ -188,7 +188,7 @@ module _ (table : ℕ → Option ℕ) where
   unfolding settled
   passed ps w e = answer-0 (first20 ps w) (first21 table ps w) (length ps) e
 
-  settle-accepted : (ps : List Pointer) (w : State) → settled table ps w .number ≡ 0 → settle table ps w ≡ write table w w ps
+  pub settle-accepted : (ps : List Pointer) (w : State) → settled table ps w .number ≡ 0 → settle table ps w ≡ write table w w ps
   unfolding settle
   settle-accepted ps w e = rw (eq-eqb (settled table ps w .number) 0 e)
 

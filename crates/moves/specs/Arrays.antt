@@ -9,12 +9,14 @@ use lib.Dec.{eqb, ltb}
 use lib.ListN.{getD, set}
 use Rattle.moves.specs.declared.NewStart.{NewStart}
 use Rattle.moves.specs.declared.NewStart.the-variants.{At, Nothing}
+use Rattle.moves.specs.declared.Move.{Move}
 use Rattle.moves.specs.declared.Content.{Content}
 use Rattle.moves.specs.declared.Content.the-variants.{New, Unknown}
 use Rattle.moves.specs.Limits.{pointerSize}
 use Rattle.moves.specs.Search.{lowest, anyBelow}
 use Rattle.moves.specs.Slots.{Slot, memory, register, State, read, put}
-use Rattle.moves.specs.Pointers.{Pointer, null, slots, isNone, newDerived}
+use Rattle.moves.specs.Pointers.{Pointer, null, slots, isNone, newDerived, newContent}
+use Rattle.moves.specs.Settle.{settled}
 
 abbrev pub asOption : NewStart → Option ℕ
 asOption (At n) = some n
@@ -107,6 +109,11 @@ pub record RenewsOne (table : ℕ → Option ℕ) (w : State) (live derived vs :
 pub record Renews (table : ℕ → Option ℕ) (w : State) (live derived vs : List ℕ) (n r : ℕ) (after : List ℕ) : Type 0 where
   pub answer : r ≡ firstUnknown table live vs n
   pub left : n ≤ r → Filled (renewed table w derived vs) live after n
+
+-- an answer to the pairs of a window, and where it accepts them the new contents of their derived slots
+pub record Judges (table : ℕ → Option ℕ) (w : State) (live bases derived : List ℕ) (n : ℕ) (r : Move) (after : List ℕ) : Type 0 where
+  pub answer : r ≡ settled table (pointersOf n live bases derived) w
+  pub contents : r .number ≡ 0 → Filled (λ k. newContent table w (slotOf (getD bases k 0)) (slotOf (getD derived k 0))) live after n
 
 -- the numbers of cs put into the slots, one after the other: k of them, from pair i
 unfoldable pub putOne : List ℕ → List ℕ → List ℕ → ℕ → State → State

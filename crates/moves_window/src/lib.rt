@@ -12,19 +12,19 @@ ghost use Rattle.moves.specs.Limits.{pairsMost};
 ghost use Rattle.moves.specs.Table.{tableRight, lookUp};
 ghost use Rattle.moves.specs.Slots.{state};
 ghost use Rattle.moves.specs.Code.{Settles, SettlesIn};
-ghost use Rattle.moves.specs.Arrays.{registersFrom, AllPlaced, pointersOf};
+ghost use Rattle.moves.specs.Arrays.{registersFrom, AllPlaced, Judges, pointersOf};
 use moves::Move;
 use moves::PAIRS_MOST;
+use moves_slots::renewal;
+use moves_slots::slots;
 
 mod collisions;
-mod renewal;
-mod slots;
 
-// Refusals 20 and 21 of the pairs of a window, or their move: all is read before any of it is written. Where `write` is false the
-// pairs are only judged. `values` is lent for the old bases, and then for the new contents.
-fn settle_pairs(
-    window: &mut [u8],
-    registers: &mut [u64],
+// Refusals 20 and 21 of the pairs of a window, or their count. `values` is lent for the old bases, and then for the new contents of the
+// derived slots.
+fn judge(
+    window: &[u8],
+    registers: &[u64],
     live: &[u8; PAIRS_MOST],
     bases: &[usize; PAIRS_MOST],
     derived: &[usize; PAIRS_MOST],
@@ -32,11 +32,10 @@ fn settle_pairs(
     pairs: usize,
     olds: &[u64],
     news: &[u64],
-    write: bool,
 ) -> Move
     requires { ⌜ (pairs ≤ pairsMost) × (pairs ≤ length (now values)) × (length (now window) ≤ registersFrom) × (length (now registers) ≤ 32)
         × AllPlaced (length (now window)) (length (now registers)) pairs (now live) (now bases) (now derived) × (tableRight (now olds) (now news) ≡ true) ⌝ }
-    ensures { λ r. ⌜ Settles (lookUp (now (olds .entry)) (now (news .entry))) write r (state (now (window .exit)) (now (registers .exit))) (pointersOf pairs (now (live .entry)) (now (bases .entry)) (now (derived .entry))) (state (now (window .entry)) (now (registers .entry))) ⌝ }
+    ensures { λ r. ⌜ Judges (lookUp (now (olds .entry)) (now (news .entry))) (state (now (window .entry)) (now (registers .entry))) (now (live .entry)) (now (bases .entry)) (now (derived .entry)) pairs r (now (values .exit)) ⌝ }
 {
     slots::read_all(window, registers, live, bases, values, pairs);
     let colliding = collisions::collision(live, bases, derived, values, pairs);
@@ -55,14 +54,38 @@ fn settle_pairs(
             count: 0,
         };
     }
-    if write {
-        slots::put_all(window, registers, live, derived, values, pairs);
-    }
     Move {
         number: 0,
         place: 0,
         count: pairs,
     }
+}
+
+// The move of the pairs of a window: all is read before any of it is written. Where `write` is false the pairs are only judged.
+fn settle_pairs(
+    window: &mut [u8],
+    registers: &mut [u64],
+    live: &[u8; PAIRS_MOST],
+    bases: &[usize; PAIRS_MOST],
+    derived: &[usize; PAIRS_MOST],
+    values: &mut [u64],
+    pairs: usize,
+    olds: &[u64],
+    news: &[u64],
+    write: bool,
+) -> Move
+    requires { ⌜ (pairs ≤ pairsMost) × (pairs ≤ length (now values)) × (length (now window) ≤ registersFrom) × (length (now registers) ≤ 32)
+        × AllPlaced (length (now window)) (length (now registers)) pairs (now live) (now bases) (now derived) × (tableRight (now olds) (now news) ≡ true) ⌝ }
+    ensures { λ r. ⌜ Settles (lookUp (now (olds .entry)) (now (news .entry))) write r (state (now (window .exit)) (now (registers .exit))) (pointersOf pairs (now (live .entry)) (now (bases .entry)) (now (derived .entry))) (state (now (window .entry)) (now (registers .entry))) ⌝ }
+{
+    let answer = judge(window, registers, live, bases, derived, values, pairs, olds, news);
+    if answer.number != 0 {
+        return answer;
+    }
+    if write {
+        slots::put_all(window, registers, live, derived, values, pairs);
+    }
+    answer
 }
 
 // The move of a frame whose window is image[off..end], or its judgement. `values` is lent for as many numbers as there are pairs.

@@ -2,8 +2,8 @@ use mathlib.Core.Path.{sym, ap, _∙_}
 use Rattle.moves.specs.Arrays.{asContent, contentOf}
 use Rattle.moves.proofs.Fills.{renew-null, renew-new, renew-unknown}
 use borrow.Author.Needs.{needs}
-use Rattle.moves_window.proofs.renewal.renew_one.Statement.{statement}
-use Rattle.moves_window.proofs.renewal.renew_one.Tie as tie
+use Rattle.moves_slots.proofs.renewal.renew_one.Statement.{statement}
+use Rattle.moves_slots.proofs.renewal.renew_one.Tie as tie
 
 element-copy-out-if1 : tie.Need-element-copy-out-if1
 element-copy-out-if1 c = search needs

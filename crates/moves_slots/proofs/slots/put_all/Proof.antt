@@ -9,8 +9,8 @@ use Rattle.moves.specs.Arrays.{slotOf, puts}
 use Rattle.moves.proofs.Writes.{Shape, shape-on, state-same, put-shape}
 use Rattle.moves.proofs.Numbers.{placed-same}
 use Rattle.moves.proofs.Fills.{puts-start, puts-end, put-null, put-live, put-turn}
-use Rattle.moves_window.proofs.slots.put_all.Statement.{statement}
-use Rattle.moves_window.proofs.slots.put_all.Tie as tie
+use Rattle.moves_slots.proofs.slots.put_all.Statement.{statement}
+use Rattle.moves_slots.proofs.slots.put_all.Tie as tie
 
 abbrev Inv-loop : tie.InvT-loop
 Inv-loop window₀ registers₀ live derived contents pairs p₀ window registers p =

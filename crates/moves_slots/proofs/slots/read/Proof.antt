@@ -2,8 +2,8 @@ use native.Mathlib.Omega.{arith}
 use mathlib.Core.Path.{_∙_}
 use Rattle.moves.proofs.Numbers.{read-memory, read-register}
 use borrow.Author.Needs.{needs}
-use Rattle.moves_window.proofs.slots.read.Statement.{statement}
-use Rattle.moves_window.proofs.slots.read.Tie as tie
+use Rattle.moves_slots.proofs.slots.read.Statement.{statement}
+use Rattle.moves_slots.proofs.slots.read.Tie as tie
 
 u64-at-requires : tie.Need-u64-at-requires
 u64-at-requires c κs = c .before .before .before .pre .in-window (c .if1 .taken)

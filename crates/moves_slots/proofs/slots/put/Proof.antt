@@ -1,7 +1,7 @@
 use Rattle.moves.proofs.Numbers.{put-memory, put-register}
 use borrow.Author.Needs.{needs}
-use Rattle.moves_window.proofs.slots.put.Statement.{statement}
-use Rattle.moves_window.proofs.slots.put.Tie as tie
+use Rattle.moves_slots.proofs.slots.put.Statement.{statement}
+use Rattle.moves_slots.proofs.slots.put.Tie as tie
 
 put-u64-requires : tie.Need-put-u64-requires
 put-u64-requires c κs = c .before .before .before .before .pre .in-window (c .before .if1 .taken)

@@ -7,8 +7,8 @@ use lib.ListN.{length, getD, length-set}
 use Rattle.moves.specs.Slots.{state, read}
 use Rattle.moves.specs.Arrays.{slotOf, Filled}
 use Rattle.moves.proofs.Fills.{filled-start, filled-skip, filled-set}
-use Rattle.moves_window.proofs.slots.read_all.Statement.{statement}
-use Rattle.moves_window.proofs.slots.read_all.Tie as tie
+use Rattle.moves_slots.proofs.slots.read_all.Statement.{statement}
+use Rattle.moves_slots.proofs.slots.read_all.Tie as tie
 
 abbrev Inv-loop : tie.InvT-loop
 Inv-loop window registers live slots contents₀ pairs k₀ contents k =

@@ -6,8 +6,8 @@ use lib.ListN.{length}
 use Rattle.moves.specs.Table.{lookUp}
 use Rattle.moves.specs.Slots.{state}
 use Rattle.moves.proofs.Fills.{Renewing, renewing-start, renewing-stop, renewing-step, renewing-end}
-use Rattle.moves_window.proofs.renewal.renew.Statement.{statement}
-use Rattle.moves_window.proofs.renewal.renew.Tie as tie
+use Rattle.moves_slots.proofs.renewal.renew.Statement.{statement}
+use Rattle.moves_slots.proofs.renewal.renew.Tie as tie
 
 abbrev Inv-loop : tie.InvT-loop
 Inv-loop window registers live derived values₀ olds news pairs k₀ values k =
