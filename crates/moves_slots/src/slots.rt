@@ -19,7 +19,8 @@ pub fn read(window: &[u8], registers: &[u64], slot: usize) -> u64
     if slot < REGISTERS_FROM {
         return wire::u64_at(window, slot);
     }
-    registers[(slot - REGISTERS_FROM) / POINTER_SIZE]
+    let number = (slot - REGISTERS_FROM) / POINTER_SIZE;
+    registers[number]
 }
 
 // Puts a number into a slot.

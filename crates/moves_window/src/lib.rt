@@ -78,7 +78,17 @@ fn settle_pairs(
         × AllPlaced (length (now window)) (length (now registers)) pairs (now live) (now bases) (now derived) × (tableRight (now olds) (now news) ≡ true) ⌝ }
     ensures { λ r. ⌜ Settles (lookUp (now (olds .entry)) (now (news .entry))) write r (state (now (window .exit)) (now (registers .exit))) (pointersOf pairs (now (live .entry)) (now (bases .entry)) (now (derived .entry))) (state (now (window .entry)) (now (registers .entry))) ⌝ }
 {
-    let answer = judge(window, registers, live, bases, derived, values, pairs, olds, news);
+    let answer = judge(
+        window,
+        registers,
+        live,
+        bases,
+        derived,
+        values,
+        pairs,
+        olds,
+        news,
+    );
     if answer.number != 0 {
         return answer;
     }

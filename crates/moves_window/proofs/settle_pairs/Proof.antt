@@ -22,13 +22,13 @@ returns : tie.Need-returns
 returns c =
     let j = c .before .before .before .before .judge in
     let a = c .before .before .before .before .before .before .before .before .before .before .before .before .before .args in
-    stays (a .live .now) (a .bases .now) (a .derived .now) (a .pairs) (lookUp (a .olds .now) (a .news .now)) (state (a .window .now) (a .registers .now)) _ _ (j .ensures) (a .write) (c .if1 .taken)
+    stays (a .live .now) (a .bases .now) (a .derived .now) (a .pairs) (lookUp (a .olds .now) (a .news .now)) (state (a .window .now) (a .registers .now)) _ _ (j .ensures) (a .write) (λ z. omega arith)
 
 put-all-requires : tie.Need-put-all-requires
 put-all-requires c κs =
     let j = c .before .before .before .before .before .before .before .before .judge in
     let s = c .before .before .before .before .before .before .before .before .before .before .before .before .before .before .before .before .before in
-    (s .pre .0, omega (arith, s .pre .1, j .kept .1 .1 .1 .1 .1 .0), s .pre .4 .derived-in)
+    (omega (arith, s .pre .0), omega (arith, s .pre .1, j .kept .1 .1 .1 .1 .1 .0), λ k h. s .pre .4 .derived-in k (omega arith))
 
 same-length-4 : tie.Need-same-length-4
 same-length-4 c = search needs
@@ -44,7 +44,7 @@ returns-2 c =
     let p = c .before .before .before .before .put-all in
     let j = c .before .before .before .before .before .before .before .before .before .before .before .before .before .judge in
     let a = c .before .before .before .before .before .before .before .before .before .before .before .before .before .before .before .before .before .before .before .before .before .before .args in
-    rw (c .before .before .before .before .before .before .before .before .if2 .taken) (done (a .live .now) (a .bases .now) (a .derived .now) (a .pairs) (lookUp (a .olds .now) (a .news .now)) (state (a .window .now) (a .registers .now)) _ _ (j .ensures) _ (c .before .before .before .before .before .before .before .before .before .if1 .left) (p .ensures))
+    rw (c .before .before .before .before .before .before .before .before .if2 .taken) (done (a .live .now) (a .bases .now) (a .derived .now) (a .pairs) (lookUp (a .olds .now) (a .news .now)) (state (a .window .now) (a .registers .now)) _ _ (j .ensures) _ (omega arith) (p .ensures))
 
 same-length-7 : tie.Need-same-length-7
 same-length-7 c = search needs

@@ -1,3 +1,4 @@
+use native.Mathlib.Omega.{arith}
 use Rattle.moves.proofs.Numbers.{put-memory, put-register}
 use borrow.Author.Needs.{needs}
 use Rattle.moves_slots.proofs.slots.put.Statement.{statement}
@@ -16,7 +17,7 @@ mul-registers : tie.Need-mul-registers
 mul-registers c = search needs
 
 slice-write-registers : tie.Need-slice-write-registers
-slice-write-registers c = c .before .before .before .pre .in-list (c .if1 .left)
+slice-write-registers c = omega (arith, c .before .before .before .pre .in-list (c .if1 .left))
 
 same-length-2 : tie.Need-same-length-2
 same-length-2 c = search needs

@@ -15,7 +15,7 @@ mul-result : tie.Need-mul-result
 mul-result c = search needs
 
 shared-slice-read-result : tie.Need-shared-slice-read-result
-shared-slice-read-result c = c .before .before .before .before .pre .in-list (c .before .if1 .left)
+shared-slice-read-result c = omega (arith, c .before .before .before .before .pre .in-list (c .before .if1 .left))
 
 returns-2 : tie.Need-returns-2
 returns-2 c = read-register _ _ _ (c .before .if1 .left)
