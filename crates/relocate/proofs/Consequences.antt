@@ -7,7 +7,7 @@ use native.Mathlib.Omega.{arith}
 use lib.ListN.{length, getD}
 use Rattle.wire.specs.Word.{word}
 use Rattle.wire.proofs.Laws.{word-bound}
-use Rattle.stackmap.specs.Section.{Entry, readSection}
+use Rattle.stackmap.specs.Section.{Entry, isOld, readSection}
 use Rattle.stackmap.specs.declared.Verdict.{Verdict}
 use Rattle.stackmap.specs.declared.Verdict.the-variants.{Valid, Refused}
 use Rattle.stackmap.specs.Check.{sectionCheck}
@@ -24,10 +24,10 @@ use Rattle.moves.proofs.Local.{Agrees, settled-local}
 use Rattle.relocate.specs.declared.Frame.{Frame}
 use Rattle.relocate.specs.Restore.{Restore}
 use Rattle.relocate.specs.Statepoint.{pairs, pointersOf}
-use Rattle.relocate.specs.Plan.{plan, stackSize}
-use Rattle.relocate.specs.Relocation.{answer, moved, OneRecord, ListedPair, newContentAt}
+use Rattle.relocate.specs.Plan.{plan}
+use Rattle.relocate.specs.Relocation.{answer, moved, OneRecord, ListedPointer, newContentAt}
 use Rattle.relocate.specs.Consequences.{Untouched, Counts, KeepsDistance, AgreeOnSlots, OnlySlotsCount}
-use Rattle.relocate.proofs.Planned.{Planned, planned, window-pair, window-lists, from-slots, one-address}
+use Rattle.relocate.proofs.Planned.{Planned, planned, window-pair, window-lists, listed-stands}
 use Rattle.relocate.proofs.Demand.{demand3, accepts, plan-refused, accepted-section}
 
 untouched-plan : (table : ℕ → Option ℕ) (im : List ℕ) (p : Plan) → (says table im p .number ≡ 0 → ⊥) → leaves table im p ≡ im
@@ -41,14 +41,14 @@ untouched R im f h = untouched-plan (lookUp (R .olds) (R .news)) im (plan R (len
 
 -- the answer of an accepted frame
 accepted-answer : (R : Restore) (im : List ℕ) (f : Frame) → answer R im f .number ≡ 0
-    → (e : Entry) → OneRecord (R .section) f e → answer R im f ≡ acceptedMove (length (flatten (map (pointersOf (readSection (R .section) .constants) f) (pairs (e .body)))))
+    → (e : Entry) → OneRecord (R .section) f e → answer R im f ≡ acceptedMove (length (flatten (map (pointersOf (isOld (R .section)) (readSection (R .section) .constants) f) (pairs (e .body)))))
 unfolding answer
 accepted-answer R im f h e one =
     let k = accepted-section R im f h in
     let a = accepts R (length (R .section)) k im f h in
     let q = planned R (length im) f (length (R .section)) k (a .off) (a .size) (a .pairs) (a .is-window) in
     let same : e ≡ q .entry = (let y = q .one in cc) in
-    let ps : a .pairs ≡ map (pointersOf (readSection (R .section) .constants) f) (pairs (e .body)) = q .pairs-are ∙ rw same in
+    let ps : a .pairs ≡ map (pointersOf (isOld (R .section)) (readSection (R .section) .constants) f) (pairs (e .body)) = q .pairs-are ∙ rw same in
     rw (a .is-window, ← ps) (ap (atPair (a .pairs)) (accepted-whole (lookUp (R .olds) (R .news)) (flatten (a .pairs)) (part im (a .off) (a .size)) (a .settled-0)))
 
 refused-plan : (table : ℕ → Option ℕ) (im : List ℕ) (p : Plan) → (says table im p .number ≡ 0 → ⊥) → says table im p .count ≡ 0
@@ -72,7 +72,7 @@ counts =
 
 -- the new content of a derived slot, as a number in the new image
 new-word : (R : Restore) (im : List ℕ) (f : Frame) → answer R im f .number ≡ 0
-    → (b d : ℕ) → ListedPair (R .section) f b d → R .first ≤ d → word 8 (moved R im f) (d - R .first) ≡ newContentAt R im b d
+    → (b d : ℕ) → ListedPointer (R .section) f b d → R .first ≤ d → word 8 (moved R im f) (d - R .first) ≡ newContentAt R im b d
 unfolding newContent newDerived
 new-word R im f a b d l low =
     let h = demand3 R im (f ∷ []) ((λ g m. absurd (List·Memᴰ·not-nil m)), tt) in
@@ -84,15 +84,13 @@ new-word R im f a b d l low =
 
 -- the slots of an accepted frame stand in the image
 slots-low : (R : Restore) (im : List ℕ) (f : Frame) → answer R im f .number ≡ 0
-    → (b d : ℕ) → ListedPair (R .section) f b d → (R .first ≤ b) × (R .first ≤ d)
+    → (b d : ℕ) → ListedPointer (R .section) f b d → (R .first ≤ b) × (R .first ≤ d)
 slots-low R im f h b d l =
     let k = accepted-section R im f h in
     let a = accepts R (length (R .section)) k im f h in
     let q = planned R (length im) f (length (R .section)) k (a .off) (a .size) (a .pairs) (a .is-window) in
-    let same : l .entry ≡ q .entry = (let x = l .one in let y = q .one in cc) in
-    let m : List·Memᴰ (l .pair) (pairs (q .entry .body)) = rw (← same) (l .listed) in
-    let v = from-slots (readSection (R .section) .constants) f (stackSize (q .entry)) (l .pair) (q .insides (l .pair) m) (l .not-null) in
-    (omega (arith, one-address (v .base-at) (l .base-at), q .low), omega (arith, one-address (v .derived-at) (l .derived-at), q .low))
+    let v = listed-stands R (length im) f (a .off) (a .size) (a .pairs) q b d l in
+    (omega (arith, v .base-is, q .low), omega (arith, v .derived-is, q .low))
 
 pub keeps-distance : KeepsDistance
 unfolding newContent newDerived
@@ -125,7 +123,7 @@ module _ (R : Restore) (im im′ : List ℕ) (f : Frame) (g : AgreeOnSlots R f i
       agrees (slots b d) m =
           let v = window-pair R (length im) f e k off size ps q b d m in
           let l = window-lists R (length im) f e k off size ps q b d m in
-          (λ i r. at b i (v .2 .base-in) r (g .on-base _ _ l), λ i r. at d i (v .2 .derived-in) r (g .on-derived _ _ l))
+          (λ i r. at b i (v .2 .1 .base-in) r (g .on-base _ _ l), λ i r. at d i (v .2 .1 .derived-in) r (g .on-derived _ _ l))
 
   same-answer : answer R im f ≡ answer R im′ f
   unfolding answer
@@ -138,7 +136,7 @@ module _ (R : Restore) (im im′ : List ℕ) (f : Frame) (g : AgreeOnSlots R f i
       go (Valid e) k = plan-agrees e k P refl
       go (Refused n p) k = rw (plan-refused R (length im) f n p k)
 
-  same-content : answer R im f .number ≡ 0 → (b d : ℕ) → ListedPair (R .section) f b d
+  same-content : answer R im f .number ≡ 0 → (b d : ℕ) → ListedPointer (R .section) f b d
       → newContentAt R im b d ≡ newContentAt R im′ b d
   unfolding newContent
   same-content a b d l =

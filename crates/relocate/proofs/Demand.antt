@@ -12,7 +12,7 @@ use Rattle.wire.specs.Word.{bytes}
 use Rattle.stackmap.specs.declared.Verdict.{Verdict}
 use Rattle.stackmap.specs.declared.Verdict.the-variants.{Valid, Refused}
 use Rattle.stackmap.specs.Layout.{stackSizeUnknown}
-use Rattle.stackmap.specs.Section.{Entry, readSection}
+use Rattle.stackmap.specs.Section.{Entry}
 use Rattle.stackmap.specs.Check.{sectionCheck, Accepted}
 use Rattle.stackmap.proofs.Numbers.{section-numbered}
 use Rattle.stackmap.proofs.Forth.{accepted-length}
@@ -26,17 +26,15 @@ use Rattle.moves.specs.Plan.{Plan, refuse, window, says, leaves}
 use Rattle.moves.proofs.Searches.{perm-mem}
 use Rattle.moves.proofs.Splice.{splice-same}
 use Rattle.moves.proofs.Words.{word-part}
-use Rattle.moves.proofs.Blocks.{of-block}
 use Rattle.moves.proofs.Tasks.{Task, answerIn, after, runAnswers, runLeft, Separate, after-length, run-hit, run-miss}
 use Rattle.moves.proofs.Lists.{taskOf, windowTask, refusedTask, Sound, InWindow, task-good, separate, find, final-slot, final-rest}
 use Rattle.moves.proofs.Lists.{Disjoint as WindowsApart, answers as list-answers}
 use Rattle.relocate.specs.declared.Frame.{Frame}
 use Rattle.relocate.specs.Restore.{Restore}
-use Rattle.relocate.specs.Statepoint.{pairs, slotAt, pointersOf}
 use Rattle.relocate.specs.Plan.{plan, stackSize}
 use Rattle.relocate.specs.Relocation.{answer, moved, OneRecord, InExtent, extentOf, newContentAt}
 use Rattle.relocate.specs.Lists.{answers, final, Disjoint, Written, Holds, Demand3, OrderFree}
-use Rattle.relocate.proofs.Planned.{Above, planned, plan-above, window-lists, sound, from-slots, pair-slots, one-address}
+use Rattle.relocate.proofs.Planned.{Above, planned, plan-above, window-lists, listed-stands, sound}
 
 -- a new content in the image, and in a window of it
 content-part : (table : ℕ → Option ℕ) (im : List ℕ) (off n b d : ℕ) → b + 8 ≤ n → d + 8 ≤ n
@@ -162,26 +160,19 @@ module _ (R : Restore) (e : ℕ) (k : sectionCheck (R .section) ≡ Valid e) whe
       let f = w .frame in
       let a = accepts im f (w .accepted) in
       let q = planned R (length im) f e k (a .off) (a .size) (a .pairs) (a .is-window) in
-      let l = w .lists in
-      let same : l .entry ≡ q .entry = (let x = l .one in let y = q .one in cc) in
-      let m : List·Memᴰ (l .pair) (pairs (q .entry .body)) = rw (← same) (l .listed) in
-      let v = from-slots (readSection (R .section) .constants) f (stackSize (q .entry)) (l .pair) (q .insides (l .pair) m) (l .not-null) in
-      let b′ = slotAt f (l .pair .base) in
-      let d′ = slotAt f (l .pair .derived) in
-      let eb : b ≡ f .sp + b′ = one-address (l .base-at) (v .base-at) in
-      let ed : d ≡ f .sp + d′ = one-address (l .derived-at) (v .derived-at) in
-      let mem : List·Memᴰ (slots b′ d′) (flatten (a .pairs)) =
-      rw (q .pairs-are) (of-block (pointersOf (readSection (R .section) .constants) f) (pairs (q .entry .body)) m (pair-slots (readSection (R .section) .constants) f (l .pair) (l .not-null))) in
-      let ob : b - R .first ≡ a .off + b′ = omega (arith, q .off-is, q .low) in
-      let od : d - R .first ≡ a .off + d′ = omega (arith, q .off-is, q .low) in
-      let p : R .first + i - d ≡ i - (a .off + d′) = omega (arith, q .off-is, q .low) in
-      rw (final-run fs im, ob, od, p, ← content-part table im (a .off) (a .size) b′ d′ (rw (q .size-is) (v .base-in)) (rw (q .size-is) (v .derived-in)))
+      let v = listed-stands R (length im) f (a .off) (a .size) (a .pairs) q b d (w .lists) in
+      let b′ = v .base in
+      let d′ = v .derived in
+      let ob : b - R .first ≡ a .off + b′ = omega (arith, q .off-is, q .low, v .base-is) in
+      let od : d - R .first ≡ a .off + d′ = omega (arith, q .off-is, q .low, v .derived-is) in
+      let p : R .first + i - d ≡ i - (a .off + d′) = omega (arith, q .off-is, q .low, v .derived-is) in
+      rw (final-run fs im, ob, od, p, ← content-part table im (a .off) (a .size) b′ d′ (v .base-in) (v .derived-in))
       (final-slot table P snd fs im (disjoint (length im) fs dis) f (w .in-list) (a .off) (a .size) (a .pairs) b′ d′ i
       (record {
         planned = a .is-window;
         accepted = a .settled-0;
-        listed = mem;
-        inside = record { low = omega (arith, w .inside .low, q .off-is, q .low); high = omega (arith, w .inside .high, q .off-is, q .low) };
+        listed = v .member;
+        inside = record { low = omega (arith, w .inside .low, q .off-is, q .low, v .derived-is); high = omega (arith, w .inside .high, q .off-is, q .low, v .derived-is) };
       }))
 
   rest : (fs : List Frame) (im : List ℕ) → Disjoint (R .section) fs → (i : ℕ) → ((b d : ℕ) → Written R im fs b d i → ⊥)

@@ -1,12 +1,13 @@
 -- What a plan that is a window tells.
-use Prim.Native.Nat.{ℕ, suc, _+_, _-_, _≤_, _<_}
+use Prim.Native.Nat.{ℕ, zero, suc, _+_, _*_, _-_, _≤_, _<_}
 use mathlib.Core.Path.{_≡_, refl, sym, ap, _∙_}
-use mathlib.Core.Bool.{Bool, true, false, true≢false}
+use mathlib.Core.Bool.{Bool, true, false, not, _||_, true≢false}
 use mathlib.Core.Logic.{_⊎_, inl, inr, ⊎-elim}
 use mathlib.Core.Option.{Option, none, some}
-use mathlib.Core.List.{List, [], _∷_, map, flatten, List·Memᴰ, List·Memᴰ·head, List·Memᴰ·not-nil, List·Memᴰ·cases-cons}
+use mathlib.Core.List.{List, [], _∷_, map, flatten, List·Memᴰ, List·Memᴰ·head, List·Memᴰ·tail, List·Memᴰ·not-nil, List·Memᴰ·cases-cons}
 use native.Mathlib.Omega.{arith}
-use borrow.Author.Tests.{eqb-false, leb-true}
+use native.Mathlib.Nat.{not-suc-le-zero}
+use borrow.Author.Tests.{eqb-true, eqb-false, leb-true}
 use lib.Dec.{leb}
 use lib.ListN.{length}
 use Rattle.stackmap.specs.declared.Verdict.the-variants.{Valid}
@@ -18,15 +19,15 @@ use Rattle.stackmap.proofs.Tests.{and-true, not-true}
 use Rattle.moves.specs.Pointers.{Pointer, null, slots, orZero}
 use Rattle.moves.specs.Table.{tableRight}
 use Rattle.moves.specs.Plan.{Plan, refuse, window}
-use Rattle.moves.proofs.Blocks.{in-block}
+use Rattle.moves.proofs.Blocks.{in-block, of-block}
 use Rattle.moves.proofs.Lists.{Sound}
 use Rattle.relocate.specs.declared.Frame.{Frame}
 use Rattle.relocate.specs.declared.Machine.{Machine}
 use Rattle.questions.specs.Questions.{ask}
 use Rattle.relocate.specs.Restore.{Restore}
-use Rattle.relocate.specs.Statepoint.{isStatepoint, Pair, pairs, isNull, isSlot, rightForm, slotAddress, slotInside, slotAt, inside, pointersOf}
+use Rattle.relocate.specs.Statepoint.{isStatepoint, Pair, pairs, isNull, isSlot, pointersIn, sameSize, rightForm, slotAddress, onward, slotNumber, slotsInside, inside, slotAt, pointersFrom, pointersOf}
 use Rattle.relocate.specs.Plan.{recordsOf, only, every, stackSize, imageRight, extentRight, planPairs, planRecord, plan}
-use Rattle.relocate.specs.Relocation.{ListedPair}
+use Rattle.relocate.specs.Relocation.{ListedPointer}
 
 -- the refusal numbers of a plan are above 0
 abbrev pub Above : Plan → Type 0
@@ -88,72 +89,121 @@ module _ {off size : ℕ} {ws : List (List Pointer)} where
           pick q (inr m) f = f m
       go ih false e = absurd (let w : refuse n i ≡ window off size ws = sym (every-no good n i p ps k e) ∙ h in let z : _≡_ {A = ℕ} 0 1 = cc in omega arith)
 
--- the slots of a pair that is not null, and inside
-slot-inside : (f : Frame) (n : ℕ) (l : Location) → slotInside f n l ≡ true
-    → (slotAddress f l ≡ some (f .sp + slotAt f l)) × (slotAt f l + 8 ≤ n)
-unfolding slotInside slotAt
-slot-inside f n l h = go (slotAddress f l) refl
+-- The slots of a pair that is not null, and inside.
+
+pub slot-inside : (old : Bool) (f : Frame) (n : ℕ) (l : Location) → slotsInside old f n l ≡ true
+    → (slotAddress f l ≡ some (f .sp + slotAt f l)) × (slotAt f l + 8 * pointersIn old (l .size) ≤ n)
+unfolding slotsInside slotAt
+slot-inside old f n l h = go (slotAddress f l) refl
   where
+    k : ℕ
+    k = pointersIn old (l .size)
+
     go : (x : Option ℕ) → slotAddress f l ≡ x
-        → (slotAddress f l ≡ some (f .sp + (orZero (slotAddress f l) - f .sp))) × (orZero (slotAddress f l) - f .sp + 8 ≤ n)
+        → (slotAddress f l ≡ some (f .sp + (orZero (slotAddress f l) - f .sp))) × (orZero (slotAddress f l) - f .sp + 8 * k ≤ n)
     go none e = absurd (true≢false (sym (rw e at h)))
     go (some a) e =
-        let t = and-true (leb (f .sp) a) (leb (a + 8) (f .sp + n)) (rw e at h) in
+        let t = and-true (leb (f .sp) a) (leb (a + 8 * k) (f .sp + n)) (rw e at h) in
         let x : f .sp ≤ a = leb-true _ _ (t .0) in
-        let y : a + 8 ≤ f .sp + n = leb-true _ _ (t .1) in
+        let y : a + 8 * k ≤ f .sp + n = leb-true _ _ (t .1) in
         rw e (ap some (omega arith), omega arith)
 
--- a pair of the window, and the pair that it comes from
-pub record From (pool : List ℕ) (f : Frame) (n b d : ℕ) (p : Pair) : Type 0 where
+-- both locations of a pair of the right form hold as many pointers
+pub same-count : (old : Bool) (p : Pair) → sameSize old p ≡ true → pointersIn old (p .derived .size) ≡ pointersIn old (p .base .size)
+unfolding sameSize pointersIn
+same-count true p h = refl
+same-count false p h = let e : p .base .size ≡ p .derived .size = eqb-true _ _ h in rw e
+
+-- a pointer of the window, and the pair that it comes from, of which it is number i
+pub record From (old : Bool) (pool : List ℕ) (f : Frame) (n b d : ℕ) (p : Pair) (i : ℕ) : Type 0 where
   pub not-null : isNull pool p ≡ false
-  pub base-is : b ≡ slotAt f (p .base)
-  pub derived-is : d ≡ slotAt f (p .derived)
-  pub base-at : slotAddress f (p .base) ≡ some (f .sp + b)
-  pub derived-at : slotAddress f (p .derived) ≡ some (f .sp + d)
+  pub held : i < pointersIn old (p .base .size)
+  pub base-at : slotNumber f (p .base) i ≡ some (f .sp + b)
+  pub derived-at : slotNumber f (p .derived) i ≡ some (f .sp + d)
   pub base-in : b + 8 ≤ n
   pub derived-in : d + 8 ≤ n
 
-pub from-slots : (pool : List ℕ) (f : Frame) (n : ℕ) (p : Pair) → inside pool f n p ≡ true → isNull pool p ≡ false
-    → From pool f n (slotAt f (p .base)) (slotAt f (p .derived)) p
-unfolding inside
-from-slots pool f n p h e =
-    let a = and-true _ _ (rw e at h) in
-    let x = slot-inside f n (p .base) (a .0) in
-    let y = slot-inside f n (p .derived) (a .1) in
-    record { not-null = e; base-is = refl; derived-is = refl; base-at = x .0; derived-at = y .0; base-in = x .1; derived-in = y .1 }
+module _ (old : Bool) (pool : List ℕ) (f : Frame) where
+  pub from-slots : (n : ℕ) (p : Pair) (i : ℕ) → inside old pool f n p ≡ true → sameSize old p ≡ true → isNull pool p ≡ false
+      → i < pointersIn old (p .base .size) → From old pool f n (slotAt f (p .base) + 8 * i) (slotAt f (p .derived) + 8 * i) p i
+  unfolding inside
+  from-slots n p i h s e l =
+      let a = and-true _ _ (rw e at h) in
+      let x = slot-inside old f n (p .base) (a .0) in
+      let y = slot-inside old f n (p .derived) (a .1) in
+      let z = same-count old p s in
+      record {
+        not-null = e;
+        held = l;
+        base-at = ap (onward (8 * i)) (x .0) ∙ ap some (omega arith);
+        derived-at = ap (onward (8 * i)) (y .0) ∙ ap some (omega arith);
+        base-in = omega (arith, x .1);
+        derived-in = omega (arith, y .1, z);
+      }
 
-pub pair-from : (pool : List ℕ) (f : Frame) (n : ℕ) (p : Pair) (b d : ℕ) → inside pool f n p ≡ true → List·Memᴰ (slots b d) (pointersOf pool f p) → From pool f n b d p
-unfolding pointersOf
-pair-from pool f n p b d h m = go (isNull pool p) refl
-  where
-    alone : (q : Pointer) → List·Memᴰ (slots b d) (q ∷ []) → slots b d ≡ q
-    alone q k = ⊎-elim (λ e. e) (λ x. absurd (List·Memᴰ·not-nil x)) (List·Memᴰ·cases-cons k)
+  -- a pointer of a run, by its number
+  in-run : (n b d b₀ d₀ : ℕ) → List·Memᴰ (slots b d) (pointersFrom n b₀ d₀) → (i : ℕ) × (i < n) × (b₀ + 8 * i ≡ b) × (d₀ + 8 * i ≡ d)
+  in-run zero b d b₀ d₀ m = absurd (List·Memᴰ·not-nil m)
+  in-run (suc n) b d b₀ d₀ m = ⊎-elim first (λ k. on (in-run n b d (b₀ + 8) (d₀ + 8) k)) (List·Memᴰ·cases-cons m)
+    where
+      first : slots b d ≡ slots b₀ d₀ → (i : ℕ) × (i < suc n) × (b₀ + 8 * i ≡ b) × (d₀ + 8 * i ≡ d)
+      first e =
+          let x : b₀ ≡ b = cc in
+          let y : d₀ ≡ d = cc in
+          (0, omega arith, omega arith, omega arith)
 
-    go : (t : Bool) → isNull pool p ≡ t → From pool f n b d p
-    go true q = absurd (let w : slots b d ≡ null = alone null (rw q at m) in let z : _≡_ {A = ℕ} 0 1 = cc in omega arith)
-    go false q =
-        let w : slots b d ≡ slots (slotAt f (p .base)) (slotAt f (p .derived)) = alone _ (rw q at m) in
-        let x : slotAt f (p .base) ≡ b = cc in
-        let y : slotAt f (p .derived) ≡ d = cc in
-        rw (x, y) at (from-slots pool f n p h q)
+      on : (i : ℕ) × (i < n) × (b₀ + 8 + 8 * i ≡ b) × (d₀ + 8 + 8 * i ≡ d) → (i : ℕ) × (i < suc n) × (b₀ + 8 * i ≡ b) × (d₀ + 8 * i ≡ d)
+      on r = (suc (r .0), omega (arith, r .1), omega (arith, r .2), omega (arith, r .3))
 
-pub pair-slots : (pool : List ℕ) (f : Frame) (p : Pair) → isNull pool p ≡ false → List·Memᴰ (slots (slotAt f (p .base)) (slotAt f (p .derived))) (pointersOf pool f p)
-unfolding pointersOf
-pair-slots pool f p e = rw e (List·Memᴰ·head refl)
+  of-run : (n b d i : ℕ) → i < n → List·Memᴰ (slots (b + 8 * i) (d + 8 * i)) (pointersFrom n b d)
+  of-run zero b d i h = absurd (not-suc-le-zero h)
+  of-run (suc n) b d zero h =
+      let x : b + 8 * 0 ≡ b = omega arith in
+      let y : d + 8 * 0 ≡ d = omega arith in
+      rw (x, y) (List·Memᴰ·head refl)
+  of-run (suc n) b d (suc i) h =
+      let x : b + 8 * suc i ≡ b + 8 + 8 * i = omega arith in
+      let y : d + 8 * suc i ≡ d + 8 + 8 * i = omega arith in
+      rw (x, y) (List·Memᴰ·tail (of-run n (b + 8) (d + 8) i (omega arith)))
+
+  pub pair-from : (n : ℕ) (p : Pair) (b d : ℕ) → inside old pool f n p ≡ true → (isNull pool p ≡ false → sameSize old p ≡ true)
+      → List·Memᴰ (slots b d) (pointersOf old pool f p) → (i : ℕ) × From old pool f n b d p i
+  unfolding pointersOf
+  pair-from n p b d h s m = go (isNull pool p) refl
+    where
+      alone : List·Memᴰ (slots b d) (null ∷ []) → slots b d ≡ null
+      alone k = ⊎-elim (λ e. e) (λ x. absurd (List·Memᴰ·not-nil x)) (List·Memᴰ·cases-cons k)
+
+      go : (t : Bool) → isNull pool p ≡ t → (i : ℕ) × From old pool f n b d p i
+      go true q = absurd (let w = alone (rw q at m) in let z : _≡_ {A = ℕ} 0 1 = cc in omega arith)
+      go false q =
+          let r = in-run _ b d _ _ (rw q at m) in
+          (r .0, rw (r .2, r .3) at (from-slots n p (r .0) h (s q) q (r .1)))
+
+  pub pair-slots : (p : Pair) (i : ℕ) → isNull pool p ≡ false → i < pointersIn old (p .base .size)
+      → List·Memᴰ (slots (slotAt f (p .base) + 8 * i) (slotAt f (p .derived) + 8 * i)) (pointersOf old pool f p)
+  unfolding pointersOf
+  pair-slots p i e h = rw e (of-run (pointersIn old (p .base .size)) (slotAt f (p .base)) (slotAt f (p .derived)) i h)
 
 -- a slot has one address
 pub one-address : {x : Option ℕ} {a b : ℕ} → x ≡ some a → x ≡ some b → a ≡ b
 one-address {a = a} {b = b} h k = let e : some a ≡ some b = sym h ∙ k in cc
 
--- a pair of the right form that is not null has two slots
-form-slots : (m : Machine) (old : Bool) (pool : List ℕ) (p : Pair) → rightForm m old pool p ≡ true → isNull pool p ≡ false
-    → (isSlot m old (p .base) ≡ true) × (isSlot m old (p .derived) ≡ true)
+-- a pair of the right form that is not null has two locations of slots, of one size
+pub form-slots : (m : Machine) (old : Bool) (pool : List ℕ) (p : Pair) → rightForm m old pool p ≡ true → isNull pool p ≡ false
+    → (isSlot m old (p .base) ≡ true) × (isSlot m old (p .derived) ≡ true) × (sameSize old p ≡ true)
 unfolding rightForm
-form-slots m old pool p h e = and-true _ _ (rw e at h)
+form-slots m old pool p h e =
+    let a = and-true (isSlot m old (p .base)) _ (rw e at h) in
+    let b = and-true (isSlot m old (p .derived)) _ (a .1) in
+    (a .0, b .0, b .1)
 
 module _ (R : Restore) (n : ℕ) (f : Frame) where
   abbrev pool : List ℕ
   pool = readSection (R .section) .constants
+
+  abbrev old : Bool
+  old = isOld (R .section)
 
   pub record Planned (off size : ℕ) (ws : List (List Pointer)) : Type 0 where
     pub entry : Entry
@@ -163,10 +213,10 @@ module _ (R : Restore) (n : ℕ) (f : Frame) where
     pub high : f .sp + stackSize entry ≤ R .first + n
     pub off-is : off ≡ f .sp - R .first
     pub size-is : size ≡ stackSize entry
-    pub pairs-are : ws ≡ map (pointersOf pool f) (pairs (entry .body))
+    pub pairs-are : ws ≡ map (pointersOf old pool f) (pairs (entry .body))
     pub statepoint : isStatepoint (entry .body) ≡ true
-    pub forms : (p : Pair) → List·Memᴰ p (pairs (entry .body)) → rightForm (f .machine) (isOld (R .section)) pool p ≡ true
-    pub insides : (p : Pair) → List·Memᴰ p (pairs (entry .body)) → inside pool f (stackSize entry) p ≡ true
+    pub forms : (p : Pair) → List·Memᴰ p (pairs (entry .body)) → rightForm (f .machine) old pool p ≡ true
+    pub insides : (p : Pair) → List·Memᴰ p (pairs (entry .body)) → inside old pool f (stackSize entry) p ≡ true
 
   pub planned : (e : ℕ) → sectionCheck (R .section) ≡ Valid e → (off size : ℕ) (ws : List (List Pointer)) → plan R n f ≡ window off size ws → Planned off size ws
   unfolding plan planRecord planPairs extentRight ask
@@ -175,9 +225,9 @@ module _ (R : Restore) (n : ℕ) (f : Frame) where
       let o = only-held _ _ (h₀ .1) in
       let h₁ = need-held (isStatepoint (o .0 .body)) 12 _ (o .2) in
       let h₂ = need-held (extentRight (R .first) n (f .sp) (stackSize (o .0))) 16 _ (h₁ .1) in
-      let h₃ = need-held (leb (length (pairs (o .0 .body))) (R .most)) 17 _ (h₂ .1) in
+      let h₃ = need-held (not old || leb (length (pairs (o .0 .body))) (R .most)) 17 _ (h₂ .1) in
       let h₄ = every-held _ _ _ _ _ (h₃ .1) in
-      let h₄₅ = need-held (leb (length (flatten (map (pointersOf pool f) (pairs (o .0 .body))))) (R .most)) 17 _ (h₄ .1) in
+      let h₄₅ = need-held (leb (length (flatten (map (pointersOf old pool f) (pairs (o .0 .body))))) (R .most)) 17 _ (h₄ .1) in
       let h₅ = every-held _ _ _ _ _ (h₄₅ .1) in
       let x = and-true _ _ (h₂ .0) in
       let y = and-true _ _ (x .1) in
@@ -202,32 +252,61 @@ module _ (R : Restore) (n : ℕ) (f : Frame) where
       rw k
       (need-above (imageRight (R .first) n) 12 _ (need-above (tableRight (R .olds) (R .news)) 13 _ (only-above _ _ (λ x.
       need-above (isStatepoint (x .body)) 11 _ (need-above (extentRight (R .first) n (f .sp) (stackSize x)) 15 _
-      (need-above (leb (length (pairs (x .body))) (R .most)) 16 _ (every-above _ 17 0 _ _
-      (need-above (leb (length (flatten (map (pointersOf pool f) (pairs (x .body))))) (R .most)) 16 _ (every-above _ 18 0 _ _ tt)))))))))
+      (need-above (not old || leb (length (pairs (x .body))) (R .most)) 16 _ (every-above _ 17 0 _ _
+      (need-above (leb (length (flatten (map (pointersOf old pool f) (pairs (x .body))))) (R .most)) 16 _ (every-above _ 18 0 _ _ tt)))))))))
 
   pub window-pair : (e : ℕ) → sectionCheck (R .section) ≡ Valid e → (off size : ℕ) (ws : List (List Pointer)) (q : Planned off size ws)
-      → (b d : ℕ) → List·Memᴰ (slots b d) (flatten ws) → (p : Pair) × List·Memᴰ p (pairs (q .entry .body)) × From pool f size b d p
+      → (b d : ℕ) → List·Memᴰ (slots b d) (flatten ws) → (p : Pair) × List·Memᴰ p (pairs (q .entry .body)) × ((i : ℕ) × From old pool f size b d p i)
   window-pair e k off size ws q b d m =
-      let o = in-block (pointersOf pool f) (pairs (q .entry .body)) (rw (q .pairs-are) at m) in
-      (o .0, o .1, rw (q .size-is) (pair-from pool f (stackSize (q .entry)) (o .0) b d (q .insides (o .0) (o .1)) (o .2)))
+      let o = in-block (pointersOf old pool f) (pairs (q .entry .body)) (rw (q .pairs-are) at m) in
+      let form : isNull pool (o .0) ≡ false → sameSize old (o .0) ≡ true = λ z. form-slots (f .machine) old pool (o .0) (q .forms (o .0) (o .1)) z .2 in
+      (o .0, o .1, rw (q .size-is) (pair-from old pool f (stackSize (q .entry)) (o .0) b d (q .insides (o .0) (o .1)) form (o .2)))
 
   -- and is listed
   pub window-lists : (e : ℕ) → sectionCheck (R .section) ≡ Valid e → (off size : ℕ) (ws : List (List Pointer)) (q : Planned off size ws)
-      → (b d : ℕ) → List·Memᴰ (slots b d) (flatten ws) → ListedPair (R .section) f (f .sp + b) (f .sp + d)
+      → (b d : ℕ) → List·Memᴰ (slots b d) (flatten ws) → ListedPointer (R .section) f (f .sp + b) (f .sp + d)
   window-lists e k off size ws q b d m =
       let v = window-pair e k off size ws q b d m in
-      let t = form-slots (f .machine) (isOld (R .section)) pool (v .0) (q .forms (v .0) (v .1)) (v .2 .not-null) in
+      let t = form-slots (f .machine) old pool (v .0) (q .forms (v .0) (v .1)) (v .2 .1 .not-null) in
       record {
         entry = q .entry;
         one = q .one;
         statepoint = q .statepoint;
         pair = v .0;
         listed = v .1;
-        not-null = v .2 .not-null;
+        not-null = v .2 .1 .not-null;
         base-slot = t .0;
         derived-slot = t .1;
-        base-at = v .2 .base-at;
-        derived-at = v .2 .derived-at;
+        pointer = v .2 .0;
+        held = v .2 .1 .held;
+        base-at = v .2 .1 .base-at;
+        derived-at = v .2 .1 .derived-at;
+      }
+
+  -- a listed pointer is one of the window's
+  pub record Stands (off size : ℕ) (ws : List (List Pointer)) (b d : ℕ) : Type 0 where
+    pub base : ℕ
+    pub derived : ℕ
+    pub base-is : b ≡ f .sp + base
+    pub derived-is : d ≡ f .sp + derived
+    pub base-in : base + 8 ≤ size
+    pub derived-in : derived + 8 ≤ size
+    pub member : List·Memᴰ (slots base derived) (flatten ws)
+
+  pub listed-stands : (off size : ℕ) (ws : List (List Pointer)) (q : Planned off size ws) (b d : ℕ) → ListedPointer (R .section) f b d → Stands off size ws b d
+  listed-stands off size ws q b d l =
+      let same : l .entry ≡ q .entry = (let x = l .one in let y = q .one in cc) in
+      let m : List·Memᴰ (l .pair) (pairs (q .entry .body)) = rw (← same) (l .listed) in
+      let t = form-slots (f .machine) old pool (l .pair) (q .forms (l .pair) m) (l .not-null) in
+      let v = from-slots old pool f (stackSize (q .entry)) (l .pair) (l .pointer) (q .insides (l .pair) m) (t .2) (l .not-null) (l .held) in
+      record {
+        base = slotAt f (l .pair .base) + 8 * l .pointer;
+        derived = slotAt f (l .pair .derived) + 8 * l .pointer;
+        base-is = one-address (l .base-at) (v .base-at);
+        derived-is = one-address (l .derived-at) (v .derived-at);
+        base-in = rw (q .size-is) (v .base-in);
+        derived-in = rw (q .size-is) (v .derived-in);
+        member = rw (q .pairs-are) (of-block (pointersOf old pool f) (pairs (q .entry .body)) m (pair-slots old pool f (l .pair) (l .pointer) (l .not-null) (l .held)));
       }
 
   pub sound : (e : ℕ) → sectionCheck (R .section) ≡ Valid e → Sound n (plan R n f)
@@ -239,6 +318,6 @@ module _ (R : Restore) (n : ℕ) (f : Frame) where
           let q = planned e k off size ws h in
           record {
             window-in = omega arith;
-            base-in = λ b d m. window-pair e k off size ws q b d m .2 .base-in;
-            derived-in = λ b d m. window-pair e k off size ws q b d m .2 .derived-in;
+            base-in = λ b d m. window-pair e k off size ws q b d m .2 .1 .base-in;
+            derived-in = λ b d m. window-pair e k off size ws q b d m .2 .1 .derived-in;
           }

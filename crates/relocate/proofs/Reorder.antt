@@ -1,7 +1,7 @@
 -- The order of pairs does not count.
 use Prim.Native.Nat.{ℕ, suc, _≤_, _<_}
 use mathlib.Core.Path.{_≡_, refl, sym, ap, _∙_}
-use mathlib.Core.Bool.{Bool, true, false, cond}
+use mathlib.Core.Bool.{Bool, true, false, not, cond, _||_}
 use mathlib.Core.Logic.{⊎-elim}
 use mathlib.Core.Option.{Option, none, some}
 use mathlib.Core.List.{List, [], _∷_, map, flatten, List·Memᴰ, List·Memᴰ·head, List·Memᴰ·tail, List·Memᴰ·not-nil, List·Memᴰ·cases-cons, List·Permᴰ, Permᴰ·symm, Permᴰ·map}
@@ -87,12 +87,12 @@ same-entry R R′ n f e e′ w l =
     let c : length (pairs (e′ .body)) ≡ length (pairs (e .body)) = sym (perm-length p) in
     let old = isOld (R .section) in
     let pool = readSection (R .section) .constants in
-    let g = pointersOf pool f in
+    let g = pointersOf old pool f in
     let d : length (flatten (map g (pairs (e′ .body)))) ≡ length (flatten (map g (pairs (e .body)))) = sym (perm-length (blocks-perm (Permᴰ·map g p))) in
     rw (l .body-like .statepoint-same, o, c, w .old-same, w .pool-same, w .first-same, w .most-same, d)
-    (same-need (isStatepoint (e .body)) 12 _ _ (same-need (extentRight (R .first) n (f .sp) (stackSize e)) 16 _ _ (same-need (leb (length (pairs (e .body))) (R .most)) 17 _ _
+    (same-need (isStatepoint (e .body)) 12 _ _ (same-need (extentRight (R .first) n (f .sp) (stackSize e)) 16 _ _ (same-need (not old || leb (length (pairs (e .body))) (R .most)) 17 _ _
     (same-every (rightForm (f .machine) old pool) 18 0 _ _ _ _ (omega arith) p (same-need (leb (length (flatten (map g (pairs (e .body))))) (R .most)) 17 _ _
-    (same-every (inside pool f (stackSize e)) 19 0 _ _ _ _ (omega arith) p (windows (Permᴰ·map g p))))))))
+    (same-every (inside old pool f (stackSize e)) 19 0 _ _ _ _ (omega arith) p (windows (Permᴰ·map g p))))))))
 
 with-like : (a : ℕ) (es es′ : List Entry) → EntriesLike es es′ → EntriesLike (withAddress a es) (withAddress a es′)
 unfolding withAddress

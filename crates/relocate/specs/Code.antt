@@ -1,27 +1,28 @@
 -- For the code alone: nothing here has to be believed.
 -- What the code's steps rely on, and what their values mean.
-use Prim.Native.Nat.{ℕ, _+_, _*_, _-_, _≤_, _<_}
+use Prim.Native.Nat.{ℕ, zero, suc, _+_, _*_, _-_, _≤_, _<_}
 use mathlib.Core.Path.{_≡_}
 use mathlib.Core.Bool.{Bool, cond, _&&_, _||_}
 use mathlib.Core.Option.{Option, none, some}
-use mathlib.Core.List.{List}
+use mathlib.Core.List.{List, [], _∷_, map}
 use lib.Dec.{eqb, leb}
 use lib.ListN.{length, getD, drop}
 use Rattle.stackmap.specs.Layout.{kindConstIndex}
 use Rattle.stackmap.specs.Section.{Location, Record, Entry, isOld, recordsAt, numLocations, recordLength, readRecord, readSection}
 use Rattle.questions.specs.declared.LocationAnswer.{LocationAnswer}
 use Rattle.moves.specs.declared.Move.{Move}
-use Rattle.moves.specs.Limits.{pointerSize}
-use Rattle.moves.specs.Pointers.{Pointer, null, slots, orZero}
+use Rattle.moves.specs.Limits.{pointerSize, pairsMost}
+use Rattle.moves.specs.Pointers.{Pointer, null, orZero}
 use Rattle.relocate.specs.declared.Frame.{Frame}
+use Rattle.relocate.specs.declared.Machine.{Machine}
 use Rattle.relocate.specs.declared.Spot.{Spot}
 use Rattle.relocate.specs.declared.Spot.the-variants.{At, Outside}
-use Rattle.moves.specs.Plan.{Plan}
-use Rattle.relocate.specs.Limits.{kindConstant}
+use Rattle.moves.specs.Plan.{Plan, window}
+use Rattle.relocate.specs.Limits.{imageMost, kindConstant}
 use Rattle.relocate.specs.Restore.{Restore}
-use Rattle.relocate.specs.Plan.{stackSize, planRecord}
+use Rattle.relocate.specs.Plan.{every, stackSize, planRecord}
 use Rattle.relocate.specs.Relocation.{answer, moved}
-use Rattle.relocate.specs.Statepoint.{locationAt, pairsAt, Pair, pairs, isNull, plusOffset, wholly, slotAt, slotInside}
+use Rattle.relocate.specs.Statepoint.{locationAt, pairsAt, Pair, pairs, isNull, pointersIn, isSlot, sameSize, plusOffset, wholly, slotAt, slotsInside, inside, pointersFrom, pointersOf}
 use Rattle.stackmap.specs.Section.{asOffset}
 
 -- The record at a place of the section, and the section's constants.
@@ -35,6 +36,13 @@ poolOf s = readSection s .constants
 -- the plan of a frame whose one entry is e
 abbrev pub planEntry : Restore → ℕ → Frame → Entry → Plan
 planEntry R n f e = planRecord R n f (stackSize e) (e .body)
+
+-- the plan of pairs that are right in form and not too many: 19, then the window
+unfoldable pub planSlots : Restore → Frame → ℕ → List Pair → Plan
+planSlots R f size ps =
+    let old = isOld (R .section) in
+    let pool = poolOf (R .section) in
+    every (inside old pool f size) 19 0 ps (window (f .sp - R .first) size (map (pointersOf old pool f) ps))
 
 -- an answer, and the image that is left, are those of a move
 pub record Relocates (R : Restore) (im : List ℕ) (f : Frame) (r : Move) (after : List ℕ) : Type 0 where
@@ -74,22 +82,54 @@ abbrev pub spotOf : Spot → Option ℕ
 spotOf (At p) = some p
 spotOf Outside = none
 
-unfoldable pub slotIn : Frame → ℕ → Location → Option ℕ
-slotIn f n l = cond (slotInside f n l) (some (slotAt f l)) none
+unfoldable pub slotIn : Bool → Frame → ℕ → Location → Option ℕ
+slotIn old f n l = cond (slotsInside old f n l) (some (slotAt f l)) none
 
--- the same by numbers: the register, the stack pointer and the offset's 32 bits
-unfoldable pub positionIn : ℕ → ℕ → ℕ → ℕ → Option ℕ
-positionIn register sp offset n =
+-- the same by numbers: the register, the stack pointer, the offset's 32 bits, the slots
+unfoldable pub positionIn : ℕ → ℕ → ℕ → ℕ → ℕ → Option ℕ
+positionIn register sp offset k n =
     let a = plusOffset register (asOffset offset) in
-    cond (wholly sp n a) (some (orZero a - sp)) none
+    cond (wholly sp n k a) (some (orZero a - sp)) none
 
-unfoldable pub placeIn : ℕ → ℕ → Option ℕ
-placeIn p n = cond (leb (p + pointerSize) n) (some p) none
+unfoldable pub placeIn : ℕ → ℕ → ℕ → Option ℕ
+placeIn p k n = cond (leb (p + pointerSize * k) n) (some p) none
 
--- the one pointer of a pair
-unfoldable pub pointerOf : List ℕ → Frame → Pair → Pointer
-pointerOf pool f p = cond (isNull pool p) null (slots (slotAt f (p .base)) (slotAt f (p .derived)))
+-- what the two locations of a pair say, as the reader answers them
+abbrev pub pairSaid : LocationAnswer → LocationAnswer → Pair
+pairSaid b d = record { base = locationOf b; derived = locationOf d }
 
--- live is 0 exactly at the null pairs, of the first n
-pub record Lives (pool : List ℕ) (r : Record) (live : List ℕ) (n : ℕ) : Type 0 where
-  pub at : (k : ℕ) → k < n → eqb (getD live k 0) 0 ≡ isNull pool (pairNumber r k)
+unfoldable pub nullSaid : LocationAnswer → LocationAnswer → Bool
+nullSaid b d = zeroSaid b && zeroSaid d
+
+unfoldable pub formSaid : Machine → Bool → LocationAnswer → LocationAnswer → Bool
+formSaid m old b d =
+    nullSaid b d || (isSlot m old (locationOf b) && (isSlot m old (locationOf d) && sameSize old (pairSaid b d)))
+
+-- the pointers of a record's pairs, pair by pair
+abbrev pub pointersBy : Bool → List ℕ → Frame → Record → List (List Pointer)
+pointersBy old pool f r = map (pointersOf old pool f) (pairs r)
+
+-- how many pointers a pair is, and all pairs are
+unfoldable pub countOf : Bool → List ℕ → Pair → ℕ
+countOf old pool p = cond (isNull pool p) 1 (pointersIn old (p .base .size))
+
+abbrev pub totalOf : (Pair → ℕ) → List Pair → ℕ
+totalOf g [] = 0
+totalOf g (p ∷ ps) = g p + totalOf g ps
+
+-- the arrays that a move takes have room for all pointers that it may have
+pub record Room (live bases derived : List ℕ) : Type 0 where
+  pub live-room : length live ≡ pairsMost
+  pub bases-room : length bases ≡ pairsMost
+  pub derived-room : length derived ≡ pairsMost
+
+-- a pair as so many pointers from two slots on; none is the null pointer
+abbrev pub runOf : ℕ → ℕ → ℕ → List Pointer
+runOf zero b d = null ∷ []
+runOf (suc k) b d = pointersFrom (suc k) b d
+
+-- so it is, and its slots are in an image
+pub record Looked (old : Bool) (pool : List ℕ) (f : Frame) (p : Pair) (k b d : ℕ) : Type 0 where
+  pub pointers-are : runOf k b d ≡ pointersOf old pool f p
+  pub base-fits : b + pointerSize * k ≤ imageMost
+  pub derived-fits : d + pointerSize * k ≤ imageMost

@@ -28,3 +28,7 @@ headLocations = 3
 
 abbrev pub deoptAt : ℕ
 deoptAt = 2
+
+-- pointers of one location
+abbrev pub locationMost : ℕ
+locationMost = 256

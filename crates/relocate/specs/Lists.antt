@@ -9,7 +9,7 @@ use Rattle.moves.specs.Limits.{pointerSize}
 use Rattle.moves.specs.Window.{In}
 use Rattle.relocate.specs.declared.Frame.{Frame}
 use Rattle.relocate.specs.Restore.{Restore}
-use Rattle.relocate.specs.Relocation.{answer, moved, InExtent, ListedPair, newContentAt}
+use Rattle.relocate.specs.Relocation.{answer, moved, InExtent, ListedPointer, newContentAt}
 
 -- the moves run one after another, each on the image as the last one left it
 module _ (R : Restore) where
@@ -32,7 +32,7 @@ module _ (R : Restore) (im : List ℕ) where
     pub frame : Frame
     pub in-list : List·Memᴰ frame fs
     pub accepted : answer R im frame .number ≡ 0
-    pub lists : ListedPair (R .section) frame b d
+    pub lists : ListedPointer (R .section) frame b d
     pub inside : In d pointerSize (R .first + i)
 
   -- Each move's answer equals its frame's plain answer. In the final image, a byte in a derived slot of an accepted frame is

@@ -44,21 +44,18 @@ unfoldable pub extentRight : ℕ → ℕ → ℕ → ℕ → Bool
 extentRight first n sp size =
     not (eqb size stackSizeUnknown) && (leb first sp && leb (sp + size) (first + n))
 
--- whether 17 is tested before 18, over the pairs: in both versions
-abbrev pub pairsFirst : Bool → Bool
-pairsFirst old = true
-
 module _ (R : Restore) where
-  -- 17, 18, 17, 19, of the pairs of a frame whose extent is so many bytes: 17 first over the pairs, then over the pointers
+  -- 17, 18, 17, 19, of the pairs of a frame whose extent is so many bytes. In version 1 17 is over the pairs and comes before 18; in version 3
+  -- it is over the pointers and comes after 18. (In version 1 pointers are pairs, so the second 17 is never given.)
   unfoldable pub planPairs : Frame → ℕ → List Pair → Plan
   planPairs f size ps =
       let old = isOld (R .section) in
       let pool = readSection (R .section) .constants in
-      let pss = map (pointersOf pool f) ps in
-      need (not (pairsFirst old) || leb (length ps) (R .most)) (refuse 17 0)
+      let pss = map (pointersOf old pool f) ps in
+      need (not old || leb (length ps) (R .most)) (refuse 17 0)
       (every (rightForm (f .machine) old pool) 18 0 ps
       (need (leb (length (flatten pss)) (R .most)) (refuse 17 0)
-      (every (inside pool f size) 19 0 ps
+      (every (inside old pool f size) 19 0 ps
       (window (f .sp - R .first) size pss))))
 
   -- 12, 16, then 17, 18, 19, of a frame whose one record is r, of a function with this stack size, in an image of n bytes

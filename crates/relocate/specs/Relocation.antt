@@ -14,11 +14,11 @@ use Rattle.moves.specs.Pointers.{newContent}
 use Rattle.moves.specs.Plan.{says, leaves}
 use Rattle.relocate.specs.declared.Frame.{Frame}
 use Rattle.relocate.specs.Restore.{Restore}
-use Rattle.relocate.specs.Statepoint.{isStatepoint, Pair, pairs, isNull, isSlot, slotAddress}
+use Rattle.relocate.specs.Statepoint.{isStatepoint, Pair, pairs, isNull, isSlot, pointersIn, slotNumber}
 use Rattle.relocate.specs.Plan.{plan, recordsOf, stackSize}
 
 module _ (R : Restore) where
-  -- the answer: a refusal's number and place, or 0 and the number of pairs, null ones included
+  -- the answer: a refusal's number and place, or 0 and the number of pointers, null ones included
   unfoldable pub answer : List ℕ → Frame → Move
   answer im f = says (lookUp (R .olds) (R .news)) im (plan R (length im) f)
 
@@ -49,9 +49,9 @@ pub record InExtent (s : List ℕ) (f : Frame) (a : ℕ) : Type 0 where
   pub low : extentOf s f .start ≤ a
   pub high : a < extentOf s f .end
 
--- The frame's one record is a statepoint, and lists a pair that is not null and whose locations are slots: its base slot starts at the
--- address b, and its derived slot at d.
-pub record ListedPair (s : List ℕ) (f : Frame) (b d : ℕ) : Type 0 where
+-- The frame's one record is a statepoint, and lists a pair that is not null and whose locations are slots; of one of its pointers the base
+-- slot starts at the address b, and the derived slot at d.
+pub record ListedPointer (s : List ℕ) (f : Frame) (b d : ℕ) : Type 0 where
   pub entry : Entry
   pub one : OneRecord s f entry
   pub statepoint : isStatepoint (entry .body) ≡ true
@@ -60,8 +60,10 @@ pub record ListedPair (s : List ℕ) (f : Frame) (b d : ℕ) : Type 0 where
   pub not-null : isNull (readSection s .constants) pair ≡ false
   pub base-slot : isSlot (f .machine) (isOld s) (pair .base) ≡ true
   pub derived-slot : isSlot (f .machine) (isOld s) (pair .derived) ≡ true
-  pub base-at : slotAddress f (pair .base) ≡ some b
-  pub derived-at : slotAddress f (pair .derived) ≡ some d
+  pub pointer : ℕ
+  pub held : pointer < pointersIn (isOld s) (pair .base .size)
+  pub base-at : slotNumber f (pair .base) pointer ≡ some b
+  pub derived-at : slotNumber f (pair .derived) pointer ≡ some d
 
 -- the new content of a derived slot at the address d with its base slot at b, by the image's bytes
 abbrev pub newContentAt : Restore → List ℕ → ℕ → ℕ → ℕ

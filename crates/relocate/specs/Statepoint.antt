@@ -1,5 +1,5 @@
 -- Statepoints and their pairs, in the words and order of document 01, "Statepoints and relocation".
-use Prim.Native.Nat.{ℕ, _+_, _-_, _*_, _%_}
+use Prim.Native.Nat.{ℕ, zero, suc, _+_, _-_, _*_, _/_, _%_}
 use mathlib.Core.Bool.{Bool, true, false, cond, _&&_, _||_}
 use mathlib.Core.Option.{Option, none, some}
 use mathlib.Core.List.{List, [], _∷_}
@@ -11,7 +11,7 @@ use Rattle.moves.specs.Limits.{pointerSize}
 use Rattle.moves.specs.Pointers.{Pointer, null, slots, orZero}
 use Rattle.relocate.specs.declared.Frame.{Frame}
 use Rattle.relocate.specs.declared.Machine.{Machine}
-use Rattle.relocate.specs.Limits.{framePointer, stackPointer, kindIndirect, kindConstant, headLocations, deoptAt}
+use Rattle.relocate.specs.Limits.{framePointer, stackPointer, kindIndirect, kindConstant, headLocations, deoptAt, locationMost}
 use Rattle.questions.specs.Questions.{constantOf}
 
 -- what is read past the last location
@@ -69,20 +69,30 @@ isZero pool l = eqb (constantOf pool l) 0 && (eqb (l .kind) kindConstant || eqb 
 unfoldable pub isNull : List ℕ → Pair → Bool
 isNull pool p = isZero pool (p .base) && isZero pool (p .derived)
 
--- size 8; in version 1, whose second byte of a location may hold any number, 0 or 8
+-- The size of a location. In version 1, whose second byte of a location may hold any number, it is 0 or 8, and means one pointer; in version 3
+-- a size of 8N bytes, N from 1 to 256, means N pointers one after another. `old` is true for version 1.
+
 unfoldable pub sizeRight : Bool → ℕ → Bool
 sizeRight true n = eqb n pointerSize || eqb n 0
-sizeRight false n = eqb n pointerSize
+sizeRight false n = eqb (n % pointerSize) 0 && (leb 1 (n / pointerSize) && leb (n / pointerSize) locationMost)
 
--- kind 3, the right size, and the machine's frame or stack pointer; `old` is true for version 1
+unfoldable pub pointersIn : Bool → ℕ → ℕ
+pointersIn true n = 1
+pointersIn false n = n / pointerSize
+
+-- kind 3, the right size, and the machine's frame or stack pointer
 unfoldable pub isSlot : Machine → Bool → Location → Bool
 isSlot m old l =
     eqb (l .kind) kindIndirect
     && (sizeRight old (l .size) && (eqb (l .register) (framePointer m) || eqb (l .register) (stackPointer m)))
 
+-- in version 3 both locations of a pair have equal size
+unfoldable pub sameSize : Bool → Pair → Bool
+sameSize old p = old || eqb (p .base .size) (p .derived .size)
+
 -- otherwise both must be slots
 unfoldable pub rightForm : Machine → Bool → List ℕ → Pair → Bool
-rightForm m old pool p = isNull pool p || (isSlot m old (p .base) && isSlot m old (p .derived))
+rightForm m old pool p = isNull pool p || (isSlot m old (p .base) && (isSlot m old (p .derived) && sameSize old p))
 
 -- what the register holds that a slot names
 unfoldable pub registerOf : Frame → Location → ℕ
@@ -93,25 +103,38 @@ abbrev pub plusOffset : ℕ → Offset → Option ℕ
 plusOffset register (up n) = some (register + n)
 plusOffset register (down n) = cond (leb n register) (some (register - n)) none
 
--- a slot is 8 bytes from this address on
+-- a slot is 8 bytes; the first one of a location starts at this address, and number i so many bytes after it
 unfoldable pub slotAddress : Frame → Location → Option ℕ
 slotAddress f l = plusOffset (registerOf f l) (asOffset (l .offset))
 
--- they lie wholly in the n bytes from the stack pointer
-abbrev pub wholly : ℕ → ℕ → Option ℕ → Bool
-wholly sp n none = false
-wholly sp n (some a) = leb sp a && leb (a + pointerSize) (sp + n)
+abbrev pub onward : ℕ → Option ℕ → Option ℕ
+onward n none = none
+onward n (some a) = some (a + n)
 
-unfoldable pub slotInside : Frame → ℕ → Location → Bool
-slotInside f n l = wholly (f .sp) n (slotAddress f l)
+abbrev pub slotNumber : Frame → Location → ℕ → Option ℕ
+slotNumber f l i = onward (pointerSize * i) (slotAddress f l)
 
-unfoldable pub inside : List ℕ → Frame → ℕ → Pair → Bool
-inside pool f n p = isNull pool p || (slotInside f n (p .base) && slotInside f n (p .derived))
+-- k slots, the first of them at this address, lie wholly in the n bytes from the stack pointer
+abbrev pub wholly : ℕ → ℕ → ℕ → Option ℕ → Bool
+wholly sp n k none = false
+wholly sp n k (some a) = leb sp a && leb (a + pointerSize * k) (sp + n)
 
--- a slot that is inside starts so many bytes after the stack pointer
+unfoldable pub slotsInside : Bool → Frame → ℕ → Location → Bool
+slotsInside old f n l = wholly (f .sp) n (pointersIn old (l .size)) (slotAddress f l)
+
+unfoldable pub inside : Bool → List ℕ → Frame → ℕ → Pair → Bool
+inside old pool f n p = isNull pool p || (slotsInside old f n (p .base) && slotsInside old f n (p .derived))
+
+-- the first slot of a location that is inside starts so many bytes after the stack pointer
 unfoldable pub slotAt : Frame → Location → ℕ
 slotAt f l = orZero (slotAddress f l) - f .sp
 
--- each pair is one pointer: its slots, counted from the stack pointer
-unfoldable pub pointersOf : List ℕ → Frame → Pair → List Pointer
-pointersOf pool f p = cond (isNull pool p) (null ∷ []) (slots (slotAt f (p .base)) (slotAt f (p .derived)) ∷ [])
+-- n pointers, from these two slots on, in rising address order
+abbrev pub pointersFrom : ℕ → ℕ → ℕ → List Pointer
+pointersFrom zero b d = []
+pointersFrom (suc n) b d = slots b d ∷ pointersFrom n (b + pointerSize) (d + pointerSize)
+
+-- the pointers of a pair, by their slots, counted from the stack pointer; a null pair is one pointer, without slots
+unfoldable pub pointersOf : Bool → List ℕ → Frame → Pair → List Pointer
+pointersOf old pool f p =
+    cond (isNull pool p) (null ∷ []) (pointersFrom (pointersIn old (p .base .size)) (slotAt f (p .base)) (slotAt f (p .derived)))

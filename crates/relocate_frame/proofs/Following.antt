@@ -1,29 +1,33 @@
 -- What the code answers and leaves is what the plan gives: the refusals of pairs, and the arrays of a window.
-use Prim.Native.Nat.{ℕ, zero, suc, _+_, _*_, _-_, _≤_, _<_}
+use Prim.Native.Nat.{ℕ, suc, _+_, _≤_, _<_}
 use mathlib.Core.Path.{_≡_, refl, sym, ap, _∙_}
 use mathlib.Core.Bool.{Bool, true, false, not, cond}
-use mathlib.Core.List.{List, [], _∷_, map, flatten}
+use mathlib.Core.Option.{Option}
+use mathlib.Core.List.{List, [], _∷_, flatten, List·Memᴰ}
 use native.Mathlib.Omega.{arith}
-use native.Mathlib.Nat.{not-suc-le-zero, zero-add}
-use borrow.Author.Tests.{lt-ltb, le-ltb, eqb-false, ne-eqb, not-false}
+use native.Mathlib.Nat.{zero-add}
+use borrow.Author.Tests.{lt-ltb, le-ltb, ne-eqb, not-false}
 use lib.Dec.{ltb}
-use lib.ListN.{length, getD, length-map}
-use lib.Seq.{ext-getD}
+use lib.ListN.{length, getD}
 use Rattle.stackmap.specs.Section.{Record}
-use Rattle.stackmap.proofs.Tests.{and-true}
+use Rattle.moves.specs.declared.Move.{Move}
 use Rattle.moves.specs.Search.{lowestFrom, lowest}
 use Rattle.moves.specs.Pointers.{Pointer, null, slots}
-use Rattle.moves.specs.Plan.{Plan, refuse}
-use Rattle.moves.specs.Arrays.{pointerAt, pointersOf as held, Within, Filled}
-use Rattle.moves.proofs.Searches.{lowest-all}
-use Rattle.moves.proofs.Blocks.{ones, flatten-ones}
+use Rattle.moves.specs.Plan.{Plan, refuse, window, atPair}
+use Rattle.moves.specs.Arrays.{pointerAt, pointersOf as held, Within}
+use Rattle.moves.specs.Window.{part, splice}
+use Rattle.moves.specs.Settle.{settled}
+use Rattle.moves.specs.Code.{settleIf, SettlesIn, Follows}
+use Rattle.moves.proofs.Searches.{lowest-all, mem-index, index-mem}
+use Rattle.moves.proofs.Splice.{splice-if}
+use Rattle.moves.proofs.Blocks.{in-block}
 use Rattle.moves_window.proofs.Meets.{pointers-length, pointers-at}
 use Rattle.relocate.specs.declared.Frame.{Frame}
-use Rattle.relocate.specs.Statepoint.{locationAt, pairsAt, Pair, pairs, isNull, slotAt, slotInside, inside, pointersOf}
+use Rattle.relocate.specs.Statepoint.{Pair, pairs, rightForm, inside, pointersOf}
 use Rattle.relocate.specs.Plan.{every}
-use Rattle.relocate.specs.Code.{pairNumber, pointerOf, Lives}
+use Rattle.relocate.specs.Code.{pairNumber, pointersBy}
 use Rattle.relocate.proofs.Pairing.{noPair, pair-at}
-use Rattle.relocate.proofs.Planned.{every-yes, every-no, from-slots}
+use Rattle.relocate.proofs.Planned.{every-yes, every-no, pair-from, form-slots}
 
 -- Every pair passes, or the lowest that does not is refused.
 
@@ -70,90 +74,46 @@ pub each-passed : (good : Pair → Bool) (r : Record) (count j : ℕ) → j ≡ 
 each-passed good r count j e h p l =
     not-false (good (pairNumber r p)) (lowest-all (λ q. not (good (pairNumber r q))) count (rw e at h) p l)
 
--- Each pair is one pointer, and the arrays hold them.
+-- The arrays hold the pointers of all pairs, and so they lie in the window.
 
-one-pointer : (pool : List ℕ) (f : Frame) (p : Pair) → pointersOf pool f p ≡ pointerOf pool f p ∷ []
-unfolding pointersOf pointerOf
-one-pointer pool f p = go (isNull pool p)
-  where
-    go : (t : Bool)
-        → cond t (null ∷ []) (slots (slotAt f (p .base)) (slotAt f (p .derived)) ∷ []) ≡ cond t null (slots (slotAt f (p .base)) (slotAt f (p .derived))) ∷ []
-    go true = refl
-    go false = refl
+all-pairs : (good : Pair → Bool) (r : Record) (count : ℕ) → count ≡ length (pairs r) → ((p : ℕ) → p < count → good (pairNumber r p) ≡ true)
+    → (p : Pair) → List·Memᴰ p (pairs r) → good p ≡ true
+all-pairs good r count c h p m =
+    let o = mem-index noPair m in
+    let e : pairNumber r (o .0) ≡ p = sym (pair-at r (o .0) (o .1)) ∙ o .2 in
+    rw (← e) (h (o .0) (omega (arith, o .1)))
 
-one-each : (pool : List ℕ) (f : Frame) (ps : List Pair) → map (pointersOf pool f) ps ≡ ones (map (pointerOf pool f) ps)
-one-each pool f [] = refl
-one-each pool f (p ∷ ps) = rw (one-pointer pool f p, one-each pool f ps)
+module _ (old : Bool) (pool : List ℕ) (r : Record) (f : Frame) (size count n : ℕ) (live bases derived : List ℕ) (c : count ≡ length (pairs r))
+    (forms : (p : ℕ) → p < count → rightForm (f .machine) old pool (pairNumber r p) ≡ true)
+    (insides : (p : ℕ) → p < count → inside old pool f size (pairNumber r p) ≡ true)
+    (h : held n live bases derived ≡ flatten (pointersBy old pool f r)) where
+  slots-in : (b d : ℕ) → List·Memᴰ (slots b d) (flatten (pointersBy old pool f r)) → (b + 8 ≤ size) × (d + 8 ≤ size)
+  slots-in b d m =
+      let o = in-block (pointersOf old pool f) (pairs r) m in
+      let i = all-pairs (inside old pool f size) r count c insides (o .0) (o .1) in
+      let g = all-pairs (rightForm (f .machine) old pool) r count c forms (o .0) (o .1) in
+      let v = pair-from old pool f size (o .0) b d i (λ z. form-slots (f .machine) old pool (o .0) g z .2) (o .2) in
+      (v .1 .base-in, v .1 .derived-in)
 
-pub pointers-counted : (pool : List ℕ) (f : Frame) (ps : List Pair) → length (flatten (map (pointersOf pool f) ps)) ≡ length ps
-pointers-counted pool f ps = rw (one-each pool f ps, flatten-ones (map (pointerOf pool f) ps)) (length-map ps (pointerOf pool f))
+  here : (k : ℕ) → k < n → (getD live k 0 ≡ 0 → ⊥) → List·Memᴰ (slots (getD bases k 0) (getD derived k 0)) (flatten (pointersBy old pool f r))
+  unfolding pointerAt
+  here k l q =
+      let e : pointerAt live bases derived k ≡ slots (getD bases k 0) (getD derived k 0) = rw (ne-eqb (getD live k 0) 0 q) in
+      let m = index-mem null (held n live bases derived) k (rw (pointers-length live bases derived n) l) in
+      rw (← h, ← e, ← pointers-at live bases derived n k l) m
 
-map-at : (g : Pair → Pointer) (ps : List Pair) (k : ℕ) → k < length ps → getD (map g ps) k null ≡ g (getD ps k noPair)
-map-at g [] k h = absurd (not-suc-le-zero h)
-map-at g (p ∷ ps) zero h = refl
-map-at g (p ∷ ps) (suc k) h = map-at g ps k (omega arith)
+  pub arrays-within : Within size n live bases derived
+  arrays-within =
+      record {
+        base-in = λ k l q. slots-in _ _ (here k l q) .0;
+        derived-in = λ k l q. slots-in _ _ (here k l q) .1;
+      }
 
-module _ (pool : List ℕ) (r : Record) (f : Frame) (start n : ℕ) (live bases derived : List ℕ) (e : start ≡ pairsAt r) (c : n ≡ length (pairs r))
-    (lives : Lives pool r live n)
-    (fb : Filled (λ k. slotAt f (locationAt r (start + 2 * k))) live bases n)
-    (fd : Filled (λ k. slotAt f (locationAt r (start + 1 + 2 * k))) live derived n) where
-  is-live : (k : ℕ) → k < n → isNull pool (pairNumber r k) ≡ false → getD live k 0 ≡ 0 → ⊥
-  is-live k h q = eqb-false (getD live k 0) 0 (lives .at k h ∙ q)
-
-  base-here : (k : ℕ) → k < n → isNull pool (pairNumber r k) ≡ false → getD bases k 0 ≡ slotAt f (pairNumber r k .base)
-  base-here k h q = fb .at k h (is-live k h q) ∙ rw e
-
-  derived-here : (k : ℕ) → k < n → isNull pool (pairNumber r k) ≡ false → getD derived k 0 ≡ slotAt f (pairNumber r k .derived)
-  derived-here k h q =
-      let z : start + 1 + 2 * k ≡ pairsAt r + 2 * k + 1 = omega arith in
-      fd .at k h (is-live k h q) ∙ ap (λ (j : ℕ). slotAt f (locationAt r j)) z
-
-  pointer-here : (k : ℕ) → k < n → pointerAt live bases derived k ≡ pointerOf pool f (pairNumber r k)
-  unfolding pointerAt pointerOf
-  pointer-here k h = go (isNull pool (pairNumber r k)) refl
-    where
-      go : (b : Bool) → isNull pool (pairNumber r k) ≡ b → pointerAt live bases derived k ≡ pointerOf pool f (pairNumber r k)
-      go true q = rw (lives .at k h, q)
-      go false q = rw (lives .at k h, q, base-here k h q, derived-here k h q)
-
-  held-here : held n live bases derived ≡ map (pointerOf pool f) (pairs r)
-  held-here =
-      ext-getD null _ _ (pointers-length live bases derived n ∙ c ∙ sym (length-map (pairs r) (pointerOf pool f)))
-      (λ k h.
-      let l : k < n = omega (arith, pointers-length live bases derived n) in
-      pointers-at live bases derived n k l ∙ pointer-here k l
-      ∙ ap (pointerOf pool f) (sym (pair-at r k (omega arith)))
-      ∙ sym (map-at (pointerOf pool f) (pairs r) k (omega arith)))
-
-  pub arrays-meet : map (pointersOf pool f) (pairs r) ≡ ones (held n live bases derived)
-  arrays-meet = one-each pool f (pairs r) ∙ ap ones (sym held-here)
-
-  -- and lie in the window
-  module _ (size : ℕ) (insides : (k : ℕ) → k < n → inside pool f size (pairNumber r k) ≡ true) where
-    pub arrays-within : Within size n live bases derived
-    arrays-within =
-        record {
-          base-in = λ k h l. let q = not-null k h l in rw (base-here k h q) (from-slots pool f size (pairNumber r k) (insides k h) q .base-in);
-          derived-in = λ k h l. let q = not-null k h l in rw (derived-here k h q) (from-slots pool f size (pairNumber r k) (insides k h) q .derived-in);
-        }
-      where
-        not-null : (k : ℕ) → k < n → (getD live k 0 ≡ 0 → ⊥) → isNull pool (pairNumber r k) ≡ false
-        not-null k h l = sym (lives .at k h) ∙ ne-eqb (getD live k 0) 0 l
-
--- the slots of the pairs that are not null are inside
-module _ (pool : List ℕ) (r : Record) (f : Frame) (size start n : ℕ) (live : List ℕ) (e : start ≡ pairsAt r) (lives : Lives pool r live n)
-    (insides : (k : ℕ) → k < n → inside pool f size (pairNumber r k) ≡ true) where
-  both-inside : (k : ℕ) → k < n → (getD live k 0 ≡ 0 → ⊥)
-      → (slotInside f size (pairNumber r k .base) ≡ true) × (slotInside f size (pairNumber r k .derived) ≡ true)
-  unfolding inside
-  both-inside k h l =
-      let q : isNull pool (pairNumber r k) ≡ false = sym (lives .at k h) ∙ ne-eqb (getD live k 0) 0 l in
-      and-true _ _ (rw q at (insides k h))
-
-  pub bases-inside : (k : ℕ) → k < n → (getD live k 0 ≡ 0 → ⊥) → slotInside f size (locationAt r (start + 2 * k)) ≡ true
-  bases-inside k h l = rw e (both-inside k h l .0)
-
-  pub derived-inside : (k : ℕ) → k < n → (getD live k 0 ≡ 0 → ⊥) → slotInside f size (locationAt r (start + 1 + 2 * k)) ≡ true
-  derived-inside k h l =
-      let z : start + 1 + 2 * k ≡ pairsAt r + 2 * k + 1 = omega arith in
-      ap (λ (j : ℕ). slotInside f size (locationAt r j)) z ∙ both-inside k h l .1
+-- A window's answer, with the pair for the pointer, follows the plan.
+pub follows-pairs : (table : ℕ → Option ℕ) (write : Bool) (m r : Move) (im after : List ℕ) (off n : ℕ) (ps : List Pointer) (pss : List (List Pointer))
+    → ps ≡ flatten pss → r ≡ atPair pss m → SettlesIn table write m im after off n ps → Follows write r after table im (window off n pss)
+follows-pairs table write m r im after off n ps pss e a h =
+    record {
+      answer = a ∙ ap (atPair pss) (h .answer) ∙ ap (λ (qs : List Pointer). atPair pss (settled table qs (part im off n))) e;
+      left = h .left ∙ ap (λ (qs : List Pointer). splice im off n (settleIf table write qs (part im off n))) e ∙ splice-if write table im off n pss;
+    }

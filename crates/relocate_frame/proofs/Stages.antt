@@ -1,12 +1,12 @@
 -- The stages of a plan, each by the tests that lead to it.
 use Prim.Native.Nat.{ℕ, _+_, _-_, _^_, _≤_, _<_}
 use mathlib.Core.Path.{_≡_, refl, _∙_}
-use mathlib.Core.Bool.{Bool, true, false, not, _&&_}
+use mathlib.Core.Bool.{Bool, true, false, not, _&&_, _||_}
 use mathlib.Core.Option.{Option}
-use mathlib.Core.List.{List, map, flatten}
+use mathlib.Core.List.{List, flatten}
 use native.Mathlib.Omega.{arith}
-use borrow.Author.Tests.{leb-true, le-leb, lt-leb, eq-eqb, ne-eqb}
-use lib.Dec.{eqb, leb}
+use borrow.Author.Tests.{leb-true, leb-false, le-leb, lt-leb, lt-ltb, le-ltb, eq-eqb, ne-eqb}
+use lib.Dec.{eqb, leb, ltb}
 use lib.ListN.{length}
 use Rattle.wire.specs.Word.{Bytes}
 use Rattle.stackmap.specs.Section.{Record, Entry, isOld}
@@ -26,11 +26,11 @@ use Rattle.moves.specs.Code.{Follows}
 use Rattle.relocate.specs.declared.Frame.{Frame}
 use Rattle.relocate.specs.Limits.{imageMost}
 use Rattle.relocate.specs.Restore.{Restore}
-use Rattle.relocate.specs.Statepoint.{isStatepoint, pairs, rightForm, inside, pointersOf}
+use Rattle.relocate.specs.Statepoint.{isStatepoint, pairs, rightForm, inside}
 use Rattle.relocate.specs.Plan.{recordsOf, only, stackSize, imageRight, extentRight, planPairs, planRecord, plan}
 use Rattle.relocate.specs.Relocation.{answer, moved}
-use Rattle.relocate.specs.Code.{recordOf, poolOf, planEntry, Relocates, pairNumber}
-use Rattle.relocate_frame.proofs.Following.{every-refused, every-passed, pointers-counted}
+use Rattle.relocate.specs.Code.{recordOf, poolOf, planEntry, planSlots, Relocates, pairNumber, pointersBy}
+use Rattle.relocate_frame.proofs.Following.{every-refused, every-passed}
 use Rattle.relocate_frame.proofs.Asking.{one-found, body-is, size-is}
 
 -- a refusal follows a plan that is one
@@ -85,40 +85,55 @@ module _ (first n rsp size : ℕ) where
       let b = and-true (leb first rsp) (leb (rsp + size) (first + n)) (a .1) in
       (leb-true _ _ (b .0), leb-true _ _ (b .1))
 
--- 18, 19
+-- 18, 17 over the pointers, 19
 
-module _ (R : Restore) (f : Frame) (size : ℕ) (r : Record) (count : ℕ) (c : count ≡ length (pairs r)) (few : count ≤ R .most) where
-  abbrev old : Bool
-  old = isOld (R .section)
-
+module _ (R : Restore) (f : Frame) (size : ℕ) (r : Record) (count : ℕ) (c : count ≡ length (pairs r)) (old : Bool) (is : old ≡ isOld (R .section)) where
   abbrev pool : List ℕ
   pool = poolOf (R .section)
 
-  few-pairs : leb (length (pairs r)) (R .most) ≡ true
-  few-pairs = le-leb _ _ (rw c at few)
+  module _ (few : old ≡ true → count ≤ R .most) (wrong : ℕ) (w : wrong ≡ lowest (λ p. not (rightForm (f .machine) old pool (pairNumber r p))) count) where
+    few-pairs : (not old || leb (length (pairs r)) (R .most)) ≡ true
+    few-pairs = go old refl
+      where
+        go : (t : Bool) → old ≡ t → (not t || leb (length (pairs r)) (R .most)) ≡ true
+        go true q = le-leb _ _ (rw c at (few q))
+        go false q = refl
 
-  few-pointers : leb (length (flatten (map (pointersOf pool f) (pairs r)))) (R .most) ≡ true
-  few-pointers = rw (pointers-counted pool f (pairs r)) few-pairs
-
-  module _ (wrong : ℕ) (w : wrong ≡ lowest (λ p. not (rightForm (f .machine) old pool (pairNumber r p))) count) where
     pub pairs-18 : wrong < count → planPairs R f size (pairs r) ≡ refuse 18 wrong
     unfolding planPairs
-    pairs-18 h = rw few-pairs (every-refused (rightForm (f .machine) old pool) 18 r _ count wrong c w h)
+    pairs-18 h = rw (← is, few-pairs) (every-refused (rightForm (f .machine) old pool) 18 r _ count wrong c w h)
 
-    module _ (right : count ≤ wrong) (out : ℕ) (o : out ≡ lowest (λ p. not (inside pool f size (pairNumber r p))) count) where
-      pub pairs-19 : out < count → planPairs R f size (pairs r) ≡ refuse 19 out
+    module _ (right : count ≤ wrong) (pointers : ℕ) (e : pointers ≡ length (flatten (pointersBy old pool f r))) where
+      pub pairs-17 : R .most < pointers → planPairs R f size (pairs r) ≡ refuse 17 0
       unfolding planPairs
-      pairs-19 h =
-          rw (few-pairs, few-pointers)
-          (every-passed (rightForm (f .machine) old pool) 18 r _ count wrong c w right ∙ every-refused (inside pool f size) 19 r _ count out c o h)
+      pairs-17 h = rw (← is, few-pairs, ← e, lt-leb pointers (R .most) h) (every-passed (rightForm (f .machine) old pool) 18 r _ count wrong c w right)
 
-      pub pairs-on : count ≤ out → (off : ℕ) → off ≡ f .sp - R .first
-          → planPairs R f size (pairs r) ≡ window off (off + size - off) (map (pointersOf pool f) (pairs r))
-      unfolding planPairs
-      pairs-on h off e =
-          let z : off + size - off ≡ size = omega arith in
-          rw (few-pairs, few-pointers)
-          (every-passed (rightForm (f .machine) old pool) 18 r _ count wrong c w right ∙ every-passed (inside pool f size) 19 r _ count out c o h ∙ rw (z, e))
+      pub pairs-on : pointers ≤ R .most → planPairs R f size (pairs r) ≡ planSlots R f size (pairs r)
+      unfolding planPairs planSlots
+      pairs-on h = rw (← is, few-pairs, ← e, le-leb pointers (R .most) h) (every-passed (rightForm (f .machine) old pool) 18 r _ count wrong c w right)
+
+  module _ (out : ℕ) (o : out ≡ lowest (λ p. not (inside old pool f size (pairNumber r p))) count) where
+    pub slots-19 : out < count → planSlots R f size (pairs r) ≡ refuse 19 out
+    unfolding planSlots
+    slots-19 h = rw (← is) (every-refused (inside old pool f size) 19 r _ count out c o h)
+
+    pub slots-on : count ≤ out → (off : ℕ) → off ≡ f .sp - R .first → planSlots R f size (pairs r) ≡ window off (off + size - off) (pointersBy old pool f r)
+    unfolding planSlots
+    slots-on h off e =
+        let z : off + size - off ≡ size = omega arith in
+        rw (← is) (every-passed (inside old pool f size) 19 r _ count out c o h ∙ rw (z, e))
+
+-- in version 1 there are few pairs
+pub few-old : (old : Bool) (n : ℕ) → (not old || leb n 256) ≡ true → old ≡ true → n ≤ 256
+few-old old n h e = leb-true n 256 (rw e at h)
+
+-- more than the most, as the code compares
+pub many-old : (n : ℕ) → not (ltb 256 n) ≡ leb n 256
+many-old n = go (leb n 256) refl
+  where
+    go : (b : Bool) → leb n 256 ≡ b → not (ltb 256 n) ≡ leb n 256
+    go true e = rw (e, le-ltb 256 n (leb-true n 256 e))
+    go false e = rw (e, lt-ltb 256 n (leb-false n 256 e))
 
 -- 12, 16, 17
 
@@ -133,9 +148,9 @@ module _ (R : Restore) (n : ℕ) (f : Frame) (size : ℕ) (r : Record) where
     record-16 h = rw (s, h)
 
     module _ (e : extentRight (R .first) n (f .sp) size ≡ true) (count : ℕ) (c : count ≡ length (pairs r)) where
-      pub record-17 : R .most < count → planRecord R n f size r ≡ refuse 17 0
+      pub record-17 : (not (isOld (R .section)) || leb count (R .most)) ≡ false → planRecord R n f size r ≡ refuse 17 0
       unfolding planRecord planPairs
-      record-17 h = rw (s, e, ← c, lt-leb count (R .most) h)
+      record-17 h = rw (s, e, ← c, h)
 
       pub record-on : planRecord R n f size r ≡ planPairs R f size (pairs r)
       unfolding planRecord

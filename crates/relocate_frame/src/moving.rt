@@ -1,25 +1,32 @@
 // A move after the search for its record, one stage of the plan a function. Where `write` is false the frame is only judged.
 // No entry point: each stage requires what the stages before it have tested.
 ghost use mathlib.Core.Path.{_≡_};
-ghost use mathlib.Core.Bool.{true};
-ghost use Prim.Native.Nat.{_≤_};
+ghost use mathlib.Core.Bool.{true, not, _||_};
+ghost use mathlib.Core.List.{flatten};
+ghost use Prim.Native.Nat.{ℕ, _≤_, _<_};
+ghost use lib.Dec.{leb};
 ghost use lib.ListN.{length};
+ghost use Rattle.stackmap.specs.Section.{isOld};
 ghost use Rattle.stackmap.specs.Check.{Accepted};
 ghost use Rattle.questions.specs.Questions.{firstOf};
 ghost use Rattle.moves.specs.Limits.{pairsMost};
 ghost use Rattle.moves.specs.Table.{tableRight, lookUp};
 ghost use Rattle.moves.specs.Settle.{refusedMove};
+ghost use Rattle.moves.specs.Plan.{atPair};
 ghost use Rattle.moves.specs.Code.{Follows};
+ghost use Rattle.relocate.specs.declared.Frame as frameType;
 ghost use Rattle.relocate.specs.Limits.{imageMost};
 ghost use Rattle.relocate.specs.Restore.{restore};
 ghost use Rattle.relocate.specs.Statepoint as spec;
+ghost use Rattle.relocate.specs.Statepoint.{rightForm};
 ghost use Rattle.relocate.specs.Plan.{recordsOf, imageRight, extentRight, only, planPairs, planRecord};
-ghost use Rattle.relocate.specs.Code.{recordOf, planEntry, RecordInside, Paired};
+ghost use Rattle.relocate.specs.Code.{recordOf, poolOf, planEntry, planSlots, RecordInside, pairNumber, Paired, pointersBy};
 use crate::extent;
 use moves::Move;
 use moves::PAIRS_MOST;
 use questions::Found;
 use relocate::Frame;
+use relocate_pairs::fill;
 use relocate_pairs::pairs;
 use relocate_pairs::statepoint;
 use stackmap_tables::tables;
@@ -35,8 +42,84 @@ pub fn refused(number: u8, place: usize) -> Move
     }
 }
 
-// 18, 19, and the move of the window of `size` bytes from the stack pointer. The record at `at` has `count` pairs, from location
-// `start` on.
+// The answer of a window names a pointer; a move's names its pair.
+fn at_pair(m: Move, old: bool, s: &[u8], at: usize, start: usize, count: usize) -> Move
+    requires { ⌜ Paired (now s) at start count ⌝ }
+    ensures { λ r. ⌜ ((f : frameType.Frame) → r ≡ atPair (pointersBy old (poolOf (now (s .entry))) f (recordOf (now (s .entry)) at)) m) ⌝ }
+{
+    if m.number == 0 {
+        return Move {
+            number: 0,
+            place: 0,
+            count: m.count,
+        };
+    }
+    Move {
+        number: m.number,
+        place: pairs::pair_of(old, s, at, start, count, m.place),
+        count: m.count,
+    }
+}
+
+// 19, and the move of the window of `size` bytes from the stack pointer. The record at `at` has `count` pairs, from location `start` on; they
+// have the right form, and are `pointers` pointers.
+fn move_slots(
+    s: &[u8],
+    at: usize,
+    start: usize,
+    count: usize,
+    pointers: usize,
+    image: &mut [u8],
+    first: u64,
+    size: usize,
+    olds: &[u64],
+    news: &[u64],
+    frame: Frame,
+    old: bool,
+    write: bool,
+) -> Move
+    requires { ⌜ Paired (now s) at start count × (old ≡ isOld (now s))
+        × ((p : ℕ) → p < count → rightForm (frame .machine) old (poolOf (now s)) (pairNumber (recordOf (now s) at) p) ≡ true)
+        × (pointers ≡ length (flatten (pointersBy old (poolOf (now s)) frame (recordOf (now s) at)))) × (pointers ≤ pairsMost)
+        × (extentRight first (length (now image)) (frame .sp) size ≡ true) × (size ≤ imageMost) × (tableRight (now olds) (now news) ≡ true) ⌝ }
+    ensures { λ r. ⌜ Follows write r (now (image .exit)) (lookUp (now (olds .entry)) (now (news .entry))) (now (image .entry))
+        (planSlots (restore (now (s .entry)) (now (olds .entry)) (now (news .entry)) first) frame size (spec.pairs (recordOf (now (s .entry)) at))) ⌝ }
+{
+    let mut live = [0u8; PAIRS_MOST];
+    let mut bases = [0usize; PAIRS_MOST];
+    let mut derived = [0usize; PAIRS_MOST];
+    let out = fill::fill(
+        &mut live,
+        &mut bases,
+        &mut derived,
+        old,
+        s,
+        at,
+        start,
+        count,
+        frame,
+        size,
+    );
+    if out < count {
+        return refused(19, out);
+    }
+    let off = (frame.sp - first) as usize;
+    let m = moves_window::move_window(
+        image,
+        off,
+        off + size,
+        &live,
+        &bases,
+        &derived,
+        pointers,
+        olds,
+        news,
+        write,
+    );
+    at_pair(m, old, s, at, start, count)
+}
+
+// 18, 17 over the pointers, and what follows.
 fn move_pairs(
     s: &[u8],
     at: usize,
@@ -48,39 +131,52 @@ fn move_pairs(
     olds: &[u64],
     news: &[u64],
     frame: Frame,
+    old: bool,
     write: bool,
 ) -> Move
-    requires { ⌜ Paired (now s) at start count × (count ≤ pairsMost) × (extentRight first (length (now image)) (frame .sp) size ≡ true) × (size ≤ imageMost) × (tableRight (now olds) (now news) ≡ true) ⌝ }
-    ensures { λ r. ⌜ Follows write r (now (image .exit)) (lookUp (now (olds .entry)) (now (news .entry))) (now (image .entry)) (planPairs (restore (now (s .entry)) (now (olds .entry)) (now (news .entry)) first) frame size (spec.pairs (recordOf (now (s .entry)) at))) ⌝ }
+    requires { ⌜ Paired (now s) at start count × (old ≡ isOld (now s)) × (old ≡ true → count ≤ pairsMost)
+        × (extentRight first (length (now image)) (frame .sp) size ≡ true) × (size ≤ imageMost) × (tableRight (now olds) (now news) ≡ true) ⌝ }
+    ensures { λ r. ⌜ Follows write r (now (image .exit)) (lookUp (now (olds .entry)) (now (news .entry))) (now (image .entry))
+        (planPairs (restore (now (s .entry)) (now (olds .entry)) (now (news .entry)) first) frame size (spec.pairs (recordOf (now (s .entry)) at))) ⌝ }
 {
     let machine = frame.machine;
-    let wrong = pairs::wrong_form(machine, s, at, start, count);
+    let forms = pairs::check_forms(machine, old, s, at, start, count);
+    let wrong = forms.wrong;
     if wrong < count {
         return refused(18, wrong);
     }
-    let out = pairs::outside(s, at, start, count, frame, size);
-    if out < count {
-        return refused(19, out);
+    let pointers = forms.pointers;
+    if pointers > PAIRS_MOST {
+        return refused(17, 0);
     }
-    let live = pairs::live_pairs(s, at, start, count);
-    let bases = pairs::slots_of(s, at, start, count, frame, size, &live);
-    let derived = pairs::slots_of(s, at, start + 1, count, frame, size, &live);
-    let off = (frame.sp - first) as usize;
-    moves_window::move_window(
-        image,
-        off,
-        off + size,
-        &live,
-        &bases,
-        &derived,
+    move_slots(
+        s,
+        at,
+        start,
         count,
+        pointers,
+        image,
+        first,
+        size,
         olds,
         news,
+        frame,
+        old,
         write,
     )
 }
 
-// 12, 16, 17 and what follows, of the record at `at`, of a function with this stack size.
+// In version 1 17 is over the pairs, and tested before 18.
+fn too_many(old: bool, count: usize) -> bool
+    ensures { λ r. ⌜ not r ≡ (not old || leb count pairsMost) ⌝ }
+{
+    if old {
+        return count > PAIRS_MOST;
+    }
+    false
+}
+
+// 12, 16, version 1's 17 and what follows, of the record at `at`, of a function with this stack size.
 fn move_record(
     s: &[u8],
     at: usize,
@@ -99,7 +195,8 @@ fn move_record(
         if extent::extent_right(first, image.len(), frame.sp, size) {
             let p = statepoint::pairs_of(s, at);
             let count = p.count;
-            if count > PAIRS_MOST {
+            let old = tables::is_old(s);
+            if too_many(old, count) {
                 return refused(17, 0);
             }
             return move_pairs(
@@ -113,6 +210,7 @@ fn move_record(
                 olds,
                 news,
                 frame,
+                old,
                 write,
             );
         }

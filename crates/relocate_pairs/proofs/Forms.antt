@@ -16,8 +16,8 @@ use Rattle.moves.specs.Search.{lowestFrom, lowest}
 use Rattle.moves.proofs.Searches.{low-start, low-end, low-hit, low-step}
 use Rattle.relocate.specs.declared.Frame.{Frame}
 use Rattle.relocate.specs.declared.Machine.{Machine}
-use Rattle.relocate.specs.Statepoint.{pairsAt, Pair, isZero, isNull, isSlot, slotAt, slotInside}
-use Rattle.relocate.specs.Code.{pairFrom, pairNumber, locationOf, zeroSaid, slotIn, Lives}
+use Rattle.relocate.specs.Statepoint.{pairsAt, Pair, isZero, isNull, sameSize, rightForm, slotAt, slotsInside}
+use Rattle.relocate.specs.Code.{pairFrom, pairNumber, locationOf, zeroSaid, nullSaid, formSaid, slotIn}
 
 -- what the reader says of a location is said of the location
 module _ (a : LocationAnswer) (pool : List ℕ) (l : Location) (e : a ≡ thisLocation pool l) where
@@ -25,27 +25,37 @@ module _ (a : LocationAnswer) (pool : List ℕ) (l : Location) (e : a ≡ thisLo
   unfolding zeroSaid isZero
   zero-said = ap zeroSaid e
 
-  pub slot-said : (m : Machine) {old old′ : Bool} → old ≡ old′ → isSlot m old (locationOf a) ≡ isSlot m old′ l
-  slot-said m h = rw (h, e)
+  pub location-said : locationOf a ≡ l
+  location-said = ap locationOf e
 
-  pub place-said : (f : Frame) (n : ℕ) → slotIn f n (locationOf a) ≡ slotIn f n l
-  place-said f n = ap (λ (x : LocationAnswer). slotIn f n (locationOf x)) e
+  pub place-said : (old : Bool) (f : Frame) (n : ℕ) → slotIn old f n (locationOf a) ≡ slotIn old f n l
+  place-said old f n = ap (λ (x : LocationAnswer). slotIn old f n (locationOf x)) e
+
+-- and so of the two of a pair
+module _ (b d : LocationAnswer) (pool : List ℕ) (p : Pair) (eb : b ≡ thisLocation pool (p .base)) (ed : d ≡ thisLocation pool (p .derived)) where
+  pub null-said : nullSaid b d ≡ isNull pool p
+  unfolding nullSaid isNull
+  null-said = rw (zero-said b pool (p .base) eb, zero-said d pool (p .derived) ed)
+
+  pub form-said : (m : Machine) (old : Bool) → formSaid m old b d ≡ rightForm m old pool p
+  unfolding formSaid rightForm sameSize
+  form-said m old = rw (null-said, eb, ed)
 
 -- a slot that is inside is where it is
-module _ (f : Frame) (n : ℕ) (l : Location) where
-  pub at-inside : (x : ℕ) → some x ≡ slotIn f n l → (true ≡ slotInside f n l) × (x ≡ slotAt f l)
+module _ (old : Bool) (f : Frame) (n : ℕ) (l : Location) where
+  pub at-inside : (x : ℕ) → some x ≡ slotIn old f n l → (true ≡ slotsInside old f n l) × (x ≡ slotAt f l)
   unfolding slotIn
-  at-inside x h = go (slotInside f n l) refl
+  at-inside x h = go (slotsInside old f n l) refl
     where
-      go : (b : Bool) → slotInside f n l ≡ b → (true ≡ slotInside f n l) × (x ≡ slotAt f l)
+      go : (b : Bool) → slotsInside old f n l ≡ b → (true ≡ slotsInside old f n l) × (x ≡ slotAt f l)
       go true q = (sym q, let w : some x ≡ some (slotAt f l) = rw q at h in cc)
       go false q = absurd (let w : some x ≡ none = rw q at h in let z : _≡_ {A = ℕ} 0 1 = cc in omega arith)
 
-  pub out-inside : none ≡ slotIn f n l → false ≡ slotInside f n l
+  pub out-inside : none ≡ slotIn old f n l → false ≡ slotsInside old f n l
   unfolding slotIn
-  out-inside h = go (slotInside f n l) refl
+  out-inside h = go (slotsInside old f n l) refl
     where
-      go : (b : Bool) → slotInside f n l ≡ b → false ≡ slotInside f n l
+      go : (b : Bool) → slotsInside old f n l ≡ b → false ≡ slotsInside old f n l
       go true q = absurd (let w : none ≡ some (slotAt f l) = rw q at h in let z : _≡_ {A = ℕ} 0 1 = cc in omega arith)
       go false q = sym q
 
@@ -92,16 +102,3 @@ module _ {good : Pair → Bool} {r : Record} {n p : ℕ} (l : Looking good r n p
 
     pub look-hit : good (pairFrom r (start + 2 * p)) ≡ false → p ≡ lowest (bad good r) n
     look-hit g = sym (low-hit (bad good r) n p h (ap not (sym (ap good (pair-from r start p e)) ∙ g))) ∙ l .same
-
--- the array of null pairs, as it fills
-module _ (pool : List ℕ) (r : Record) where
-  pub lives-start : (live : List ℕ) → Lives pool r live 0
-  lives-start live = record { at = λ k h. absurd (omega arith) }
-
-  pub lives-set : (live : List ℕ) (k v : ℕ) → k < length live → Lives pool r live k → eqb v 0 ≡ isNull pool (pairNumber r k)
-      → Lives pool r (set live k v) (k + 1)
-  lives-set live k v b l e = record { at = λ j h. go j h (decLt j k) }
-    where
-      go : (j : ℕ) → j < k + 1 → Dec (j < k) → eqb (getD (set live k v) j 0) 0 ≡ isNull pool (pairNumber r j)
-      go j h (yes a) = rw (getD-set-other live k j v 0 (λ q. omega arith)) (l .at j a)
-      go j h (no a) = let q : j ≡ k = omega arith in rw (q, getD-set-same live k v 0 b) e

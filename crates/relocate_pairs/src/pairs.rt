@@ -1,158 +1,127 @@
-// The pairs of a statepoint: their form (refusal 18), their slots (refusal 19), and the arrays that a move takes. The record
-// stands at `at`, and a pair is given by its base's location number j; the first pair's is `start`.
+// The pairs of a statepoint: their form (refusal 18), how many pointers they are (refusal 17), and which pair a pointer is of. The record
+// stands at `at`, and a pair is given by its base's location number j; the first pair's is `start`. `old` is true for version 1.
 // No entry point: it requires a statepoint that stands there.
 ghost use mathlib.Core.Path.{_≡_};
-ghost use mathlib.Core.Bool.{true, not};
-ghost use Prim.Native.Nat.{ℕ, _+_, _*_, _≤_, _<_};
-ghost use lib.ListN.{drop, getD};
-ghost use Rattle.stackmap.specs.Section.{numLocations, isOld};
-ghost use Rattle.moves.specs.Limits.{pairsMost};
+ghost use mathlib.Core.Bool.{not, _||_};
+ghost use Prim.Native.Nat.{_+_, _≤_, _<_};
+ghost use lib.Dec.{eqb};
+ghost use lib.ListN.{drop};
+ghost use Rattle.stackmap.specs.Section.{numLocations};
 ghost use Rattle.moves.specs.Search.{lowest};
-ghost use Rattle.moves.specs.Arrays.{Filled};
-ghost use Rattle.relocate.specs.Limits.{imageMost};
-ghost use Rattle.relocate.specs.Statepoint.{locationAt, isNull, rightForm, slotAt, slotInside, inside};
-ghost use Rattle.relocate.specs.Code.{recordOf, poolOf, RecordInside, pairFrom, pairNumber, Paired, Lives};
+ghost use Rattle.moves.specs.Plan.{pairOf};
+ghost use Rattle.relocate.specs.declared.Frame as frameType;
+ghost use Rattle.relocate.specs.Statepoint as spec;
+ghost use Rattle.relocate.specs.Statepoint.{rightForm};
+ghost use Rattle.relocate.specs.Code.{recordOf, poolOf, RecordInside, pairFrom, pairNumber, Paired, nullSaid, formSaid, pointersBy, countOf, totalOf};
 use crate::reader;
-use moves::PAIRS_MOST;
-use relocate::Frame;
+use questions::LocationAnswer;
 use relocate::Machine;
-use relocate::Spot;
 use relocate_slots::slots;
-use stackmap_tables::tables;
 
 // Whether both locations are constants equal to 0.
-fn is_null(s: &[u8], at: usize, j: usize) -> bool
-    requires { ⌜ RecordInside (now s) at × (j + 1 < numLocations (drop at (now s))) ⌝ }
-    ensures { λ r. ⌜ r ≡ isNull (poolOf (now (s .entry))) (pairFrom (recordOf (now (s .entry)) at) j) ⌝ }
+pub fn null_said(base: LocationAnswer, derived: LocationAnswer) -> bool
+    ensures { λ r. ⌜ r ≡ nullSaid base derived ⌝ }
 {
-    if slots::is_zero(reader::location(s, at, j)) {
-        return slots::is_zero(reader::location(s, at, j + 1));
+    if slots::is_zero(base) {
+        return slots::is_zero(derived);
     }
     false
 }
 
-// Whether a pair is null, or both its locations are slots.
-fn right_form(machine: Machine, s: &[u8], at: usize, j: usize) -> bool
-    requires { ⌜ RecordInside (now s) at × (j + 1 < numLocations (drop at (now s))) ⌝ }
-    ensures { λ r. ⌜ r ≡ rightForm machine (isOld (now (s .entry))) (poolOf (now (s .entry))) (pairFrom (recordOf (now (s .entry)) at) j) ⌝ }
+// In version 3 both locations of a pair have one size.
+fn size_said(old: bool, base: u16, derived: u16) -> bool
+    ensures { λ r. ⌜ r ≡ (old || eqb base derived) ⌝ }
 {
-    if is_null(s, at, j) {
+    if old {
         return true;
     }
-    let old = tables::is_old(s);
-    if slots::is_slot(machine, old, reader::location(s, at, j)) {
-        return slots::is_slot(machine, old, reader::location(s, at, j + 1));
-    }
-    false
+    base == derived
 }
 
-// Whether the slot of location j is wholly inside the extent.
-fn slot_inside(s: &[u8], at: usize, j: usize, frame: Frame, size: usize) -> bool
-    requires { ⌜ RecordInside (now s) at × (j < numLocations (drop at (now s))) × (size ≤ imageMost) ⌝ }
-    ensures { λ r. ⌜ r ≡ slotInside frame size (locationAt (recordOf (now (s .entry)) at) j) ⌝ }
+// Whether a pair is null, or both its locations are slots, of one size.
+fn form_said(machine: Machine, old: bool, base: LocationAnswer, derived: LocationAnswer) -> bool
+    ensures { λ r. ⌜ r ≡ formSaid machine old base derived ⌝ }
 {
-    match slots::slot(frame, size, reader::location(s, at, j)) {
-        Spot::At(_) => true,
-        Spot::Outside => false,
-    }
-}
-
-// Whether a pair is null, or both its slots are inside.
-fn is_inside(s: &[u8], at: usize, j: usize, frame: Frame, size: usize) -> bool
-    requires { ⌜ RecordInside (now s) at × (j + 1 < numLocations (drop at (now s))) × (size ≤ imageMost) ⌝ }
-    ensures { λ r. ⌜ r ≡ inside (poolOf (now (s .entry))) frame size (pairFrom (recordOf (now (s .entry)) at) j) ⌝ }
-{
-    if is_null(s, at, j) {
+    if null_said(base, derived) {
         return true;
     }
-    if slot_inside(s, at, j, frame, size) {
-        return slot_inside(s, at, j + 1, frame, size);
+    if slots::is_slot(machine, old, base) {
+        if slots::is_slot(machine, old, derived) {
+            return size_said(old, base.size, derived.size);
+        }
+        return false;
     }
     false
 }
 
-// The lowest pair of wrong form; `count` if there is none.
-pub fn wrong_form(machine: Machine, s: &[u8], at: usize, start: usize, count: usize) -> usize
-    requires { ⌜ Paired (now s) at start count ⌝ }
-    ensures { λ r. ⌜ r ≡ lowest (λ p. not (rightForm machine (isOld (now (s .entry))) (poolOf (now (s .entry))) (pairNumber (recordOf (now (s .entry)) at) p))) count ⌝ }
+fn right_form(machine: Machine, old: bool, s: &[u8], at: usize, j: usize) -> bool
+    requires { ⌜ RecordInside (now s) at × (j + 1 < numLocations (drop at (now s))) ⌝ }
+    ensures { λ r. ⌜ r ≡ rightForm machine old (poolOf (now (s .entry))) (pairFrom (recordOf (now (s .entry)) at) j) ⌝ }
 {
-    let mut p: usize = 0;
-    while p < count {
-        if right_form(machine, s, at, start + 2 * p) {
-            p += 1;
-        } else {
-            return p;
-        }
-    }
-    p
+    let base = reader::location(s, at, j);
+    let derived = reader::location(s, at, j + 1);
+    form_said(machine, old, base, derived)
 }
 
-// The lowest pair with a slot that is not wholly inside the extent; `count` if there is none.
-pub fn outside(s: &[u8], at: usize, start: usize, count: usize, frame: Frame, size: usize) -> usize
-    requires { ⌜ Paired (now s) at start count × (size ≤ imageMost) ⌝ }
-    ensures { λ r. ⌜ r ≡ lowest (λ p. not (inside (poolOf (now (s .entry))) frame size (pairNumber (recordOf (now (s .entry)) at) p))) count ⌝ }
+// How many pointers a pair is.
+fn pointers_of(old: bool, s: &[u8], at: usize, j: usize) -> usize
+    requires { ⌜ RecordInside (now s) at × (j + 1 < numLocations (drop at (now s))) ⌝ }
+    ensures { λ r. ⌜ (r ≡ countOf old (poolOf (now (s .entry))) (pairFrom (recordOf (now (s .entry)) at) j)) × (r ≤ 8192) ⌝ }
 {
-    let mut p: usize = 0;
-    while p < count {
-        if is_inside(s, at, start + 2 * p, frame, size) {
-            p += 1;
-        } else {
-            return p;
-        }
+    let base = reader::location(s, at, j);
+    let derived = reader::location(s, at, j + 1);
+    if null_said(base, derived) {
+        return 1;
     }
-    p
+    slots::pointers_in(old, base.size)
 }
 
-// 0 for each null pair, and 1 for the others.
-pub fn live_pairs(s: &[u8], at: usize, start: usize, count: usize) -> [u8; PAIRS_MOST]
-    requires { ⌜ Paired (now s) at start count × (count ≤ pairsMost) ⌝ }
-    ensures { λ r. ⌜ Lives (poolOf (now (s .entry))) (recordOf (now (s .entry)) at) r count ⌝ }
-{
-    let mut live = [0u8; PAIRS_MOST];
-    let mut k: usize = 0;
-    while k < count {
-        if is_null(s, at, start + 2 * k) {
-            live[k] = 0;
-        } else {
-            live[k] = 1;
-        }
-        k += 1;
-    }
-    live
+// The lowest pair of wrong form, or how many pairs there are; and how many pointers the pairs before it are.
+pub struct Forms {
+    pub wrong: usize,
+    pub pointers: usize,
 }
 
-// Where the slot of location j starts, counted from the stack pointer, if it is inside.
-fn slot_at(s: &[u8], at: usize, j: usize, frame: Frame, size: usize) -> usize
-    requires { ⌜ RecordInside (now s) at × (j < numLocations (drop at (now s))) × (size ≤ imageMost) × (slotInside frame size (locationAt (recordOf (now s) at) j) ≡ true) ⌝ }
-    ensures { λ r. ⌜ r ≡ slotAt frame (locationAt (recordOf (now (s .entry)) at) j) ⌝ }
-{
-    match slots::slot(frame, size, reader::location(s, at, j)) {
-        Spot::At(p) => p,
-        Spot::Outside => 0,
-    }
-}
-
-// The slots of every second location from number j on, counted from the stack pointer, for the pairs that are not null.
-pub fn slots_of(
+pub fn check_forms(
+    machine: Machine,
+    old: bool,
     s: &[u8],
     at: usize,
-    j: usize,
+    start: usize,
     count: usize,
-    frame: Frame,
-    size: usize,
-    live: &[u8; PAIRS_MOST],
-) -> [usize; PAIRS_MOST]
-    requires { ⌜ RecordInside (now s) at × (j + 2 * count < numLocations (drop at (now s)) + 2) × (count ≤ pairsMost) × (size ≤ imageMost)
-        × ((k : ℕ) → k < count → (getD (now live) k 0 ≡ 0 → ⊥) → slotInside frame size (locationAt (recordOf (now s) at) (j + 2 * k)) ≡ true) ⌝ }
-    ensures { λ r. ⌜ Filled (λ k. slotAt frame (locationAt (recordOf (now (s .entry)) at) (j + 2 * k))) (now (live .entry)) r count ⌝ }
+) -> Forms
+    requires { ⌜ Paired (now s) at start count ⌝ }
+    ensures { λ r. ⌜ (r .wrong ≡ lowest (λ p. not (rightForm machine old (poolOf (now (s .entry))) (pairNumber (recordOf (now (s .entry)) at) p))) count)
+        × (count ≤ r .wrong → r .pointers ≡ totalOf (countOf old (poolOf (now (s .entry)))) (spec.pairs (recordOf (now (s .entry)) at))) ⌝ }
 {
-    let mut vs = [0usize; PAIRS_MOST];
-    let mut k: usize = 0;
-    while k < count {
-        if live[k] != 0 {
-            vs[k] = slot_at(s, at, j + 2 * k, frame, size);
+    let mut pointers: usize = 0;
+    let mut p: usize = 0;
+    while p < count {
+        let j = start + 2 * p;
+        if right_form(machine, old, s, at, j) {
+            pointers += pointers_of(old, s, at, j);
+        } else {
+            return Forms { wrong: p, pointers };
         }
-        k += 1;
+        p += 1;
     }
-    vs
+    Forms { wrong: p, pointers }
+}
+
+// The number of the pair that a pointer is of; `count` if there is no such pointer.
+pub fn pair_of(old: bool, s: &[u8], at: usize, start: usize, count: usize, pointer: usize) -> usize
+    requires { ⌜ Paired (now s) at start count ⌝ }
+    ensures { λ r. ⌜ ((f : frameType.Frame) → r ≡ pairOf (pointersBy old (poolOf (now (s .entry))) f (recordOf (now (s .entry)) at)) pointer) ⌝ }
+{
+    let mut left = pointer;
+    let mut p: usize = 0;
+    while p < count {
+        let n = pointers_of(old, s, at, start + 2 * p);
+        if left < n {
+            return p;
+        }
+        left -= n;
+        p += 1;
+    }
+    p
 }

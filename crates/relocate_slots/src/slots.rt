@@ -1,9 +1,9 @@
-// One location as a constant or a slot.
+// One location as a constant, or as slots one after another.
 // No entry point: it requires an extent inside the image, which 16 has tested.
 ghost use mathlib.Core.Path.{_≡_};
 ghost use Prim.Native.Nat.{_≤_};
 ghost use Rattle.relocate.specs.Limits.{imageMost, framePointer, stackPointer};
-ghost use Rattle.relocate.specs.Statepoint.{sizeRight, isSlot};
+ghost use Rattle.relocate.specs.Statepoint.{sizeRight, pointersIn, isSlot};
 ghost use Rattle.relocate.specs.Code.{locationOf, zeroSaid, spotOf, slotIn, positionIn, placeIn};
 use moves::POINTER_SIZE;
 use questions::LocationAnswer;
@@ -19,8 +19,11 @@ const RSP: u16 = 7;
 
 const KIND_INDIRECT: u8 = 3;
 
-// The size that a slot's location states: one pointer.
+// The size of one pointer, as a location states it.
 const SLOT_SIZE: u16 = 8;
+
+// Pointers of one location.
+const LOCATION_MOST: u16 = 256;
 
 // 2^32: what the 32 bits of a negative number have too much.
 const EXCESS: u64 = 4294967296;
@@ -38,17 +41,34 @@ pub fn is_zero(l: LocationAnswer) -> bool
     l.kind == layout::KIND_CONST_INDEX
 }
 
-// Whether a slot's location may state this size: 8, and in version 1 also 0.
+// Whether a location of slots may state this size: in version 1 8 or 0, in version 3 8N, N from 1 to 256.
 fn size_right(old: bool, size: u16) -> bool
     ensures { λ r. ⌜ r ≡ sizeRight old size ⌝ }
 {
-    if size == SLOT_SIZE {
-        return true;
-    }
     if old {
+        if size == SLOT_SIZE {
+            return true;
+        }
         return size == 0;
     }
-    false
+    if size % SLOT_SIZE != 0 {
+        return false;
+    }
+    let pointers = size / SLOT_SIZE;
+    if pointers < 1 {
+        return false;
+    }
+    pointers <= LOCATION_MOST
+}
+
+// How many pointers a location of this size holds: in version 1 one.
+pub fn pointers_in(old: bool, size: u16) -> usize
+    ensures { λ r. ⌜ (r ≡ pointersIn old size) × (r ≤ 8192) ⌝ }
+{
+    if old {
+        return 1;
+    }
+    (size / SLOT_SIZE) as usize
 }
 
 fn frame_pointer(machine: Machine) -> u16
@@ -83,25 +103,25 @@ pub fn is_slot(machine: Machine, old: bool, l: LocationAnswer) -> bool
     false
 }
 
-// A slot that starts p bytes after the stack pointer, in an extent of `size` bytes.
-fn place(p: u64, size: usize) -> Spot
-    requires { ⌜ size ≤ imageMost ⌝ }
-    ensures { λ r. ⌜ spotOf r ≡ placeIn p size ⌝ }
+// Slots from p bytes after the stack pointer on, in an extent of `size` bytes.
+fn place(p: u64, slots: usize, size: usize) -> Spot
+    requires { ⌜ (size ≤ imageMost) × (slots ≤ 8192) ⌝ }
+    ensures { λ r. ⌜ spotOf r ≡ placeIn p slots size ⌝ }
 {
     if p > size as u64 {
         return Spot::Outside;
     }
     let at = p as usize;
-    if size - at < POINTER_SIZE {
+    if size - at < POINTER_SIZE * slots {
         return Spot::Outside;
     }
     Spot::At(at)
 }
 
-// A slot at register plus offset, worked out as a whole number without wrapping.
-fn position(register: u64, sp: u64, offset: u32, size: usize) -> Spot
-    requires { ⌜ size ≤ imageMost ⌝ }
-    ensures { λ r. ⌜ spotOf r ≡ positionIn register sp offset size ⌝ }
+// Slots from register plus offset on, worked out as a whole number without wrapping.
+fn position(register: u64, sp: u64, offset: u32, slots: usize, size: usize) -> Spot
+    requires { ⌜ (size ≤ imageMost) × (slots ≤ 8192) ⌝ }
+    ensures { λ r. ⌜ spotOf r ≡ positionIn register sp offset slots size ⌝ }
 {
     if offset < layout::NEGATIVE_FROM {
         let up = offset as u64;
@@ -110,13 +130,13 @@ fn position(register: u64, sp: u64, offset: u32, size: usize) -> Spot
             if up < gap {
                 return Spot::Outside;
             }
-            return place(up - gap, size);
+            return place(up - gap, slots, size);
         }
         let gap = register - sp;
         if gap > size as u64 {
             return Spot::Outside;
         }
-        return place(gap + up, size);
+        return place(gap + up, slots, size);
     }
     let down = EXCESS - offset as u64;
     if register < sp {
@@ -126,17 +146,18 @@ fn position(register: u64, sp: u64, offset: u32, size: usize) -> Spot
     if gap < down {
         return Spot::Outside;
     }
-    place(gap - down, size)
+    place(gap - down, slots, size)
 }
 
-// The slot of a location, in the frame's extent of `size` bytes.
-pub fn slot(frame: Frame, size: usize, l: LocationAnswer) -> Spot
+// Where the first slot of a location is, if all of its slots are in the frame's extent of `size` bytes.
+pub fn slot(frame: Frame, old: bool, size: usize, l: LocationAnswer) -> Spot
     requires { ⌜ size ≤ imageMost ⌝ }
-    ensures { λ r. ⌜ spotOf r ≡ slotIn frame size (locationOf l) ⌝ }
+    ensures { λ r. ⌜ spotOf r ≡ slotIn old frame size (locationOf l) ⌝ }
 {
     let machine = frame.machine;
+    let slots = pointers_in(old, l.size);
     if l.register == frame_pointer(machine) {
-        return position(frame.fp, frame.sp, l.offset, size);
+        return position(frame.fp, frame.sp, l.offset, slots, size);
     }
-    position(frame.sp, frame.sp, l.offset, size)
+    position(frame.sp, frame.sp, l.offset, slots, size)
 }

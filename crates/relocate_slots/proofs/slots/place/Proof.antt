@@ -5,16 +5,19 @@ use Rattle.relocate_slots.proofs.slots.place.Statement.{statement}
 use Rattle.relocate_slots.proofs.slots.place.Tie as tie
 
 returns : tie.Need-returns
-returns c = place-past (c .before .args .p) (c .before .args .size) (omega arith)
+returns c = place-past (c .before .args .p) (c .before .args .slots) (c .before .args .size) (omega arith)
 
 sub-if2 : tie.Need-sub-if2
 sub-if2 c = search needs
 
+mul-if2 : tie.Need-mul-if2
+mul-if2 c = search needs
+
 returns-2 : tie.Need-returns-2
-returns-2 c = place-past (c .before .before .args .p) (c .before .before .args .size) (omega arith)
+returns-2 c = let a = c .before .before .args in place-past (a .p) (a .slots) (a .size) (omega arith)
 
 returns-3 : tie.Need-returns-3
-returns-3 c = place-here (c .before .before .args .p) (c .before .before .args .size) (omega arith)
+returns-3 c = let a = c .before .before .args in place-here (a .p) (a .slots) (a .size) (omega arith)
 
 pub place-spec : {M : Type 1} → statement M
-place-spec = tie.close (tie.spec returns sub-if2 returns-2 returns-3)
+place-spec = tie.close (tie.spec returns sub-if2 mul-if2 returns-2 returns-3)

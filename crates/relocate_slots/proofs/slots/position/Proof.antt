@@ -13,7 +13,7 @@ sub-gap c = search needs
 returns : tie.Need-returns
 returns c =
     let a = c .before .before .before .args in
-    position-below (a .register) (a .sp) (a .offset) (a .size) 0 (inl (c .before .before .if1 .taken, refl)) (omega arith)
+    position-below (a .register) (a .sp) (a .offset) (a .slots) (a .size) 0 (inl (c .before .before .if1 .taken, refl)) (omega arith)
 
 place-requires : tie.Need-place-requires
 place-requires c κs = search needs
@@ -21,12 +21,12 @@ place-requires c κs = search needs
 returns-2 : tie.Need-returns-2
 returns-2 c =
     let a = c .before .before .before .before .args in
-    c .place .ensures ∙ position-there (a .register) (a .sp) (a .offset) (a .size) 0 _ (inl (c .before .before .before .if1 .taken, refl)) (omega arith)
+    c .place .ensures ∙ position-there (a .register) (a .sp) (a .offset) (a .slots) (a .size) 0 _ (inl (c .before .before .before .if1 .taken, refl)) (omega arith)
 
 returns-3 : tie.Need-returns-3
 returns-3 c =
     let a = c .before .before .before .args in
-    position-far (a .register) (a .sp) (a .offset) (a .size) 0 (inl (c .before .before .if1 .taken, refl)) (omega arith)
+    position-far (a .register) (a .sp) (a .offset) (a .slots) (a .size) 0 (inl (c .before .before .if1 .taken, refl)) (omega arith)
 
 add-place : tie.Need-add-place
 add-place c = search needs
@@ -37,7 +37,7 @@ place-requires-2 c κs = search needs
 returns-4 : tie.Need-returns-4
 returns-4 c =
     let a = c .before .before .before .before .args in
-    c .place2 .ensures ∙ position-there (a .register) (a .sp) (a .offset) (a .size) 0 _ (inl (c .before .before .before .if1 .taken, refl)) (omega arith)
+    c .place2 .ensures ∙ position-there (a .register) (a .sp) (a .offset) (a .slots) (a .size) 0 _ (inl (c .before .before .before .if1 .taken, refl)) (omega arith)
 
 sub-down : tie.Need-sub-down
 sub-down c = search needs
@@ -45,12 +45,12 @@ sub-down c = search needs
 returns-5 : tie.Need-returns-5
 returns-5 c =
     let a = c .before .before .args in
-    position-below (a .register) (a .sp) (a .offset) (a .size) (2 ^ 32) (inr (c .before .if1 .left, omega (arith, c .before .before .fits .offset), refl)) (omega (arith, c .before .before .fits .offset))
+    position-below (a .register) (a .sp) (a .offset) (a .slots) (a .size) (2 ^ 32) (inr (c .before .if1 .left, omega (arith, c .before .before .fits .offset), refl)) (omega (arith, c .before .before .fits .offset))
 
 returns-6 : tie.Need-returns-6
 returns-6 c =
     let a = c .before .before .before .args in
-    position-below (a .register) (a .sp) (a .offset) (a .size) (2 ^ 32) (inr (c .before .before .if1 .left, omega (arith, c .before .before .before .fits .offset), refl)) (omega (arith, c .before .before .before .fits .offset))
+    position-below (a .register) (a .sp) (a .offset) (a .slots) (a .size) (2 ^ 32) (inr (c .before .before .if1 .left, omega (arith, c .before .before .before .fits .offset), refl)) (omega (arith, c .before .before .before .fits .offset))
 
 place-requires-3 : tie.Need-place-requires-3
 place-requires-3 c κs = search needs
@@ -58,7 +58,7 @@ place-requires-3 c κs = search needs
 returns-7 : tie.Need-returns-7
 returns-7 c =
     let a = c .before .before .before .before .args in
-    c .place3 .ensures ∙ position-there (a .register) (a .sp) (a .offset) (a .size) (2 ^ 32) _
+    c .place3 .ensures ∙ position-there (a .register) (a .sp) (a .offset) (a .slots) (a .size) (2 ^ 32) _
     (inr (c .before .before .before .if1 .left, omega (arith, c .before .before .before .before .fits .offset), refl)) (omega (arith, c .before .before .before .before .fits .offset))
 
 pub position-spec : {M : Type 1} → statement M

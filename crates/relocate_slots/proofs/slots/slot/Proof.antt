@@ -1,9 +1,13 @@
-use mathlib.Core.Path.{sym, _∙_}
-use Rattle.relocate.specs.Code.{locationOf}
+use Prim.Native.Nat.{ℕ}
+use mathlib.Core.Path.{sym, ap, _∙_}
+use Rattle.relocate.specs.Code.{locationOf, positionIn}
 use Rattle.relocate_slots.proofs.Places.{slot-frame, slot-stack}
 use borrow.Author.Needs.{needs}
 use Rattle.relocate_slots.proofs.slots.slot.Statement.{statement}
 use Rattle.relocate_slots.proofs.slots.slot.Tie as tie
+
+pointers-in-requires : tie.Need-pointers-in-requires
+pointers-in-requires c κs = search needs
 
 frame-pointer-requires : tie.Need-frame-pointer-requires
 frame-pointer-requires c κs = search needs
@@ -13,16 +17,30 @@ position-requires c κs = search needs
 
 returns : tie.Need-returns
 returns c =
-    let a = c .before .before .before .before .args in
-    c .position .ensures ∙ slot-frame (a .frame) (a .size) (locationOf (a .l)) (c .before .if1 .taken ∙ c .before .before .before .frame-pointer .ensures)
+    let b = c .before .before .before .before in
+    let a = b .before .args in
+    c .position .ensures
+    ∙ ap (λ (k : ℕ). positionIn (a .frame .fp) (a .frame .sp) (a .l .offset) k (a .size)) (b .pointers-in .ensures .0)
+    ∙ slot-frame (a .old) (a .frame) (a .size) (locationOf (a .l)) (c .before .if1 .taken ∙ c .before .before .before .frame-pointer .ensures)
 
 position-requires-2 : tie.Need-position-requires-2
 position-requires-2 c κs = search needs
 
 returns-2 : tie.Need-returns-2
 returns-2 c =
-    let a = c .before .before .before .before .args in
-    c .position2 .ensures ∙ slot-stack (a .frame) (a .size) (locationOf (a .l)) (λ e. c .before .if1 .left (e ∙ sym (c .before .before .before .frame-pointer .ensures)))
+    let b = c .before .before .before .before in
+    let a = b .before .args in
+    c .position2 .ensures
+    ∙ ap (λ (k : ℕ). positionIn (a .frame .sp) (a .frame .sp) (a .l .offset) k (a .size)) (b .pointers-in .ensures .0)
+    ∙ slot-stack (a .old) (a .frame) (a .size) (locationOf (a .l)) (λ e. c .before .if1 .left (e ∙ sym (c .before .before .before .frame-pointer .ensures)))
 
 pub slot-spec : {M : Type 1} → statement M
-slot-spec = tie.close (tie.spec frame-pointer-requires position-requires returns position-requires-2 returns-2)
+slot-spec =
+    tie.close
+    (tie.spec
+    pointers-in-requires
+    frame-pointer-requires
+    position-requires
+    returns
+    position-requires-2
+    returns-2)
