@@ -23,6 +23,15 @@ pub slot-register : (x : ℕ) → registersFrom ≤ x → slotOf x ≡ register 
 unfolding slotOf
 slot-register x h = rw (le-ltb x registersFrom h)
 
+pub memory-slot : (x y : ℕ) → slotOf x ≡ memory y → x ≡ y
+memory-slot x y e = go (decLt x registersFrom)
+  where
+    go : Dec (x < registersFrom) → x ≡ y
+    go (yes a) = let z : memory x ≡ memory y = sym (slot-memory x a) ∙ e in cc
+    go (no a) =
+        let z : register ((x - registersFrom) / 8) ≡ memory y = sym (slot-register x (omega arith)) ∙ e in
+        absurd (let u : _≡_ {A = ℕ} 0 1 = cc in omega arith)
+
 overlap-left : (x y : ℕ) → x + 8 ≤ y → overlapAt x y ≡ false
 unfolding overlapAt
 overlap-left x y h = rw (le-ltb y (x + 8) h, and-false (ltb x (y + 8))) (and-false (not (eqb x y)))
