@@ -21,8 +21,8 @@ use Rattle.moves.specs.Table.{rising, noZero, tableRight, lookUp}
 use Rattle.moves.specs.Pointers
 use Rattle.moves.specs.Settle.{atLowest, first20, put, first21, settled, settle}
 use Rattle.moves.specs.Plan.{pairOf}
-use Rattle.relocate.specs.Statepoint.{deoptCount, constantHead, pairedRest, isStatepoint, pairUp, pairs, isZero, isNull, sizeRight, isSlot, rightForm}
-use Rattle.relocate.specs.Statepoint.{registerOf, slotAddress, slotInside, slotAt, inside, pointersOf}
+use Rattle.relocate.specs.Statepoint.{deoptCount, constantHead, pairedRest, isStatepoint, pairUp, pairs, isZero, isNull, sizeRight, pointersIn, isSlot, sameSize, rightForm}
+use Rattle.relocate.specs.Statepoint.{registerOf, slotAddress, slotsInside, slotAt, inside, pointersOf}
 use Rattle.stackmap.specs.Section.{asOffset}
 use Rattle.relocate.specs.Plan.{recordsOf, only, every, imageRight, extentRight, planPairs, planRecord, plan}
 use Rattle.relocate.specs.Relocation.{answer, moved}
@@ -38,7 +38,7 @@ unfolding word bytes must chain bind pick shift bytesOf size all many functionFi
     noCounts smallSizes allSmallSizes oldRight itemsCheck listingCheck toListing toSection result address entriesFrom entriesOf entries ask
     withAddress atOffset ofFunction sought constantOf splice lowest rising noZero tableRight lookUp Pointers.overlap Pointers.anyOverlap
     Pointers.slotsClash Pointers.clash Pointers.newDerived Pointers.newContent atLowest first20 put first21 settled settle
-    deoptCount constantHead pairedRest isStatepoint pairUp pairs isZero isNull sizeRight isSlot rightForm registerOf asOffset
-    slotAddress slotInside slotAt inside flatten pointersOf pairOf recordsOf only every imageRight extentRight planPairs planRecord plan answer moved got
+    deoptCount constantHead pairedRest isStatepoint pairUp pairs isZero isNull sizeRight pointersIn isSlot sameSize rightForm registerOf asOffset
+    slotAddress slotsInside slotAt inside flatten pointersOf pairOf recordsOf only every imageRight extentRight planPairs planRecord plan answer moved got
     headerWith sectionH listingH sectionOldH listingOldH image table
 worked = refl

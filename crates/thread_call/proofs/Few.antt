@@ -1,7 +1,7 @@
 -- A frame's answer counts no more than a restore's largest pointer count, so the sum of a thread's fits.
 use Prim.Native.Nat.{ℕ, suc, _≤_}
 use mathlib.Core.Path.{_≡_, refl}
-use mathlib.Core.Bool.{Bool, true, false}
+use mathlib.Core.Bool.{Bool, true, false, not, _||_}
 use mathlib.Core.Option.{Option}
 use mathlib.Core.List.{List, [], _∷_, map, flatten}
 use native.Mathlib.Omega.{arith}
@@ -11,7 +11,7 @@ use lib.ListN.{length}
 use Rattle.stackmap.specs.declared.Verdict.{Verdict}
 use Rattle.stackmap.specs.declared.Verdict.the-variants.{Valid, Refused}
 use Rattle.stackmap.specs.Verdict.{need}
-use Rattle.stackmap.specs.Section.{Record, Entry, readSection}
+use Rattle.stackmap.specs.Section.{Record, Entry, isOld, readSection}
 use Rattle.stackmap.specs.Check.{sectionCheck}
 use Rattle.questions.specs.Questions.{ask}
 use Rattle.moves.specs.Table.{tableRight, lookUp}
@@ -57,8 +57,9 @@ module _ (R : Restore) where
   pairs-few : (f : Frame) (size : ℕ) (ps : List Pair) → Few (planPairs R f size ps)
   unfolding planPairs
   pairs-few f size ps =
-      let pss = map (pointersOf (readSection (R .section) .constants) f) ps in
-      need-few (leb (length ps) (R .most)) 17 _ (λ a. every-few _ 18 0 ps _
+      let old = isOld (R .section) in
+      let pss = map (pointersOf old (readSection (R .section) .constants) f) ps in
+      need-few (not old || leb (length ps) (R .most)) 17 _ (λ a. every-few _ 18 0 ps _
       (need-few (leb (length (flatten pss)) (R .most)) 17 _ (λ b. every-few _ 19 0 ps _ (leb-true (length (flatten pss)) (R .most) b))))
 
   record-few : (n : ℕ) (f : Frame) (size : ℕ) (r : Record) → Few (planRecord R n f size r)
