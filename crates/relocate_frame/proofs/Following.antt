@@ -12,7 +12,7 @@ use lib.ListN.{length, getD}
 use Rattle.stackmap.specs.Section.{Record}
 use Rattle.moves.specs.declared.Move.{Move}
 use Rattle.moves.specs.Search.{lowestFrom, lowest}
-use Rattle.moves.specs.Slots.{State, state, memory}
+use Rattle.moves.specs.Slots.{Slot, State, state, memory}
 use Rattle.moves.specs.Pointers.{Pointer, null, slots}
 use Rattle.moves.specs.Plan.{Plan, refuse, window, atPair}
 use Rattle.moves.specs.Arrays.{registersFrom, slotOf, pointerAt, pointersOf as held, AllPlaced}
@@ -31,7 +31,7 @@ use Rattle.relocate.specs.Plan.{every}
 use Rattle.relocate.specs.Relocation.{noRegisters}
 use Rattle.relocate.specs.Code.{pairNumber, pointersBy}
 use Rattle.relocate.proofs.Pairing.{noPair, pair-at}
-use Rattle.relocate.proofs.Planned.{every-yes, every-no, pair-from, pair-memory, form-slots}
+use Rattle.relocate.proofs.Planned.{InMemory, every-yes, every-no, pair-from, pair-memory, form-slots}
 
 -- Every pair passes, or the lowest that does not is refused.
 
@@ -106,12 +106,14 @@ module _ (old : Bool) (pool : List ℕ) (r : Record) (f : Frame) (size count n :
       let m = index-mem null (held n live bases derived) k (rw (pointers-length live bases derived n) l) in
       rw (← h, ← e, ← pointers-at live bases derived n k l) m
 
+  in-window : (b d : Slot) → List·Memᴰ (slots b d) (flatten (pointersBy old pool f r)) → (o : InMemory b d) → (o .base + 8 ≤ size) × (o .derived + 8 ≤ size)
+  in-window b d m o = slots-in (o .base) (o .derived) (rw (o .base-is, o .derived-is) at m)
+
   both : (k : ℕ) → k < n → (getD live k 0 ≡ 0 → ⊥) → (getD bases k 0 + 8 ≤ size) × (getD derived k 0 + 8 ≤ size)
   both k l q =
-      let m = here k l q in
-      let o = in-block (pointersOf old pool f) (pairs r) m in
+      let o = in-block (pointersOf old pool f) (pairs r) (here k l q) in
       let v = pair-memory old pool f (o .0) _ _ (o .2) in
-      let i = slots-in (v .base) (v .derived) (rw (v .base-is, v .derived-is) at m) in
+      let i = in-window _ _ (here k l q) v in
       let x = memory-slot (getD bases k 0) (v .base) (v .base-is) in
       let y = memory-slot (getD derived k 0) (v .derived) (v .derived-is) in
       (omega (arith, i .0, x), omega (arith, i .1, y))
