@@ -44,7 +44,8 @@ returns-2 c =
     let p = c .before .before .before .before .put-all in
     let j = c .before .before .before .before .before .before .before .before .before .before .before .before .before .judge in
     let a = c .before .before .before .before .before .before .before .before .before .before .before .before .before .before .before .before .before .before .before .before .before .before .args in
-    rw (c .before .before .before .before .before .before .before .before .if2 .taken) (done (a .live .now) (a .bases .now) (a .derived .now) (a .pairs) (lookUp (a .olds .now) (a .news .now)) (state (a .window .now) (a .registers .now)) _ _ (j .ensures) _ (omega arith) (p .ensures))
+    rw (c .before .before .before .before .before .before .before .before .if2 .taken)
+    (done (a .live .now) (a .bases .now) (a .derived .now) (a .pairs) (lookUp (a .olds .now) (a .news .now)) (state (a .window .now) (a .registers .now)) _ _ (j .ensures) _ (omega arith) (p .ensures))
 
 same-length-7 : tie.Need-same-length-7
 same-length-7 c = search needs

@@ -42,8 +42,10 @@ shared-slice-read-put c = omega (arith, c .before .before .before .before .befor
 
 put-requires : tie.Need-put-requires Inv-loop μ-loop
 put-requires c κs =
-    let l = c .before .before .before .before .before .before .before .loop in
-    placed-same _ _ _ _ _ (l .inv .1 .windows) (l .inv .1 .lists) (c .before .before .before .before .before .before .before .before .before .before .before .pre .2 (l .p) (c .before .before .before .before .before .before .loop-test .taken) (c .before .before .before .before .if1 .taken))
+    let t = c .before .before .before .before in
+    let l = t .before .before .before .loop in
+    let s = t .before .before .before .before .before .before .before in
+    placed-same _ _ _ _ _ (l .inv .1 .windows) (l .inv .1 .lists) (s .pre .2 (l .p) (t .before .before .loop-test .taken) (t .if1 .taken))
 
 add-p : tie.Need-add-p Inv-loop μ-loop
 add-p c = search needs
