@@ -184,7 +184,7 @@ module _ (table : ℕ → Option ℕ) where
   unfolding settle
   settle-refused ps w h = rw (ne-eqb (settled table ps w .number) 0 h)
 
-  passed : (ps : List Pointer) (w : State) → settled table ps w .number ≡ 0 → (length ps ≤ first20 ps w) × (length ps ≤ first21 table ps w)
+  pub passed : (ps : List Pointer) (w : State) → settled table ps w .number ≡ 0 → (length ps ≤ first20 ps w) × (length ps ≤ first21 table ps w)
   unfolding settled
   passed ps w e = answer-0 (first20 ps w) (first21 table ps w) (length ps) e
 
