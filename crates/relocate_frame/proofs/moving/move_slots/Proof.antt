@@ -69,8 +69,7 @@ move-window-requires c κs =
     let x = each-passed (inside (a .old) pool (a .frame) (a .size)) r (a .count) (g .fill .result) (g .fill .ensures .0) (i .if1 .left) in
     let e = extent-tells (a .first) (length (a .image .now)) (a .frame .sp) (a .size) (s .pre .5) in
     let off = a .frame .sp - a .first in
-    let z : off + a .size - off ≡ a .size = omega arith in
-    (
+    let z : off + a .size - off ≡ a .size = omega arith in (
       omega arith,
       omega arith,
       s .pre .4,
