@@ -51,14 +51,12 @@ module _ (old : Bool) (pool : List ℕ) (f : Frame) (n : ℕ) (p : Pair) where
         let b = at-inside old f n (p .derived) y hy in
         let ba = slot-inside old f n (p .base) (sym (a .0)) .1 in
         let bb = slot-inside old f n (p .derived) (sym (b .0)) .1 in
-        let s = same-count old p (t .2) in (
-          rw (e, ← a .0, ← b .0),
-          λ z. record {
-            pointers-are = rw (e, a .1, b .1, hk) (run-is _ _ _ (slot-holds (f .machine) old (p .base) (t .0)));
-            base-fits = omega (arith, a .1, hk, ba, small);
-            derived-fits = omega (arith, b .1, hk, bb, s, small);
-          },
-        )
+        let s = same-count old p (t .2) in
+        (rw (e, ← a .0, ← b .0), λ z. record {
+          pointers-are = rw (e, a .1, b .1, hk) (run-is _ _ _ (slot-holds (f .machine) old (p .base) (t .0)));
+          base-fits = omega (arith, a .1, hk, ba, small);
+          derived-fits = omega (arith, b .1, hk, bb, s, small);
+        })
 
     pub look-base : (Q : Type 0) → none ≡ slotIn old f n (p .base) → (false ≡ inside old pool f n p) × (_≡_ {A = Bool} false true → Q)
     unfolding inside

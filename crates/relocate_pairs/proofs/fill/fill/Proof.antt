@@ -86,7 +86,8 @@ loop-again c =
     let r = recordOf (a .s .now) (a .at) in
     let e = pair-from r (a .start) (l .loop .p) (s .pre .1 .starts) in
     let yes = not-false _ (i .if1 .left) in
-    let k = i .before .before .look .ensures in (
+    let k = i .before .before .look .ensures in
+    (
       look-on (l .loop .inv .0) (s .pre .1 .starts) (omega arith) (sym (k .0) ∙ yes),
       u .put .ensures .0,
       fill-on _ _ _ _ _ _ _ (l .loop .inv .2) (omega (arith, s .pre .1 .counted)) (u .put .ensures .1 ∙ rw (k .1 yes .pointers-are, e)),
@@ -104,14 +105,11 @@ same-length-6 c = c .before .loop .inv .1 .derived-room ∙ sym (c .before .befo
 returns-2 : tie.Need-returns-2 Inv-loop μ-loop
 returns-2 c =
     let l = c .before .loop in
-    let s = c .before .before .before .before .before .before in (
-      look-end (l .inv .0) (omega arith),
-      l .inv .1,
-      λ h.
-          let w = fill-end _ _ _ _ _ _ (l .inv .2) (omega (arith, s .pre .1 .counted)) in
-          let z = sym (ap length w) ∙ held-length (l .n) (l .live) (l .bases) (l .derived) in
-          rw z w,
-    )
+    let s = c .before .before .before .before .before .before in
+    (look-end (l .inv .0) (omega arith), l .inv .1, λ h.
+    let w = fill-end _ _ _ _ _ _ (l .inv .2) (omega (arith, s .pre .1 .counted)) in
+    let z = sym (ap length w) ∙ held-length (l .n) (l .live) (l .bases) (l .derived) in
+    rw z w)
 
 pub fill-spec : {M : Type 1} → statement M
 fill-spec =

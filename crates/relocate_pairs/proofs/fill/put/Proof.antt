@@ -24,7 +24,8 @@ returns c =
     let s = c .before .before .before .before .before in
     let a = s .args in
     let h = run-length (a .run .count) (a .run .base) (a .run .derived) in
-    let n = a .n in (
+    let n = a .n in
+    (
       room-null (a .live .now) (a .bases .now) (a .derived .now) n (s .pre .0) (omega (arith, s .pre .1)),
       hold-null (a .live .now) (a .bases .now) (a .derived .now) n (s .pre .0) (omega (arith, s .pre .1)) ∙ run-null (a .run .count) (a .run .base) (a .run .derived) (arrays.pointersOf n (a .live .now) (a .bases .now) (a .derived .now)) (c .if1 .taken),
     )

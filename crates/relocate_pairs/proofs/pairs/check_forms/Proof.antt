@@ -59,7 +59,8 @@ loop-again : tie.Need-loop-again Inv-loop μ-loop
 loop-again c =
     let l = c .before .before .before .before in
     let s = l .before .before in
-    let e = pair-from (recordOf (s .args .s .now) (s .args .at)) (s .args .start) (l .loop .p) (s .pre .starts) in (
+    let e = pair-from (recordOf (s .args .s .now) (s .args .at)) (s .args .start) (l .loop .p) (s .pre .starts) in
+    (
       look-on (l .loop .inv .0) (s .pre .starts) (omega arith) (sym (c .before .before .right-form .ensures) ∙ c .before .if1 .taken),
       count-on _ _ _ _ _ (l .loop .inv .1) (omega (arith, s .pre .counted)) (c .pointers-of .ensures .0 ∙ ap (countOf (s .args .old) (poolOf (s .args .s .now))) e) (c .pointers-of .ensures .1),
     )
