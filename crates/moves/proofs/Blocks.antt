@@ -12,11 +12,12 @@ use lib.Dec.{eqb}
 use lib.ListN.{length}
 use Rattle.moves.specs.declared.Move.{Move}
 use Rattle.moves.specs.Window.{part, splice}
+use Rattle.moves.specs.Slots.{State, state}
 use Rattle.moves.specs.Pointers.{Pointer}
 use Rattle.moves.specs.Settle.{settled}
 use Rattle.moves.specs.Plan.{window, pairOf, atPair}
 use Rattle.moves.specs.Code.{settleIf, SettlesIn, Follows}
-use Rattle.moves.proofs.Splice.{splice-if}
+use Rattle.moves.proofs.Splice.{splice-if, registers-if}
 use Rattle.moves.proofs.Order.{Alike, accepted-whole, settled-early, settled-place}
 
 -- a member of a block, and the block that it is of
@@ -44,7 +45,7 @@ blocks-perm (List·Permᴰ·swap {a = a} {b = b} {l = l} e₁ e₂) = rw (← e�
 blocks-perm (List·Permᴰ·trans p q) = List·Permᴰ·trans (blocks-perm p) (blocks-perm q)
 
 -- two orders of pairs answer alike
-pub pairs-alike : (table : ℕ → Option ℕ) (w : List ℕ) (pss qss : List (List Pointer)) → Alike (settled table (flatten pss) w) (settled table (flatten qss) w)
+pub pairs-alike : (table : ℕ → Option ℕ) (w : State) (pss qss : List (List Pointer)) → Alike (settled table (flatten pss) w) (settled table (flatten qss) w)
     → Alike (atPair pss (settled table (flatten pss) w)) (atPair qss (settled table (flatten qss) w))
 pairs-alike table w pss qss a =
     record {
@@ -70,7 +71,7 @@ pair-ones (p ∷ ps) zero h = refl
 pair-ones (p ∷ ps) (suc i) h = let z : suc i - 1 ≡ i = omega arith in rw (le-ltb (suc i) 1 (omega arith), z, pair-ones ps i (omega arith))
 
 module _ (table : ℕ → Option ℕ) where
-  says-ones : (ps : List Pointer) (w : List ℕ) → settled table ps w ≡ atPair (ones ps) (settled table ps w)
+  says-ones : (ps : List Pointer) (w : State) → settled table ps w ≡ atPair (ones ps) (settled table ps w)
   says-ones ps w = go (eqb (settled table ps w .number) 0) refl
     where
       m : Move
@@ -85,12 +86,15 @@ module _ (table : ℕ → Option ℕ) where
           ap with-place (z ∙ rw e)
       go false e = ap with-place (sym (pair-ones ps (m .place) (settled-place table ps w)) ∙ rw e)
 
-  pub follows-ones : (write : Bool) (r : Move) (im after : List ℕ) (off n : ℕ) (ps : List Pointer) (pss : List (List Pointer)) → pss ≡ ones ps
-      → SettlesIn table write r im after off n ps → Follows write r after table im (window off n pss)
-  follows-ones write r im after off n ps pss e h =
+  pub follows-ones : (write : Bool) (r : Move) (im after rs rs′ : List ℕ) (off n : ℕ) (ps : List Pointer) (pss : List (List Pointer)) → pss ≡ ones ps
+      → SettlesIn table write r im after rs rs′ off n ps → Follows write r after rs′ table im rs (window off n pss)
+  follows-ones write r im after rs rs′ off n ps pss e h =
       rw e (record {
-        answer = h .answer ∙ says-ones ps (part im off n) ∙ rw (flatten-ones ps);
+        answer = h .answer ∙ says-ones ps (state (part im off n) rs) ∙ rw (flatten-ones ps);
         left = h .left
-            ∙ ap (λ (qs : List Pointer). splice im off n (settleIf table write qs (part im off n))) (sym (flatten-ones ps))
-            ∙ splice-if write table im off n (ones ps);
+            ∙ ap (λ (qs : List Pointer). splice im off n (settleIf table write qs (state (part im off n) rs) .window)) (sym (flatten-ones ps))
+            ∙ splice-if write table im rs off n (ones ps);
+        registers-left = h .registers-left
+            ∙ ap (λ (qs : List Pointer). settleIf table write qs (state (part im off n) rs) .registers) (sym (flatten-ones ps))
+            ∙ registers-if write table im rs off n (ones ps);
       })

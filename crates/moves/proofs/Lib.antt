@@ -1,5 +1,6 @@
 pub mod Searches
 pub mod Splice
+pub mod Cells
 pub mod Words
 pub mod Writes
 pub mod Order
@@ -7,4 +8,5 @@ pub mod Tasks
 pub mod Blocks
 pub mod Lists
 pub mod Local
+pub mod Numbers
 pub mod Fills

@@ -1,4 +1,4 @@
--- Bytes outside the listed slots affect no answer and no new content.
+-- Bytes and registers outside the listed slots affect no answer and no new content.
 use Prim.Native.Nat.{ℕ, suc, _<_}
 use mathlib.Core.Path.{_≡_, refl}
 use mathlib.Core.Option.{Option}
@@ -6,28 +6,37 @@ use mathlib.Core.List.{List, List·Memᴰ}
 use native.Mathlib.Omega.{arith}
 use lib.ListN.{length, getD}
 use Rattle.moves.specs.Window.{In}
+use Rattle.moves.specs.Slots.{Slot, memory, register, State, read}
 use Rattle.moves.specs.Pointers.{Pointer, null, slots, clash, unknown}
 use Rattle.moves.specs.Settle.{first20, first21, settled}
 use Rattle.moves.proofs.Searches.{index-mem, lowest-ext, any-ext}
 use Rattle.moves.proofs.Words.{word-local}
 
--- the two windows agree on the slots of a pair
-abbrev pub Agrees : List ℕ → List ℕ → Pointer → Type 0
-Agrees w v null = Unit {0}
-Agrees w v (slots b d) = ((i : ℕ) → In b 8 i → getD w i 0 ≡ getD v i 0) × ((i : ℕ) → In d 8 i → getD w i 0 ≡ getD v i 0)
+-- the two states agree on the cells of a slot, and on the slots of a pair
+abbrev pub AgreeOn : State → State → Slot → Type 0
+AgreeOn w v (memory x) = (i : ℕ) → In x 8 i → getD (w .window) i 0 ≡ getD (v .window) i 0
+AgreeOn w v (register r) = getD (w .registers) r 0 ≡ getD (v .registers) r 0
 
-clash-local : (w v : List ℕ) (p q : Pointer) → Agrees w v p → Agrees w v q → clash w p q ≡ clash v p q
+abbrev pub Agrees : State → State → Pointer → Type 0
+Agrees w v null = Unit {0}
+Agrees w v (slots b d) = AgreeOn w v b × AgreeOn w v d
+
+pub read-local : (w v : State) (s : Slot) → AgreeOn w v s → read w s ≡ read v s
+read-local w v (memory x) h = word-local 8 (w .window) (v .window) x h
+read-local w v (register r) h = h
+
+clash-local : (w v : State) (p q : Pointer) → Agrees w v p → Agrees w v q → clash w p q ≡ clash v p q
 unfolding clash
 clash-local w v null q a b = refl
 clash-local w v (slots b d) null a c = refl
-clash-local w v (slots b d) (slots b′ d′) a c = rw (word-local 8 w v b (a .0), word-local 8 w v b′ (c .0))
+clash-local w v (slots b d) (slots b′ d′) a c = rw (read-local w v b (a .0), read-local w v b′ (c .0))
 
 module _ (table : ℕ → Option ℕ) where
-  unknown-local : (w v : List ℕ) (p : Pointer) → Agrees w v p → unknown table w p ≡ unknown table v p
+  unknown-local : (w v : State) (p : Pointer) → Agrees w v p → unknown table w p ≡ unknown table v p
   unknown-local w v null a = refl
-  unknown-local w v (slots b d) a = rw (word-local 8 w v b (a .0))
+  unknown-local w v (slots b d) a = rw (read-local w v b (a .0))
 
-  pub settled-local : (ps : List Pointer) (w v : List ℕ) → ((p : Pointer) → List·Memᴰ p ps → Agrees w v p) → settled table ps w ≡ settled table ps v
+  pub settled-local : (ps : List Pointer) (w v : State) → ((p : Pointer) → List·Memᴰ p ps → Agrees w v p) → settled table ps w ≡ settled table ps v
   unfolding settled first20 first21
   settled-local ps w v h = rw (e₂₀, e₂₁)
     where

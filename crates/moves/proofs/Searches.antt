@@ -83,7 +83,7 @@ lowest-no bad (suc k) i e j a b = go (lowest-no bad k (suc i) (o .1) j) (decLt i
     go below (no l) = let q : j ≡ i = omega arith in rw q (o .0)
 
 -- no index below n is bad
-pub Fine : (ℕ → Bool) → ℕ → Type 0
+unfoldable pub Fine : (ℕ → Bool) → ℕ → Type 0
 Fine bad n = (k : ℕ) → k < n → bad k ≡ false
 
 pub fine-lowest : (bad : ℕ → Bool) (n : ℕ) → Fine bad n → n ≤ lowest bad n
@@ -102,7 +102,7 @@ lowest-all bad n h = lowest-fine bad n h
 -- a test of each member; a symmetric test of each two members: finding none does not depend on the order
 module _ {A : Type 0} (d : A) where
   module _ (u : A → Bool) where
-    each-no : (xs : List A) → length xs ≤ lowest (λ p. u (getD xs p d)) (length xs) → (x : A) → List·Memᴰ x xs → u x ≡ false
+    pub each-no : (xs : List A) → length xs ≤ lowest (λ p. u (getD xs p d)) (length xs) → (x : A) → List·Memᴰ x xs → u x ≡ false
     unfolding Fine
     each-no xs e x m =
         let o : (k : ℕ) × (k < length xs) × (getD xs k d ≡ x) = mem-index d m in

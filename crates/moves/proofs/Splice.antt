@@ -10,9 +10,10 @@ use native.Mathlib.Decide.{decLe, decLt}
 use lib.ListN.{length, take, drop, getD, take-append-drop, length-append, length-take, length-drop, List·getD-append}
 use lib.Seq.{getD-append-add, getD-drop, getD-take, ext-getD, length-take-le, drop-drop}
 use Rattle.moves.specs.Window.{part, splice, In}
+use Rattle.moves.specs.Slots.{state}
 use Rattle.moves.specs.Pointers.{Pointer}
 use Rattle.moves.specs.Plan.{window}
-use Rattle.moves.specs.Code.{settleIf, leavesIf}
+use Rattle.moves.specs.Code.{settleIf, leavesIf, leavesRegistersIf}
 
 pub in? : (a n i : ℕ) → In a n i ⊎ (In a n i → ⊥)
 in? a n i = go (decLe a i) (decLt i (a + n))
@@ -90,8 +91,13 @@ pub splice-same : (im : List ℕ) (a n : ℕ) → splice im a n (part im a n) �
 unfolding splice
 splice-same im a n = rw (← drop-drop n a im, take-append-drop n (drop a im), take-append-drop a im)
 
--- the image after a window is settled or judged
-pub splice-if : (write : Bool) (table : ℕ → Option ℕ) (im : List ℕ) (a n : ℕ) (pss : List (List Pointer))
-    → splice im a n (settleIf table write (flatten pss) (part im a n)) ≡ leavesIf write table im (window a n pss)
-splice-if true table im a n pss = refl
-splice-if false table im a n pss = splice-same im a n
+-- the image and the registers after a window is settled or judged
+pub splice-if : (write : Bool) (table : ℕ → Option ℕ) (im rs : List ℕ) (a n : ℕ) (pss : List (List Pointer))
+    → splice im a n (settleIf table write (flatten pss) (state (part im a n) rs) .window) ≡ leavesIf write table im rs (window a n pss)
+splice-if true table im rs a n pss = refl
+splice-if false table im rs a n pss = splice-same im a n
+
+pub registers-if : (write : Bool) (table : ℕ → Option ℕ) (im rs : List ℕ) (a n : ℕ) (pss : List (List Pointer))
+    → settleIf table write (flatten pss) (state (part im a n) rs) .registers ≡ leavesRegistersIf write table im rs (window a n pss)
+registers-if true table im rs a n pss = refl
+registers-if false table im rs a n pss = refl

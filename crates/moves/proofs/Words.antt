@@ -8,7 +8,9 @@ use lib.Arith.{mod-mul}
 use lib.ListN.{getD}
 use Rattle.wire.specs.Word.{word, bytes}
 use Rattle.moves.specs.Window.{In, part}
+use Rattle.moves.specs.Slots.{Slot, memory, register, read, state}
 use Rattle.moves.proofs.Splice.{part-at}
+use Rattle.moves.proofs.Cells.{SlotIn}
 
 -- k bytes that are those of v are v modulo 256 ^ k
 word-from : (k : ℕ) (w : List ℕ) (s v : ℕ) → ((j : ℕ) → j < k → getD w (s + j) 0 ≡ getD (bytes k v) j 0) → word k w s ≡ v % 256 ^ k
@@ -41,6 +43,15 @@ unfolding word
 word-part zero im off n a h = refl
 word-part (suc k) im off n a h =
     rw (part-at im off n a (omega arith), word-part k im off n (a + 1) (omega arith), ← add-assoc off a 1)
+
+-- a slot of a window that begins at `off`, as one of the whole image
+abbrev pub fromImage : ℕ → Slot → Slot
+fromImage off (memory x) = memory (off + x)
+fromImage off (register r) = register r
+
+pub read-part : (im rs : List ℕ) (off n m : ℕ) (s : Slot) → SlotIn n m s → read (state (part im off n) rs) s ≡ read (state im rs) (fromImage off s)
+read-part im rs off n m (memory x) h = word-part 8 im off n x h
+read-part im rs off n m (register r) h = refl
 
 -- derived minus base, modulo 2^64, is kept where both move by the same distance
 pub kept : (D B N : ℕ) → B ≤ 2 ^ 64 → ((D + N + (2 ^ 64 - B)) % 2 ^ 64 + (2 ^ 64 - (B + N + (2 ^ 64 - B)) % 2 ^ 64)) % 2 ^ 64 ≡ (D + (2 ^ 64 - B)) % 2 ^ 64

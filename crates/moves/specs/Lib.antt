@@ -2,6 +2,7 @@ pub mod Limits
 pub mod Window
 pub mod Table
 pub mod Search
+pub mod Slots
 pub mod Pointers
 pub mod Settle
 pub mod Plan

@@ -6,6 +6,9 @@ pub const POINTER_SIZE: usize = 8;
 // Pairs of a statepoint.
 pub const PAIRS_MOST: usize = 256;
 
+// Slots as numbers: a slot in memory is its first byte, and register r is REGISTERS_FROM + 8 * r.
+pub const REGISTERS_FROM: usize = 4294967296;
+
 // Entries of a move table.
 pub const TABLE_MOST: usize = 65536;
 
@@ -13,6 +16,12 @@ pub const TABLE_MOST: usize = 65536;
 pub enum NewStart {
     At(u64),
     Nothing,
+}
+
+// The new content of a derived slot, or that the base is unknown.
+pub enum Content {
+    New(u64),
+    Unknown,
 }
 
 // The answer to a move: a refusal's number and place, and count 0; or 0, 0 and the number of pairs, null ones included.

@@ -7,24 +7,23 @@ use lib.Dec.{eqb, ltb}
 use lib.ListN.{getD}
 use mathlib.Core.List.{List}
 use Rattle.moves.specs.Search.{anyBelow, lowestFrom}
-use Rattle.moves.specs.Pointers.{overlap, slotsClash}
-use Rattle.moves.specs.Arrays.{clashAt, firstClash}
+use Rattle.moves.specs.Arrays.{overlapAt, slotsClashAt, clashAt, firstClash}
 use Rattle.moves.proofs.Searches.{low-start}
 
-pub overlap-same : (x y : ℕ) → x ≡ y → overlap x y ≡ false
-unfolding overlap
+pub overlap-same : (x y : ℕ) → x ≡ y → overlapAt x y ≡ false
+unfolding overlapAt
 overlap-same x y e = rw (eq-eqb x y e)
 
-pub overlap-left : (x y : ℕ) → y + 8 ≤ x → overlap x y ≡ false
-unfolding overlap
+pub overlap-left : (x y : ℕ) → y + 8 ≤ x → overlapAt x y ≡ false
+unfolding overlapAt
 overlap-left x y h = rw (le-ltb x (y + 8) h) (and-false (not (eqb x y)))
 
-pub overlap-right : (x y : ℕ) → x + 8 ≤ y → overlap x y ≡ false
-unfolding overlap
+pub overlap-right : (x y : ℕ) → x + 8 ≤ y → overlapAt x y ≡ false
+unfolding overlapAt
 overlap-right x y h = rw (le-ltb y (x + 8) h, and-false (ltb x (y + 8))) (and-false (not (eqb x y)))
 
-pub overlap-yes : (x y : ℕ) → (x ≡ y → ⊥) → x < y + 8 → y < x + 8 → overlap x y ≡ true
-unfolding overlap
+pub overlap-yes : (x y : ℕ) → (x ≡ y → ⊥) → x < y + 8 → y < x + 8 → overlapAt x y ≡ true
+unfolding overlapAt
 overlap-yes x y n a b = rw (ne-eqb x y n, lt-ltb x (y + 8) a, lt-ltb y (x + 8) b)
 
 module _ (live bs ds vs : List ℕ) (p q : ℕ) where
@@ -37,7 +36,7 @@ module _ (live bs ds vs : List ℕ) (p q : ℕ) where
   clash-null-q n e = rw (ne-eqb (getD live p 0) 0 n, eq-eqb (getD live q 0) 0 e)
 
   pub clash-live : (getD live p 0 ≡ 0 → ⊥) → (getD live q 0 ≡ 0 → ⊥)
-      → slotsClash (getD bs p 0) (getD ds p 0) (getD vs p 0) (getD bs q 0) (getD ds q 0) (getD vs q 0) ≡ clashAt live bs ds vs p q
+      → slotsClashAt (getD bs p 0) (getD ds p 0) (getD vs p 0) (getD bs q 0) (getD ds q 0) (getD vs q 0) ≡ clashAt live bs ds vs p q
   unfolding clashAt
   clash-live n m = rw (ne-eqb (getD live p 0) 0 n, ne-eqb (getD live q 0) 0 m)
 

@@ -1,5 +1,5 @@
 -- What the arrays of the code make is what the pairs' list makes.
-use Prim.Native.Nat.{ℕ, zero, suc, _+_, _≤_, _<_}
+use Prim.Native.Nat.{ℕ, zero, suc, _+_, _^_, _≤_, _<_}
 use mathlib.Core.Path.{_≡_, refl, sym, ap, _∙_}
 use mathlib.Core.Bool.{Bool, true, false, cond}
 use mathlib.Core.Option.{Option}
@@ -9,12 +9,15 @@ use native.Mathlib.Nat.{not-suc-le-zero}
 use borrow.Author.Tests.{eqb-false, lt-ltb, le-ltb}
 use lib.Dec.{eqb}
 use lib.ListN.{length, getD}
-use Rattle.wire.specs.Word.{word}
-use Rattle.moves.specs.Pointers.{Pointer, null, slots, slotsClash, clash, unknown, newDerived, newContent}
-use Rattle.moves.specs.Settle.{refusedMove, acceptedMove, put, first20, first21, write1, write, atLowest, settled, settle}
-use Rattle.moves.specs.Code.{settleIf, Settles}
-use Rattle.moves.specs.Arrays.{pointerAt, listFrom, pointersOf, clashAt, firstClash, Within, Filled, unknownAt, firstUnknown, putOne, puts}
+use Rattle.moves.specs.Slots.{State, read, put}
+use Rattle.moves.specs.Pointers.{Pointer, null, slots, clash, unknown, newContent}
+use Rattle.moves.specs.declared.Move.{Move}
+use Rattle.moves.specs.Settle.{refusedMove, acceptedMove, first20, first21, write1, write, atLowest, settled}
+use Rattle.moves.specs.Code.{Settles}
+use Rattle.moves.specs.Arrays.{registersFrom, slotOf, slotsClashAt, pointerAt, listFrom, pointersOf, clashAt, firstClash, Within, AllPlaced, Filled, unknownAt, firstUnknown, renewed, Renews, Judges, putOne, puts}
 use Rattle.moves.proofs.Searches.{lowest-ext, any-ext}
+use Rattle.moves.proofs.Order.{settle-accepted, settle-refused}
+use Rattle.moves.proofs.Numbers.{clash-number, placed-most}
 
 list-length : (f : ℕ → Pointer) (k i : ℕ) → length (listFrom f k i) ≡ k
 list-length f zero i = refl
@@ -34,23 +37,28 @@ module _ (live bs ds : List ℕ) (n : ℕ) where
   unfolding pointersOf
   pointers-at k h = list-at (pointerAt live bs ds) n 0 k h ∙ ap (pointerAt live bs ds) (omega arith)
 
-  module _ (table : ℕ → Option ℕ) (w vs : List ℕ) (fv : Filled (λ k. word 8 w (getD bs k 0)) live vs n) where
+  module _ (table : ℕ → Option ℕ) (m registers : ℕ) (few : m ≤ registersFrom) (placed : AllPlaced m registers n live bs ds)
+      (w : State) (vs : List ℕ) (fv : Filled (λ k. read w (slotOf (getD bs k 0))) live vs n) where
     clash-meets : (p q : ℕ) → p < n → q < n → clash w (pointerAt live bs ds p) (pointerAt live bs ds q) ≡ clashAt live bs ds vs p q
     unfolding clash pointerAt clashAt
     clash-meets p q hp hq = go (eqb (getD live p 0) 0) refl (eqb (getD live q 0) 0) refl
       where
         P : Pointer
-        P = slots (getD bs p 0) (getD ds p 0)
+        P = slots (slotOf (getD bs p 0)) (slotOf (getD ds p 0))
 
         Q : Pointer
-        Q = slots (getD bs q 0) (getD ds q 0)
+        Q = slots (slotOf (getD bs q 0)) (slotOf (getD ds q 0))
 
         go : (s : Bool) → eqb (getD live p 0) 0 ≡ s → (t : Bool) → eqb (getD live q 0) 0 ≡ t
             → clash w (cond s null P) (cond t null Q)
-            ≡ cond s false (cond t false (slotsClash (getD bs p 0) (getD ds p 0) (getD vs p 0) (getD bs q 0) (getD ds q 0) (getD vs q 0)))
+            ≡ cond s false (cond t false (slotsClashAt (getD bs p 0) (getD ds p 0) (getD vs p 0) (getD bs q 0) (getD ds q 0) (getD vs q 0)))
         go true d t e = refl
         go false d true e = refl
-        go false d false e = rw (fv .at p hp (eqb-false (getD live p 0) 0 d), fv .at q hq (eqb-false (getD live q 0) 0 e))
+        go false d false e =
+            let lp = eqb-false (getD live p 0) 0 d in
+            let lq = eqb-false (getD live q 0) 0 e in
+            rw (fv .at p hp lp, fv .at q hq lq)
+            (sym (clash-number m registers few _ _ _ _ _ _ (placed .base-in p hp lp) (placed .derived-in p hp lp) (placed .base-in q hq lq) (placed .derived-in q hq lq)))
 
     first20-meets : firstClash live bs ds vs n ≡ first20 (pointersOf n live bs ds) w
     unfolding firstClash first20
@@ -67,62 +75,71 @@ module _ (live bs ds : List ℕ) (n : ℕ) where
         one p hp true e = rw e
         one p hp false e = rw (e, fv .at p hp (eqb-false (getD live p 0) 0 e))
 
-    module _ (ws cs : List ℕ) (fw : Filled (λ k. word 8 w (getD ds k 0)) live ws n)
-        (fc : Filled (λ k. newDerived table (getD ws k 0) (getD vs k 0)) live cs n) where
-      put-meets : (i : ℕ) (cur : List ℕ) → i < n → putOne live ds cs i cur ≡ write1 table w cur (pointerAt live bs ds i)
-      unfolding putOne pointerAt newContent
-      put-meets i cur h = go (eqb (getD live i 0) 0) refl
-        where
-          go : (s : Bool) → eqb (getD live i 0) 0 ≡ s
-              → cond s cur (put cur (getD ds i 0) (getD cs i 0)) ≡ write1 table w cur (cond s null (slots (getD bs i 0) (getD ds i 0)))
-          go true e = refl
-          go false e =
-              let l : getD live i 0 ≡ 0 → ⊥ = eqb-false (getD live i 0) 0 e in
-              rw (fc .at i h l, fw .at i h l, fv .at i h l)
+    -- the four ends of a judgement
+    new-contents : (cs : List ℕ) → Filled (renewed table w ds vs) live cs n → Filled (λ k. newContent table w (slotOf (getD bs k 0)) (slotOf (getD ds k 0))) live cs n
+    unfolding newContent
+    new-contents cs fc = record { at = λ k h l. fc .at k h l ∙ rw (fv .at k h l) }
 
-      puts-meet : (k i : ℕ) (cur : List ℕ) → i + k ≤ n → puts live ds cs k i cur ≡ write table w cur (listFrom (pointerAt live bs ds) k i)
-      puts-meet zero i cur h = refl
-      puts-meet (suc k) i cur h = rw (put-meets i cur (omega arith)) (puts-meet k (suc i) (write1 table w cur (pointerAt live bs ds i)) (omega arith))
-
-      pub done : (p u : ℕ) → p ≡ firstClash live bs ds vs n → n ≤ p → u ≡ firstUnknown table live vs n → n ≤ u
-          → Settles table true (acceptedMove n) (puts live ds cs n 0 w) (pointersOf n live bs ds) w
-      unfolding settled settle atLowest pointersOf
-      done p u a b d e =
-          record {
-            answer = rw (← first20-meets, ← first21-meets, ← a, ← d, pointers-length, le-ltb p n b, le-ltb u n e);
-            left =
-                rw (← first20-meets, ← first21-meets, ← a, ← d, pointers-length, le-ltb p n b, le-ltb u n e)
-                (puts-meet n 0 w (omega arith));
-          }
-
-    -- only judged: accepted, and nothing is written
-    pub fine : (p u : ℕ) → p ≡ firstClash live bs ds vs n → n ≤ p → u ≡ firstUnknown table live vs n → n ≤ u
-        → Settles table false (acceptedMove n) w (pointersOf n live bs ds) w
+    pub fine : (p u : ℕ) (cs : List ℕ) → p ≡ firstClash live bs ds vs n → n ≤ p → Renews table w live ds vs n u cs → n ≤ u
+        → Judges table w live bs ds n (acceptedMove n) cs
     unfolding settled atLowest
-    fine p u a b d e =
-        record { answer = rw (← first20-meets, ← first21-meets, ← a, ← d, pointers-length, le-ltb p n b, le-ltb u n e); left = refl }
-
-    -- a refusal leaves the window, moved or judged
-    stays : (write : Bool) (ps : List Pointer) → w ≡ settle table ps w → w ≡ settleIf table write ps w
-    stays true ps h = h
-    stays false ps h = refl
-
-    pub stop20 : (write : Bool) (p : ℕ) → p ≡ firstClash live bs ds vs n → p < n → Settles table write (refusedMove 20 p) w (pointersOf n live bs ds) w
-    unfolding settled settle atLowest
-    stop20 write p a b =
+    fine p u cs a b d e =
         record {
-          answer = rw (← first20-meets, ← a, pointers-length, lt-ltb p n b);
-          left = stays write (pointersOf n live bs ds) (rw (← first20-meets, ← a, pointers-length, lt-ltb p n b));
+          answer = rw (← first20-meets, ← first21-meets, ← a, ← d .answer, pointers-length, le-ltb p n b, le-ltb u n e);
+          contents = λ z. new-contents cs (d .left e);
         }
 
-    pub stop21 : (write : Bool) (p u : ℕ) → p ≡ firstClash live bs ds vs n → n ≤ p → u ≡ firstUnknown table live vs n → u < n
-        → Settles table write (refusedMove 21 u) w (pointersOf n live bs ds) w
-    unfolding settled settle atLowest
-    stop21 write p u a b d e =
+    pub stop20 : (p : ℕ) (cs : List ℕ) → p ≡ firstClash live bs ds vs n → p < n → Judges table w live bs ds n (refusedMove 20 p) cs
+    unfolding settled atLowest
+    stop20 p cs a b = record { answer = rw (← first20-meets, ← a, pointers-length, lt-ltb p n b); contents = λ z. absurd (omega arith) }
+
+    pub stop21 : (p u : ℕ) (cs : List ℕ) → p ≡ firstClash live bs ds vs n → n ≤ p → Renews table w live ds vs n u cs → u < n
+        → Judges table w live bs ds n (refusedMove 21 u) cs
+    unfolding settled atLowest
+    stop21 p u cs a b d e =
         record {
-          answer = rw (← first20-meets, ← first21-meets, ← a, ← d, pointers-length, le-ltb p n b, lt-ltb u n e);
-          left = stays write (pointersOf n live bs ds) (rw (← first20-meets, ← first21-meets, ← a, ← d, pointers-length, le-ltb p n b, lt-ltb u n e));
+          answer = rw (← first20-meets, ← first21-meets, ← a, ← d .answer, pointers-length, le-ltb p n b, lt-ltb u n e);
+          contents = λ z. absurd (omega arith);
         }
 
-pub within-more : (m m′ n : ℕ) (live bs ds : List ℕ) → m ≤ m′ → Within m n live bs ds → Within m′ n live bs ds
-within-more m m′ n live bs ds h r = record { base-in = λ k a l. omega (arith, r .base-in k a l); derived-in = λ k a l. omega (arith, r .derived-in k a l) }
+  -- what is left after a judgement
+  module _ (table : ℕ → Option ℕ) (w : State) (r : Move) (cs : List ℕ) (j : Judges table w live bs ds n r cs) where
+    abbrev ps : List Pointer
+    ps = pointersOf n live bs ds
+
+    put-meets : r .number ≡ 0 → (i : ℕ) (cur : State) → i < n → putOne live ds cs i cur ≡ write1 table w cur (pointerAt live bs ds i)
+    unfolding putOne pointerAt
+    put-meets a i cur h = go (eqb (getD live i 0) 0) refl
+      where
+        go : (s : Bool) → eqb (getD live i 0) 0 ≡ s
+            → cond s cur (put cur (slotOf (getD ds i 0)) (getD cs i 0)) ≡ write1 table w cur (cond s null (slots (slotOf (getD bs i 0)) (slotOf (getD ds i 0))))
+        go true e = refl
+        go false e = rw (j .contents a .at i h (eqb-false (getD live i 0) 0 e))
+
+    puts-meet : r .number ≡ 0 → (k i : ℕ) (cur : State) → i + k ≤ n → puts live ds cs k i cur ≡ write table w cur (listFrom (pointerAt live bs ds) k i)
+    puts-meet a zero i cur h = refl
+    puts-meet a (suc k) i cur h = rw (put-meets a i cur (omega arith)) (puts-meet a k (suc i) (write1 table w cur (pointerAt live bs ds i)) (omega arith))
+
+    pub done : (after : State) → r .number ≡ 0 → after ≡ puts live ds cs n 0 w → Settles table true r after ps w
+    unfolding pointersOf
+    done after a e =
+        record {
+          answer = j .answer;
+          left = e ∙ puts-meet a n 0 w (omega arith) ∙ sym (settle-accepted table ps w (sym (ap (λ (m : Move). m .number) (j .answer)) ∙ a));
+        }
+
+    -- only judged, or refused: nothing is written
+    pub judged : Settles table false r w ps w
+    judged = record { answer = j .answer; left = refl }
+
+    pub stays : (write : Bool) → (r .number ≡ 0 → ⊥) → Settles table write r w ps w
+    stays false z = judged
+    stays true z = record { answer = j .answer; left = sym (settle-refused table ps w (λ e. z (ap (λ (m : Move). m .number) (j .answer) ∙ e))) }
+
+-- no number is near 2^63
+pub placed-below : (m registers n : ℕ) (live bs ds : List ℕ) → m ≤ registersFrom → registers ≤ 32 → AllPlaced m registers n live bs ds → Within (2 ^ 63) n live bs ds
+placed-below m registers n live bs ds h k p =
+    record {
+      base-in = λ j a l. omega (arith, placed-most m registers (getD bs j 0) h k (p .base-in j a l));
+      derived-in = λ j a l. omega (arith, placed-most m registers (getD ds j 0) h k (p .derived-in j a l));
+    }

@@ -1,18 +1,18 @@
 // Refusal 20.
-// No entry point: the arrays hold so many pairs, and their slots are inside the window, as the caller has shown.
+// No entry point: the arrays hold so many pairs, and their slots are inside the window or among the registers, as the caller has shown.
+// Slots are numbers, a register's past every window's, and so all of them compare alike.
 ghost use mathlib.Core.Path.{_≡_};
 ghost use Prim.Native.Nat.{_+_, _≤_, _<_, _^_};
 ghost use Rattle.moves.specs.Limits.{pointerSize, pairsMost};
-ghost use Rattle.moves.specs.Pointers as spec;
-ghost use Rattle.moves.specs.Pointers.{anyOverlap, slotsClash};
-ghost use Rattle.moves.specs.Arrays.{Within, clashAt, firstClash};
+ghost use lib.ListN.{length};
+ghost use Rattle.moves.specs.Arrays.{overlapAt, anyOverlapAt, slotsClashAt, Within, clashAt, firstClash};
 use moves::PAIRS_MOST;
 use moves::POINTER_SIZE;
 
 // Two slots share a byte and are not the same.
 fn overlap(x: usize, y: usize) -> bool
     requires { ⌜ (x + pointerSize < 2 ^ 64) × (y + pointerSize < 2 ^ 64) ⌝ }
-    ensures { λ r. ⌜ r ≡ spec.overlap x y ⌝ }
+    ensures { λ r. ⌜ r ≡ overlapAt x y ⌝ }
 {
     if x == y {
         return false;
@@ -29,7 +29,7 @@ fn overlap(x: usize, y: usize) -> bool
 // Of two pairs, by their base and derived slots: two listed slots overlap without being equal.
 fn any_overlap(b: usize, d: usize, b2: usize, d2: usize) -> bool
     requires { ⌜ (b + pointerSize < 2 ^ 64) × (d + pointerSize < 2 ^ 64) × (b2 + pointerSize < 2 ^ 64) × (d2 + pointerSize < 2 ^ 64) ⌝ }
-    ensures { λ r. ⌜ r ≡ anyOverlap b d b2 d2 ⌝ }
+    ensures { λ r. ⌜ r ≡ anyOverlapAt b d b2 d2 ⌝ }
 {
     if overlap(b, b2) {
         return true;
@@ -46,7 +46,7 @@ fn any_overlap(b: usize, d: usize, b2: usize, d2: usize) -> bool
 // Two pairs that are not null clash; v and v2 are their old bases.
 fn clash(b: usize, d: usize, v: u64, b2: usize, d2: usize, v2: u64) -> bool
     requires { ⌜ (b + pointerSize < 2 ^ 64) × (d + pointerSize < 2 ^ 64) × (b2 + pointerSize < 2 ^ 64) × (d2 + pointerSize < 2 ^ 64) ⌝ }
-    ensures { λ r. ⌜ r ≡ slotsClash b d v b2 d2 v2 ⌝ }
+    ensures { λ r. ⌜ r ≡ slotsClashAt b d v b2 d2 v2 ⌝ }
 {
     if any_overlap(b, d, b2, d2) {
         return true;
@@ -65,12 +65,12 @@ fn clash_at(
     live: &[u8; PAIRS_MOST],
     bases: &[usize; PAIRS_MOST],
     derived: &[usize; PAIRS_MOST],
-    contents: &[u64; PAIRS_MOST],
+    contents: &[u64],
     pairs: usize,
     p: usize,
     q: usize,
 ) -> bool
-    requires { ⌜ (pairs ≤ pairsMost) × (p < pairs) × (q < pairs) × Within (2 ^ 63) pairs (now live) (now bases) (now derived) ⌝ }
+    requires { ⌜ (pairs ≤ pairsMost) × (pairs ≤ length (now contents)) × (p < pairs) × (q < pairs) × Within (2 ^ 63) pairs (now live) (now bases) (now derived) ⌝ }
     ensures { λ r. ⌜ r ≡ clashAt (now (live .entry)) (now (bases .entry)) (now (derived .entry)) (now (contents .entry)) p q ⌝ }
 {
     if live[p] == 0 {
@@ -95,10 +95,10 @@ pub fn collision(
     live: &[u8; PAIRS_MOST],
     bases: &[usize; PAIRS_MOST],
     derived: &[usize; PAIRS_MOST],
-    contents: &[u64; PAIRS_MOST],
+    contents: &[u64],
     pairs: usize,
 ) -> usize
-    requires { ⌜ (pairs ≤ pairsMost) × Within (2 ^ 63) pairs (now live) (now bases) (now derived) ⌝ }
+    requires { ⌜ (pairs ≤ pairsMost) × (pairs ≤ length (now contents)) × Within (2 ^ 63) pairs (now live) (now bases) (now derived) ⌝ }
     ensures { λ r. ⌜ r ≡ firstClash (now (live .entry)) (now (bases .entry)) (now (derived .entry)) (now (contents .entry)) pairs ⌝ }
 {
     let mut p: usize = 0;

@@ -18,8 +18,9 @@ use Rattle.questions.specs.Questions.{ask, withAddress, atOffset, ofFunction, s
 use Rattle.moves.specs.Window.{splice}
 use Rattle.moves.specs.Search.{lowest}
 use Rattle.moves.specs.Table.{rising, noZero, tableRight, lookUp}
+use Rattle.moves.specs.Slots
 use Rattle.moves.specs.Pointers
-use Rattle.moves.specs.Settle.{atLowest, first20, put, first21, settled, settle}
+use Rattle.moves.specs.Settle.{atLowest, first20, first21, settled, settle}
 use Rattle.moves.specs.Plan.{pairOf}
 use Rattle.relocate.specs.Statepoint.{deoptCount, constantHead, pairedRest, isStatepoint, pairUp, pairs, isZero, isNull, sizeRight, pointersIn, isSlot, sameSize, rightForm}
 use Rattle.relocate.specs.Statepoint.{registerOf, slotAddress, slotsInside, slotAt, inside, pointersOf}
@@ -36,8 +37,8 @@ unfolding word bytes must chain bind pick shift bytesOf size all many functionFi
     locationItem liveOutItem recordItems versionItem itemFields listingFields encodeListing stands run listedFunction listedConstant
     listedLocation listedLiveOut listedRecord recordStop listedRecords recordsStop readItems listedOld readListing itemsStop notTooMany
     noCounts smallSizes allSmallSizes oldRight itemsCheck listingCheck toListing toSection result address entriesFrom entriesOf entries ask
-    withAddress atOffset ofFunction sought constantOf splice lowest rising noZero tableRight lookUp Pointers.overlap Pointers.anyOverlap
-    Pointers.slotsClash Pointers.clash Pointers.newDerived Pointers.newContent atLowest first20 put first21 settled settle
+    withAddress atOffset ofFunction sought constantOf splice lowest rising noZero tableRight lookUp Slots.same Slots.overlap Pointers.anyOverlap
+    Pointers.slotsClash Pointers.clash Pointers.newDerived Pointers.newContent atLowest first20 first21 settled settle
     deoptCount constantHead pairedRest isStatepoint pairUp pairs isZero isNull sizeRight pointersIn isSlot sameSize rightForm registerOf asOffset
     slotAddress slotsInside slotAt inside flatten pointersOf pairOf recordsOf only every imageRight extentRight planPairs planRecord plan answer moved got
     headerWith sectionH listingH sectionOldH listingOldH image table

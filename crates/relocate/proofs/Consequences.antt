@@ -14,6 +14,7 @@ use Rattle.stackmap.specs.Check.{sectionCheck}
 use Rattle.moves.specs.declared.Move.{Move}
 use Rattle.moves.specs.Window.{In, part}
 use Rattle.moves.specs.Table.{lookUp}
+use Rattle.moves.specs.Slots.{Slot, memory, state}
 use Rattle.moves.specs.Pointers.{Pointer, null, slots, orZero, newDerived, newContent}
 use Rattle.moves.specs.Settle.{acceptedMove}
 use Rattle.moves.specs.Plan.{Plan, refuse, window, atPair, says, leaves}
@@ -25,19 +26,19 @@ use Rattle.relocate.specs.declared.Frame.{Frame}
 use Rattle.relocate.specs.Restore.{Restore}
 use Rattle.relocate.specs.Statepoint.{pairs, pointersOf}
 use Rattle.relocate.specs.Plan.{plan}
-use Rattle.relocate.specs.Relocation.{answer, moved, OneRecord, ListedPointer, newContentAt}
+use Rattle.relocate.specs.Relocation.{noRegisters, answer, moved, OneRecord, ListedPointer, newContentAt}
 use Rattle.relocate.specs.Consequences.{Untouched, Counts, KeepsDistance, AgreeOnSlots, OnlySlotsCount}
-use Rattle.relocate.proofs.Planned.{Planned, planned, window-pair, window-lists, listed-stands}
+use Rattle.relocate.proofs.Planned.{Planned, InMemory, planned, window-pair, window-memory, window-lists, listed-stands}
 use Rattle.relocate.proofs.Demand.{demand3, accepts, plan-refused, accepted-section}
 
-untouched-plan : (table : ℕ → Option ℕ) (im : List ℕ) (p : Plan) → (says table im p .number ≡ 0 → ⊥) → leaves table im p ≡ im
-untouched-plan table im (refuse n q) h = refl
-untouched-plan table im (window off size ps) h =
-    rw (settle-refused table (flatten ps) (part im off size) h) (splice-same im off size)
+untouched-plan : (table : ℕ → Option ℕ) (im rs : List ℕ) (p : Plan) → (says table im rs p .number ≡ 0 → ⊥) → leaves table im rs p ≡ im
+untouched-plan table im rs (refuse n q) h = refl
+untouched-plan table im rs (window off size ps) h =
+    rw (settle-refused table (flatten ps) (state (part im off size) rs) h) (splice-same im off size)
 
 pub untouched : Untouched
 unfolding answer moved
-untouched R im f h = untouched-plan (lookUp (R .olds) (R .news)) im (plan R (length im) f) h
+untouched R im f h = untouched-plan (lookUp (R .olds) (R .news)) im noRegisters (plan R (length im) f) h
 
 -- the answer of an accepted frame
 accepted-answer : (R : Restore) (im : List ℕ) (f : Frame) → answer R im f .number ≡ 0
@@ -49,16 +50,16 @@ accepted-answer R im f h e one =
     let q = planned R (length im) f (length (R .section)) k (a .off) (a .size) (a .pairs) (a .is-window) in
     let same : e ≡ q .entry = (let y = q .one in cc) in
     let ps : a .pairs ≡ map (pointersOf (isOld (R .section)) (readSection (R .section) .constants) f) (pairs (e .body)) = q .pairs-are ∙ rw same in
-    rw (a .is-window, ← ps) (ap (atPair (a .pairs)) (accepted-whole (lookUp (R .olds) (R .news)) (flatten (a .pairs)) (part im (a .off) (a .size)) (a .settled-0)))
+    rw (a .is-window, ← ps) (ap (atPair (a .pairs)) (accepted-whole (lookUp (R .olds) (R .news)) (flatten (a .pairs)) (state (part im (a .off) (a .size)) noRegisters) (a .settled-0)))
 
-refused-plan : (table : ℕ → Option ℕ) (im : List ℕ) (p : Plan) → (says table im p .number ≡ 0 → ⊥) → says table im p .count ≡ 0
-refused-plan table im (refuse n q) h = refl
-refused-plan table im (window off size ps) h = refused-count table (flatten ps) (part im off size) h
+refused-plan : (table : ℕ → Option ℕ) (im rs : List ℕ) (p : Plan) → (says table im rs p .number ≡ 0 → ⊥) → says table im rs p .count ≡ 0
+refused-plan table im rs (refuse n q) h = refl
+refused-plan table im rs (window off size ps) h = refused-count table (flatten ps) (state (part im off size) rs) h
 
 refused-answer : (R : Restore) (im : List ℕ) (f : Frame)
     → (answer R im f .number ≡ 0 → ⊥) → answer R im f .count ≡ 0
 unfolding answer
-refused-answer R im f h = refused-plan (lookUp (R .olds) (R .news)) im (plan R (length im) f) h
+refused-answer R im f h = refused-plan (lookUp (R .olds) (R .news)) im noRegisters (plan R (length im) f) h
 
 pub counts : Counts
 counts =
@@ -103,10 +104,10 @@ module _ (R : Restore) (im im′ : List ℕ) (f : Frame) (g : AgreeOnSlots R f i
   abbrev table : ℕ → Option ℕ
   table = lookUp (R .olds) (R .news)
 
-  plan-agrees : (e : ℕ) → sectionCheck (R .section) ≡ Valid e → (p : Plan) → plan R (length im) f ≡ p → says table im p ≡ says table im′ p
+  plan-agrees : (e : ℕ) → sectionCheck (R .section) ≡ Valid e → (p : Plan) → plan R (length im) f ≡ p → says table im noRegisters p ≡ says table im′ noRegisters p
   plan-agrees e k (refuse n q) h = refl
   plan-agrees e k (window off size ps) h =
-      ap (atPair ps) (settled-local table (flatten ps) (part im off size) (part im′ off size) agrees)
+      ap (atPair ps) (settled-local table (flatten ps) (state (part im off size) noRegisters) (state (part im′ off size) noRegisters) agrees)
     where
       q : Planned R (length im) f off size ps
       q = planned R (length im) f e k off size ps h
@@ -118,12 +119,18 @@ module _ (R : Restore) (im im′ : List ℕ) (f : Frame) (g : AgreeOnSlots R f i
           let y = q .low in
           part-at im off size i (omega arith) ∙ same (off + i) (record { low = omega arith; high = omega arith }) ∙ sym (part-at im′ off size i (omega arith))
 
-      agrees : (p : Pointer) → List·Memᴰ p (flatten ps) → Agrees (part im off size) (part im′ off size) p
+      agrees : (p : Pointer) → List·Memᴰ p (flatten ps) → Agrees (state (part im off size) noRegisters) (state (part im′ off size) noRegisters) p
       agrees null m = tt
-      agrees (slots b d) m =
-          let v = window-pair R (length im) f e k off size ps q b d m in
-          let l = window-lists R (length im) f e k off size ps q b d m in
-          (λ i r. at b i (v .2 .1 .base-in) r (g .on-base _ _ l), λ i r. at d i (v .2 .1 .derived-in) r (g .on-derived _ _ l))
+      agrees (slots b d) m = here b d (window-memory R (length im) f off size ps q b d m) m
+        where
+          here : (b d : Slot) → InMemory b d → List·Memᴰ (slots b d) (flatten ps)
+              → Agrees (state (part im off size) noRegisters) (state (part im′ off size) noRegisters) (slots b d)
+          here b d o m =
+              let m′ : List·Memᴰ (slots (memory (o .base)) (memory (o .derived))) (flatten ps) = rw (o .base-is, o .derived-is) at m in
+              let v = window-pair R (length im) f e k off size ps q (o .base) (o .derived) m′ in
+              let l = window-lists R (length im) f e k off size ps q (o .base) (o .derived) m′ in
+              rw (o .base-is, o .derived-is)
+              (λ i r. at (o .base) i (v .2 .1 .base-in) r (g .on-base _ _ l), λ i r. at (o .derived) i (v .2 .1 .derived-in) r (g .on-derived _ _ l))
 
   same-answer : answer R im f ≡ answer R im′ f
   unfolding answer
@@ -132,7 +139,7 @@ module _ (R : Restore) (im im′ : List ℕ) (f : Frame) (g : AgreeOnSlots R f i
       P : Plan
       P = plan R (length im) f
 
-      go : (v : Verdict) → sectionCheck (R .section) ≡ v → says table im P ≡ says table im′ P
+      go : (v : Verdict) → sectionCheck (R .section) ≡ v → says table im noRegisters P ≡ says table im′ noRegisters P
       go (Valid e) k = plan-agrees e k P refl
       go (Refused n p) k = rw (plan-refused R (length im) f n p k)
 

@@ -3,7 +3,7 @@ use Prim.Native.Nat.{ℕ, _+_, _-_, _≤_, _<_}
 use mathlib.Core.Path.{_≡_, refl, sym, ap, _∙_, subst, fun-ext}
 use mathlib.Core.Logic.{_⊎_, inl, inr, ⊎-elim}
 use mathlib.Core.Option.{Option}
-use mathlib.Core.List.{List, [], _∷_, map, flatten, List·Memᴰ, List·Memᴰ·head, List·Memᴰ·tail, List·Memᴰ·cases-cons, List·Permᴰ, List·Permᴰ·nil, List·Permᴰ·cons, List·Permᴰ·swap, List·Permᴰ·trans, Permᴰ·symm}
+use mathlib.Core.List.{List, [], _∷_, map, map-map, flatten, List·Memᴰ, List·Memᴰ·head, List·Memᴰ·tail, List·Memᴰ·cases-cons, List·Permᴰ, List·Permᴰ·nil, List·Permᴰ·cons, List·Permᴰ·swap, List·Permᴰ·trans, Permᴰ·symm}
 use native.Mathlib.Omega.{arith}
 use borrow.Author.Tests.{ne-eqb}
 use lib.ListN.{length, getD}
@@ -20,7 +20,8 @@ use Rattle.questions.specs.Questions.{ask}
 use Rattle.moves.specs.declared.Move.{Move}
 use Rattle.moves.specs.Window.{In, part}
 use Rattle.moves.specs.Table.{lookUp}
-use Rattle.moves.specs.Pointers.{Pointer, slots, newContent}
+use Rattle.moves.specs.Slots.{memory, state}
+use Rattle.moves.specs.Pointers.{Pointer, newContent}
 use Rattle.moves.specs.Settle.{settled}
 use Rattle.moves.specs.Plan.{Plan, refuse, window, says, leaves}
 use Rattle.moves.proofs.Searches.{perm-mem}
@@ -32,15 +33,15 @@ use Rattle.moves.proofs.Lists.{Disjoint as WindowsApart, answers as list-answer
 use Rattle.relocate.specs.declared.Frame.{Frame}
 use Rattle.relocate.specs.Restore.{Restore}
 use Rattle.relocate.specs.Plan.{plan, stackSize}
-use Rattle.relocate.specs.Relocation.{answer, moved, OneRecord, InExtent, extentOf, newContentAt}
+use Rattle.relocate.specs.Relocation.{noRegisters, answer, moved, OneRecord, InExtent, extentOf, newContentAt}
 use Rattle.relocate.specs.Lists.{answers, final, Disjoint, Written, Holds, Demand3, OrderFree}
-use Rattle.relocate.proofs.Planned.{Above, planned, plan-above, window-lists, listed-stands, sound}
+use Rattle.relocate.proofs.Planned.{Above, planned, plan-above, window-memory, window-lists, listed-stands, sound}
 
 -- a new content in the image, and in a window of it
-content-part : (table : ℕ → Option ℕ) (im : List ℕ) (off n b d : ℕ) → b + 8 ≤ n → d + 8 ≤ n
-    → newContent table (part im off n) b d ≡ newContent table im (off + b) (off + d)
+content-part : (table : ℕ → Option ℕ) (im rs : List ℕ) (off n b d : ℕ) → b + 8 ≤ n → d + 8 ≤ n
+    → newContent table (state (part im off n) rs) (memory b) (memory d) ≡ newContent table (state im rs) (memory (off + b)) (memory (off + d))
 unfolding newContent
-content-part table im off n b d h k = rw (word-part 8 im off n b h, word-part 8 im off n d k)
+content-part table im rs off n b d h k = rw (word-part 8 im off n b h, word-part 8 im off n d k)
 
 -- a refused section's number and place are the plan's, and an answer with the number 0 is of an accepted section
 pub plan-refused : (R : Restore) (n : ℕ) (f : Frame) (m p : ℕ) → sectionCheck (R .section) ≡ Refused m p → plan R n f ≡ refuse m p
@@ -65,15 +66,19 @@ unfolding extentOf
 extent-is s f e one k = rw (one, ne-eqb (stackSize e) stackSizeUnknown k)
 
 -- a plan as a task of moves
-says-task : (table : ℕ → Option ℕ) (im : List ℕ) (p : Plan) → says table im p ≡ answerIn im (taskOf table p)
+says-task : (table : ℕ → Option ℕ) (im rs : List ℕ) (p : Plan) → says table im rs p ≡ answerIn im (taskOf table rs p) .0
 unfolding windowTask refusedTask
-says-task table im (refuse n q) = refl
-says-task table im (window off size ps) = refl
+says-task table im rs (refuse n q) = refl
+says-task table im rs (window off size ps) = refl
 
-leaves-task : (table : ℕ → Option ℕ) (im : List ℕ) (p : Plan) → leaves table im p ≡ after im (taskOf table p)
+leaves-task : (table : ℕ → Option ℕ) (im rs : List ℕ) (p : Plan) → leaves table im rs p ≡ after im (taskOf table rs p)
 unfolding windowTask refusedTask after
-leaves-task table im (refuse n q) = sym (splice-same im 0 0)
-leaves-task table im (window off size ps) = refl
+leaves-task table im rs (refuse n q) = sym (splice-same im 0 0)
+leaves-task table im rs (window off size ps) = refl
+
+-- the answer, of an answer and the registers that are left
+abbrev answerOf : Move × List ℕ → Move
+answerOf a = a .0
 
 module _ (R : Restore) (e : ℕ) (k : sectionCheck (R .section) ≡ Valid e) where
   abbrev pub P : ℕ → Frame → Plan
@@ -82,7 +87,10 @@ module _ (R : Restore) (e : ℕ) (k : sectionCheck (R .section) ≡ Valid e) whe
   abbrev pub table : ℕ → Option ℕ
   table = lookUp (R .olds) (R .news)
 
-  snd : (n : ℕ) (f : Frame) → Sound n (P n f)
+  abbrev none-brought : Frame → List ℕ
+  none-brought f = noRegisters
+
+  snd : (n : ℕ) (f : Frame) → Sound n (length (none-brought f)) (P n f)
   snd n f = sound R n f e k
 
   -- a byte of a window is a byte of an extent
@@ -102,19 +110,19 @@ module _ (R : Restore) (e : ℕ) (k : sectionCheck (R .section) ≡ Valid e) whe
   disjoint n [] d = tt
   disjoint n (f ∷ fs) d = (λ g m i q r. d .0 g m (R .first + i) (in-extent n f i q) (in-extent n g i r), disjoint n fs (d .1))
 
-  abbrev tasks : ℕ → Frame → Task Move
-  tasks n f = taskOf table (P n f)
+  abbrev tasks : ℕ → Frame → Task (Move × List ℕ)
+  tasks n f = taskOf table noRegisters (P n f)
 
   -- one move, as a task
-  one-says : (im : List ℕ) (f : Frame) → answer R im f ≡ answerIn im (tasks (length im) f)
+  one-says : (im : List ℕ) (f : Frame) → answer R im f ≡ answerIn im (tasks (length im) f) .0
   unfolding answer
-  one-says im f = says-task table im (P (length im) f)
+  one-says im f = says-task table im noRegisters (P (length im) f)
 
   one-leaves : (im : List ℕ) (f : Frame) → moved R im f ≡ after im (tasks (length im) f)
   unfolding moved
-  one-leaves im f = leaves-task table im (P (length im) f)
+  one-leaves im f = leaves-task table im noRegisters (P (length im) f)
 
-  answers-run : (fs : List Frame) (im : List ℕ) → answers R fs im ≡ runAnswers tasks fs im
+  answers-run : (fs : List Frame) (im : List ℕ) → answers R fs im ≡ map answerOf (runAnswers tasks fs im)
   answers-run [] im = refl
   answers-run (f ∷ fs) im = rw (one-says im f, one-leaves im f, answers-run fs (after im (tasks (length im) f)))
 
@@ -126,11 +134,12 @@ module _ (R : Restore) (e : ℕ) (k : sectionCheck (R .section) ≡ Valid e) whe
   final-length [] im = refl
   final-length (f ∷ fs) im =
       rw (one-leaves im f)
-      (final-length fs (after im (tasks (length im) f)) ∙ after-length im (tasks (length im) f) (task-good table (length im) (P (length im) f) (snd (length im) f)))
+      (final-length fs (after im (tasks (length im) f)) ∙ after-length im (tasks (length im) f) (task-good table (length im) noRegisters (P (length im) f) (snd (length im) f)))
 
   plain : (fs : List Frame) (im : List ℕ) → Disjoint (R .section) fs → answers R fs im ≡ map (answer R im) fs
   plain fs im d =
-      answers-run fs im ∙ list-answers table P snd fs im (disjoint (length im) fs d)
+      answers-run fs im ∙ ap (map answerOf) (list-answers table none-brought P snd fs im (disjoint (length im) fs d))
+      ∙ map-map answerOf (λ f. answerIn im (tasks (length im) f)) fs
       ∙ ap (λ (g : Frame → Move). map g fs) (fun-ext (λ f. sym (one-says im f)))
 
   -- an accepted frame has a window, and its pairs are settled
@@ -139,18 +148,18 @@ module _ (R : Restore) (e : ℕ) (k : sectionCheck (R .section) ≡ Valid e) whe
     pub size : ℕ
     pub pairs : List (List Pointer)
     pub is-window : P (length im) f ≡ window off size pairs
-    pub settled-0 : settled table (flatten pairs) (part im off size) .number ≡ 0
+    pub settled-0 : settled table (flatten pairs) (state (part im off size) noRegisters) .number ≡ 0
 
   pub accepts : (im : List ℕ) (f : Frame) → answer R im f .number ≡ 0 → Passed im f
   unfolding answer
   accepts im f h = go (P (length im) f) refl (plan-above R (length im) f e k) h
     where
-      go : (p : Plan) → P (length im) f ≡ p → Above p → says table im p .number ≡ 0 → Passed im f
+      go : (p : Plan) → P (length im) f ≡ p → Above p → says table im noRegisters p .number ≡ 0 → Passed im f
       go (refuse n q) g a z = absurd (omega arith)
       go (window off size ws) g a z = record { off = off; size = size; pairs = ws; is-window = g; settled-0 = z }
 
   yes-answer : (f : Frame) (off size : ℕ) (ps : List (List Pointer)) (im : List ℕ) → P (length im) f ≡ window off size ps
-      → settled table (flatten ps) (part im off size) .number ≡ 0 → answer R im f .number ≡ 0
+      → settled table (flatten ps) (state (part im off size) noRegisters) .number ≡ 0 → answer R im f .number ≡ 0
   unfolding answer
   yes-answer f off size ps im g z = rw g z
 
@@ -166,8 +175,8 @@ module _ (R : Restore) (e : ℕ) (k : sectionCheck (R .section) ≡ Valid e) whe
       let ob : b - R .first ≡ a .off + b′ = omega (arith, q .off-is, q .low, v .base-is) in
       let od : d - R .first ≡ a .off + d′ = omega (arith, q .off-is, q .low, v .derived-is) in
       let p : R .first + i - d ≡ i - (a .off + d′) = omega (arith, q .off-is, q .low, v .derived-is) in
-      rw (final-run fs im, ob, od, p, ← content-part table im (a .off) (a .size) b′ d′ (v .base-in) (v .derived-in))
-      (final-slot table P snd fs im (disjoint (length im) fs dis) f (w .in-list) (a .off) (a .size) (a .pairs) b′ d′ i
+      rw (final-run fs im, ob, od, p, ← content-part table im noRegisters (a .off) (a .size) b′ d′ (v .base-in) (v .derived-in))
+      (final-slot table none-brought P snd fs im (disjoint (length im) fs dis) f (w .in-list) (a .off) (a .size) (a .pairs) (memory b′) d′ i
       (record {
         planned = a .is-window;
         accepted = a .settled-0;
@@ -179,14 +188,15 @@ module _ (R : Restore) (e : ℕ) (k : sectionCheck (R .section) ≡ Valid e) whe
       → getD (final R fs im) i 0 ≡ getD im i 0
   rest fs im dis i none =
       rw (final-run fs im)
-      (final-rest table P snd fs im (disjoint (length im) fs dis) i (λ f m off size ps b d h.
+      (final-rest table none-brought P snd fs im (disjoint (length im) fs dis) i (λ f m off size ps b d h.
       let q = planned R (length im) f e k off size ps (h .planned) in
-      none (f .sp + b) (f .sp + d)
+      let o = window-memory R (length im) f off size ps q b (memory d) (h .listed) in
+      none (f .sp + o .base) (f .sp + d)
       (record {
         frame = f;
         in-list = m;
         accepted = yes-answer f off size ps im (h .planned) (h .accepted);
-        lists = window-lists R (length im) f e k off size ps q b d (h .listed);
+        lists = window-lists R (length im) f e k off size ps q (o .base) d (rw (o .base-is) at (h .listed));
         inside = record { low = omega (arith, h .inside .low, q .off-is, q .low); high = omega (arith, h .inside .high, q .off-is, q .low) };
       })))
 
@@ -194,13 +204,13 @@ module _ (R : Restore) (e : ℕ) (k : sectionCheck (R .section) ≡ Valid e) whe
   one-image : (fs gs : List Frame) (im : List ℕ) → List·Permᴰ fs gs → Disjoint (R .section) fs → Disjoint (R .section) gs
       → final R fs im ≡ final R gs im
   one-image fs gs im perm df dg =
-      ext-getD 0 _ _ (final-length fs im ∙ sym (final-length gs im)) (λ i h. rw (final-run fs im, final-run gs im) (go i (find table P snd (length im) fs i)))
+      ext-getD 0 _ _ (final-length fs im ∙ sym (final-length gs im)) (λ i h. rw (final-run fs im, final-run gs im) (go i (find table none-brought P snd (length im) fs i)))
     where
       sf : Separate (length im) (map (tasks (length im)) fs)
-      sf = separate table P snd (length im) fs (disjoint (length im) fs df)
+      sf = separate table none-brought P snd (length im) fs (disjoint (length im) fs df)
 
       sg : Separate (length im) (map (tasks (length im)) gs)
-      sg = separate table P snd (length im) gs (disjoint (length im) gs dg)
+      sg = separate table none-brought P snd (length im) gs (disjoint (length im) gs dg)
 
       Here : ℕ → Frame → Type 0
       Here i f = In (tasks (length im) f .off) (tasks (length im) f .size) i

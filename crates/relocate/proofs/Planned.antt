@@ -16,6 +16,7 @@ use Rattle.stackmap.specs.Verdict.{need}
 use Rattle.stackmap.specs.Section.{Location, Entry, isOld, readSection}
 use Rattle.stackmap.specs.Check.{sectionCheck}
 use Rattle.stackmap.proofs.Tests.{and-true, not-true}
+use Rattle.moves.specs.Slots.{Slot, memory}
 use Rattle.moves.specs.Pointers.{Pointer, null, slots, orZero}
 use Rattle.moves.specs.Table.{tableRight}
 use Rattle.moves.specs.Plan.{Plan, refuse, window}
@@ -123,6 +124,13 @@ pub record From (old : Bool) (pool : List ℕ) (f : Frame) (n b d : ℕ) (p : Pa
   pub base-in : b + 8 ≤ n
   pub derived-in : d + 8 ≤ n
 
+-- two slots in memory
+pub record InMemory (b d : Slot) : Type 0 where
+  pub base : ℕ
+  pub derived : ℕ
+  pub base-is : b ≡ memory base
+  pub derived-is : d ≡ memory derived
+
 module _ (old : Bool) (pool : List ℕ) (f : Frame) where
   pub from-slots : (n : ℕ) (p : Pair) (i : ℕ) → inside old pool f n p ≡ true → sameSize old p ≡ true → isNull pool p ≡ false
       → i < pointersIn old (p .base .size) → From old pool f n (slotAt f (p .base) + 8 * i) (slotAt f (p .derived) + 8 * i) p i
@@ -142,11 +150,11 @@ module _ (old : Bool) (pool : List ℕ) (f : Frame) where
       }
 
   -- a pointer of a run, by its number
-  in-run : (n b d b₀ d₀ : ℕ) → List·Memᴰ (slots b d) (pointersFrom n b₀ d₀) → (i : ℕ) × (i < n) × (b₀ + 8 * i ≡ b) × (d₀ + 8 * i ≡ d)
+  in-run : (n b d b₀ d₀ : ℕ) → List·Memᴰ (slots (memory b) (memory d)) (pointersFrom n b₀ d₀) → (i : ℕ) × (i < n) × (b₀ + 8 * i ≡ b) × (d₀ + 8 * i ≡ d)
   in-run zero b d b₀ d₀ m = absurd (List·Memᴰ·not-nil m)
   in-run (suc n) b d b₀ d₀ m = ⊎-elim first (λ k. on (in-run n b d (b₀ + 8) (d₀ + 8) k)) (List·Memᴰ·cases-cons m)
     where
-      first : slots b d ≡ slots b₀ d₀ → (i : ℕ) × (i < suc n) × (b₀ + 8 * i ≡ b) × (d₀ + 8 * i ≡ d)
+      first : slots (memory b) (memory d) ≡ slots (memory b₀) (memory d₀) → (i : ℕ) × (i < suc n) × (b₀ + 8 * i ≡ b) × (d₀ + 8 * i ≡ d)
       first e =
           let x : b₀ ≡ b = cc in
           let y : d₀ ≡ d = cc in
@@ -155,7 +163,7 @@ module _ (old : Bool) (pool : List ℕ) (f : Frame) where
       on : (i : ℕ) × (i < n) × (b₀ + 8 + 8 * i ≡ b) × (d₀ + 8 + 8 * i ≡ d) → (i : ℕ) × (i < suc n) × (b₀ + 8 * i ≡ b) × (d₀ + 8 * i ≡ d)
       on r = (suc (r .0), omega (arith, r .1), omega (arith, r .2), omega (arith, r .3))
 
-  of-run : (n b d i : ℕ) → i < n → List·Memᴰ (slots (b + 8 * i) (d + 8 * i)) (pointersFrom n b d)
+  of-run : (n b d i : ℕ) → i < n → List·Memᴰ (slots (memory (b + 8 * i)) (memory (d + 8 * i))) (pointersFrom n b d)
   of-run zero b d i h = absurd (not-suc-le-zero h)
   of-run (suc n) b d zero h =
       let x : b + 8 * 0 ≡ b = omega arith in
@@ -166,12 +174,31 @@ module _ (old : Bool) (pool : List ℕ) (f : Frame) where
       let y : d + 8 * suc i ≡ d + 8 + 8 * i = omega arith in
       rw (x, y) (List·Memᴰ·tail (of-run n (b + 8) (d + 8) i (omega arith)))
 
+  -- every slot is in memory
+  run-memory : (n b₀ d₀ : ℕ) (b d : Slot) → List·Memᴰ (slots b d) (pointersFrom n b₀ d₀) → InMemory b d
+  run-memory zero b₀ d₀ b d m = absurd (List·Memᴰ·not-nil m)
+  run-memory (suc n) b₀ d₀ b d m = ⊎-elim first (run-memory n (b₀ + 8) (d₀ + 8) b d) (List·Memᴰ·cases-cons m)
+    where
+      first : slots b d ≡ slots (memory b₀) (memory d₀) → InMemory b d
+      first e = record { base = b₀; derived = d₀; base-is = cc; derived-is = cc }
+
+  pub pair-memory : (p : Pair) (b d : Slot) → List·Memᴰ (slots b d) (pointersOf old pool f p) → InMemory b d
+  unfolding pointersOf
+  pair-memory p b d m = go (isNull pool p) refl
+    where
+      alone : List·Memᴰ (slots b d) (null ∷ []) → slots b d ≡ null
+      alone k = ⊎-elim (λ e. e) (λ x. absurd (List·Memᴰ·not-nil x)) (List·Memᴰ·cases-cons k)
+
+      go : (t : Bool) → isNull pool p ≡ t → InMemory b d
+      go true q = absurd (let w = alone (rw q at m) in let z : _≡_ {A = ℕ} 0 1 = cc in omega arith)
+      go false q = run-memory (pointersIn old (p .base .size)) (slotAt f (p .base)) (slotAt f (p .derived)) b d (rw q at m)
+
   pub pair-from : (n : ℕ) (p : Pair) (b d : ℕ) → inside old pool f n p ≡ true → (isNull pool p ≡ false → sameSize old p ≡ true)
-      → List·Memᴰ (slots b d) (pointersOf old pool f p) → (i : ℕ) × From old pool f n b d p i
+      → List·Memᴰ (slots (memory b) (memory d)) (pointersOf old pool f p) → (i : ℕ) × From old pool f n b d p i
   unfolding pointersOf
   pair-from n p b d h s m = go (isNull pool p) refl
     where
-      alone : List·Memᴰ (slots b d) (null ∷ []) → slots b d ≡ null
+      alone : List·Memᴰ (slots (memory b) (memory d)) (null ∷ []) → slots (memory b) (memory d) ≡ null
       alone k = ⊎-elim (λ e. e) (λ x. absurd (List·Memᴰ·not-nil x)) (List·Memᴰ·cases-cons k)
 
       go : (t : Bool) → isNull pool p ≡ t → (i : ℕ) × From old pool f n b d p i
@@ -181,7 +208,7 @@ module _ (old : Bool) (pool : List ℕ) (f : Frame) where
           (r .0, rw (r .2, r .3) at (from-slots n p (r .0) h (s q) q (r .1)))
 
   pub pair-slots : (p : Pair) (i : ℕ) → isNull pool p ≡ false → i < pointersIn old (p .base .size)
-      → List·Memᴰ (slots (slotAt f (p .base) + 8 * i) (slotAt f (p .derived) + 8 * i)) (pointersOf old pool f p)
+      → List·Memᴰ (slots (memory (slotAt f (p .base) + 8 * i)) (memory (slotAt f (p .derived) + 8 * i))) (pointersOf old pool f p)
   unfolding pointersOf
   pair-slots p i e h = rw e (of-run (pointersIn old (p .base .size)) (slotAt f (p .base)) (slotAt f (p .derived)) i h)
 
@@ -256,15 +283,20 @@ module _ (R : Restore) (n : ℕ) (f : Frame) where
       (need-above (leb (length (flatten (map (pointersOf old pool f) (pairs (x .body))))) (R .most)) 16 _ (every-above _ 18 0 _ _ tt)))))))))
 
   pub window-pair : (e : ℕ) → sectionCheck (R .section) ≡ Valid e → (off size : ℕ) (ws : List (List Pointer)) (q : Planned off size ws)
-      → (b d : ℕ) → List·Memᴰ (slots b d) (flatten ws) → (p : Pair) × List·Memᴰ p (pairs (q .entry .body)) × ((i : ℕ) × From old pool f size b d p i)
+      → (b d : ℕ) → List·Memᴰ (slots (memory b) (memory d)) (flatten ws) → (p : Pair) × List·Memᴰ p (pairs (q .entry .body)) × ((i : ℕ) × From old pool f size b d p i)
   window-pair e k off size ws q b d m =
       let o = in-block (pointersOf old pool f) (pairs (q .entry .body)) (rw (q .pairs-are) at m) in
       let form : isNull pool (o .0) ≡ false → sameSize old (o .0) ≡ true = λ z. form-slots (f .machine) old pool (o .0) (q .forms (o .0) (o .1)) z .2 in
       (o .0, o .1, rw (q .size-is) (pair-from old pool f (stackSize (q .entry)) (o .0) b d (q .insides (o .0) (o .1)) form (o .2)))
 
+  pub window-memory : (off size : ℕ) (ws : List (List Pointer)) (q : Planned off size ws) (b d : Slot) → List·Memᴰ (slots b d) (flatten ws) → InMemory b d
+  window-memory off size ws q b d m =
+      let o = in-block (pointersOf old pool f) (pairs (q .entry .body)) (rw (q .pairs-are) at m) in
+      pair-memory old pool f (o .0) b d (o .2)
+
   -- and is listed
   pub window-lists : (e : ℕ) → sectionCheck (R .section) ≡ Valid e → (off size : ℕ) (ws : List (List Pointer)) (q : Planned off size ws)
-      → (b d : ℕ) → List·Memᴰ (slots b d) (flatten ws) → ListedPointer (R .section) f (f .sp + b) (f .sp + d)
+      → (b d : ℕ) → List·Memᴰ (slots (memory b) (memory d)) (flatten ws) → ListedPointer (R .section) f (f .sp + b) (f .sp + d)
   window-lists e k off size ws q b d m =
       let v = window-pair e k off size ws q b d m in
       let t = form-slots (f .machine) old pool (v .0) (q .forms (v .0) (v .1)) (v .2 .1 .not-null) in
@@ -291,7 +323,7 @@ module _ (R : Restore) (n : ℕ) (f : Frame) where
     pub derived-is : d ≡ f .sp + derived
     pub base-in : base + 8 ≤ size
     pub derived-in : derived + 8 ≤ size
-    pub member : List·Memᴰ (slots base derived) (flatten ws)
+    pub member : List·Memᴰ (slots (memory base) (memory derived)) (flatten ws)
 
   pub listed-stands : (off size : ℕ) (ws : List (List Pointer)) (q : Planned off size ws) (b d : ℕ) → ListedPointer (R .section) f b d → Stands off size ws b d
   listed-stands off size ws q b d l =
@@ -309,15 +341,20 @@ module _ (R : Restore) (n : ℕ) (f : Frame) where
         member = rw (q .pairs-are) (of-block (pointersOf old pool f) (pairs (q .entry .body)) m (pair-slots old pool f (l .pair) (l .pointer) (l .not-null) (l .held)));
       }
 
-  pub sound : (e : ℕ) → sectionCheck (R .section) ≡ Valid e → Sound n (plan R n f)
+  pub sound : (e : ℕ) → sectionCheck (R .section) ≡ Valid e → Sound n 0 (plan R n f)
   sound e k = go (plan R n f) refl
     where
-      go : (p : Plan) → plan R n f ≡ p → Sound n p
+      go : (p : Plan) → plan R n f ≡ p → Sound n 0 p
       go (refuse m p) h = tt
       go (window off size ws) h =
           let q = planned e k off size ws h in
           record {
             window-in = omega arith;
-            base-in = λ b d m. window-pair e k off size ws q b d m .2 .1 .base-in;
-            derived-in = λ b d m. window-pair e k off size ws q b d m .2 .1 .derived-in;
+            base-in = λ b d m. let o = window-memory off size ws q b d m in rw (o .base-is) (bounds q b d m o .0);
+            derived-in = λ b d m. let o = window-memory off size ws q b d m in rw (o .derived-is) (bounds q b d m o .1);
           }
+        where
+          bounds : (q : Planned off size ws) (b d : Slot) → List·Memᴰ (slots b d) (flatten ws) → (o : InMemory b d) → (o .base + 8 ≤ size) × (o .derived + 8 ≤ size)
+          bounds q b d m o =
+              let v = window-pair e k off size ws q (o .base) (o .derived) (rw (o .base-is, o .derived-is) at m) in
+              (v .2 .1 .base-in, v .2 .1 .derived-in)

@@ -18,19 +18,19 @@ use Rattle.stackmap.proofs.Entries.{old-of}
 use Rattle.stackmap.proofs.WellFormed.{well-formed-accepted, accepted-well-formed}
 use Rattle.moves.specs.Window.{part, splice}
 use Rattle.moves.specs.Table.{tableRight, lookUp}
+use Rattle.moves.specs.Slots.{State, state}
 use Rattle.moves.specs.Pointers.{Pointer}
 use Rattle.moves.specs.Plan.{Plan, refuse, window, says, leaves}
 use Rattle.moves.proofs.Searches.{perm-mem, perm-length}
-use Rattle.moves.proofs.Splice.{part-length}
 use Rattle.moves.proofs.Order.{Alike, settle-perm}
 use Rattle.moves.proofs.Blocks.{blocks-perm, pairs-alike}
-use Rattle.moves.proofs.Lists.{Sound}
+use Rattle.moves.proofs.Lists.{Sound, all-inside}
 use Rattle.relocate.specs.declared.Frame.{Frame}
 use Rattle.questions.specs.Questions.{ask, among, withAddress, atOffset, ofFunction, sought}
 use Rattle.relocate.specs.Restore.{Restore}
 use Rattle.relocate.specs.Statepoint.{isStatepoint, Pair, pairs, rightForm, inside, pointersOf}
 use Rattle.relocate.specs.Plan.{recordsOf, only, every, stackSize, imageRight, extentRight, planPairs, planRecord, plan}
-use Rattle.relocate.specs.Relocation.{answer, moved}
+use Rattle.relocate.specs.Relocation.{noRegisters, answer, moved}
 use Rattle.relocate.specs.Code.{planEntry}
 use Rattle.relocate.specs.Reorder.{OtherOrder, withSection, PairOrder}
 use Rattle.relocate.proofs.Planned.{every-yes, every-no, sound}
@@ -146,14 +146,13 @@ same-only (e ∷ x ∷ es) (e′ ∷ []) k k′ l h = absurd (l .1)
 same-only (e ∷ x ∷ es) (e′ ∷ x′ ∷ es′) k k′ l h = refusals (λ q. refl)
 
 -- what two such plans do to an image
-alike : (table : ℕ → Option ℕ) (im : List ℕ) {p p′ : Plan} → Sound (length im) p → SamePlan p p′
-    → Alike (says table im p) (says table im p′) × (leaves table im p′ ≡ leaves table im p)
-alike table im s (refusals h) = (record { number = refl; count = refl; place = λ l. sym (h l) }, refl)
-alike table im s (windows {off = off} {size = size} {ps = ps} {qs = qs} perm) =
-    let w = part im off size in
-    let l : length w ≡ size = part-length im off size (s .window-in) in
-    let e = settle-perm table w (blocks-perm perm) (λ b d m. rw l (s .derived-in b d m)) in
-    (pairs-alike table w ps qs (e .0), ap (splice im off size) (sym (e .1)))
+alike : (table : ℕ → Option ℕ) (im rs : List ℕ) {p p′ : Plan} → Sound (length im) (length rs) p → SamePlan p p′
+    → Alike (says table im rs p) (says table im rs p′) × (leaves table im rs p′ ≡ leaves table im rs p)
+alike table im rs s (refusals h) = (record { number = refl; count = refl; place = λ l. sym (h l) }, refl)
+alike table im rs s (windows {off = off} {size = size} {ps = ps} {qs = qs} perm) =
+    let w = state (part im off size) rs in
+    let e = settle-perm table w (blocks-perm perm) (all-inside table (length im) off size im rs (flatten ps) (s .window-in) s) in
+    (pairs-alike table w ps qs (e .0), ap (λ (v : State). splice im off size (v .window)) (sym (e .1)))
 
 module _ (R : Restore) (s′ : List ℕ) (w : Bytes (R .section)) (o : OtherOrder (R .section) s′) where
   abbrev R′ : Restore
@@ -191,7 +190,7 @@ module _ (R : Restore) (s′ : List ℕ) (w : Bytes (R .section)) (o : OtherOrde
 
     both : Alike (answer R im f) (answer R′ im f) × (moved R′ im f ≡ moved R im f)
     unfolding answer moved
-    both = alike (lookUp (R .olds) (R .news)) im (sound R (length im) f (length (R .section)) (o .accepted)) same-plan
+    both = alike (lookUp (R .olds) (R .news)) im noRegisters (sound R (length im) f (length (R .section)) (o .accepted)) same-plan
 
 pub pair-order : PairOrder
 pair-order R s′ w o =

@@ -10,6 +10,7 @@ use Rattle.stackmap.specs.Layout.{stackSizeUnknown}
 use Rattle.stackmap.specs.Section.{Entry, isOld, readSection}
 use Rattle.moves.specs.declared.Move.{Move}
 use Rattle.moves.specs.Table.{lookUp}
+use Rattle.moves.specs.Slots.{memory, state}
 use Rattle.moves.specs.Pointers.{newContent}
 use Rattle.moves.specs.Plan.{says, leaves}
 use Rattle.relocate.specs.declared.Frame.{Frame}
@@ -17,14 +18,18 @@ use Rattle.relocate.specs.Restore.{Restore}
 use Rattle.relocate.specs.Statepoint.{isStatepoint, Pair, pairs, isNull, isSlot, pointersIn, slotNumber}
 use Rattle.relocate.specs.Plan.{plan, recordsOf, stackSize}
 
+-- a frame brings no registers yet: every slot is in memory
+abbrev pub noRegisters : List ℕ
+noRegisters = []
+
 module _ (R : Restore) where
   -- the answer: a refusal's number and place, or 0 and the number of pointers, null ones included
   unfoldable pub answer : List ℕ → Frame → Move
-  answer im f = says (lookUp (R .olds) (R .news)) im (plan R (length im) f)
+  answer im f = says (lookUp (R .olds) (R .news)) im noRegisters (plan R (length im) f)
 
   -- the image that it leaves
   unfoldable pub moved : List ℕ → Frame → List ℕ
-  moved im f = leaves (lookUp (R .olds) (R .news)) im (plan R (length im) f)
+  moved im f = leaves (lookUp (R .olds) (R .news)) im noRegisters (plan R (length im) f)
 
 -- the frame names exactly one record
 abbrev pub OneRecord : List ℕ → Frame → Entry → Type 0
@@ -67,4 +72,4 @@ pub record ListedPointer (s : List ℕ) (f : Frame) (b d : ℕ) : Type 0 where
 
 -- the new content of a derived slot at the address d with its base slot at b, by the image's bytes
 abbrev pub newContentAt : Restore → List ℕ → ℕ → ℕ → ℕ
-newContentAt R im b d = newContent (lookUp (R .olds) (R .news)) im (b - R .first) (d - R .first)
+newContentAt R im b d = newContent (lookUp (R .olds) (R .news)) (state im noRegisters) (memory (b - R .first)) (memory (d - R .first))

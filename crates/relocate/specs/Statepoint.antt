@@ -8,6 +8,7 @@ use lib.Dec.{eqb, ltb, leb}
 use Rattle.stackmap.specs.Layout.{kindConstIndex, negativeFrom}
 use Rattle.stackmap.specs.Section.{Location, Record, Offset, up, down, asOffset}
 use Rattle.moves.specs.Limits.{pointerSize}
+use Rattle.moves.specs.Slots.{memory}
 use Rattle.moves.specs.Pointers.{Pointer, null, slots, orZero}
 use Rattle.relocate.specs.declared.Frame.{Frame}
 use Rattle.relocate.specs.declared.Machine.{Machine}
@@ -132,7 +133,7 @@ slotAt f l = orZero (slotAddress f l) - f .sp
 -- n pointers, from these two slots on, in rising address order
 abbrev pub pointersFrom : ℕ → ℕ → ℕ → List Pointer
 pointersFrom zero b d = []
-pointersFrom (suc n) b d = slots b d ∷ pointersFrom n (b + pointerSize) (d + pointerSize)
+pointersFrom (suc n) b d = slots (memory b) (memory d) ∷ pointersFrom n (b + pointerSize) (d + pointerSize)
 
 -- the pointers of a pair, by their slots, counted from the stack pointer; a null pair is one pointer, without slots
 unfoldable pub pointersOf : Bool → List ℕ → Frame → Pair → List Pointer

@@ -28,16 +28,16 @@ use Rattle.relocate.specs.Limits.{imageMost}
 use Rattle.relocate.specs.Restore.{Restore}
 use Rattle.relocate.specs.Statepoint.{isStatepoint, pairs, rightForm, inside}
 use Rattle.relocate.specs.Plan.{recordsOf, only, stackSize, imageRight, extentRight, planPairs, planRecord, plan}
-use Rattle.relocate.specs.Relocation.{answer, moved}
+use Rattle.relocate.specs.Relocation.{noRegisters, answer, moved}
 use Rattle.relocate.specs.Code.{recordOf, poolOf, planEntry, planSlots, Relocates, pairNumber, pointersBy}
 use Rattle.relocate_frame.proofs.Following.{every-refused, every-passed}
 use Rattle.relocate_frame.proofs.Asking.{one-found, body-is, size-is}
 
 -- a refusal follows a plan that is one
 pub refuses : (write : Bool) (r : Move) (table : ℕ → Option ℕ) (im : List ℕ) (p : Plan) (n i : ℕ) → r ≡ refusedMove n i → p ≡ refuse n i
-    → Follows write r im table im p
-refuses true r table im p n i h e = rw (h, e) (record { answer = refl; left = refl })
-refuses false r table im p n i h e = rw (h, e) (record { answer = refl; left = refl })
+    → Follows write r im noRegisters table im noRegisters p
+refuses true r table im p n i h e = rw (h, e) (record { answer = refl; left = refl; registers-left = refl })
+refuses false r table im p n i h e = rw (h, e) (record { answer = refl; left = refl; registers-left = refl })
 
 -- 13
 
@@ -179,7 +179,7 @@ module _ (R : Restore) (n : ℕ) (f : Frame) where
 -- 1 to 9, 13, 14
 
 module _ (R : Restore) (im : List ℕ) (f : Frame) where
-  pub relocates : (r : Move) (after : List ℕ) → Follows true r after (lookUp (R .olds) (R .news)) im (plan R (length im) f) → Relocates R im f r after
+  pub relocates : (r : Move) (after : List ℕ) → Follows true r after noRegisters (lookUp (R .olds) (R .news)) im noRegisters (plan R (length im) f) → Relocates R im f r after
   unfolding answer moved
   relocates r after h = record { answer-is = h .answer; image-is = h .left }
 

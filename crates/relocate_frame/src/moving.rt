@@ -17,6 +17,7 @@ ghost use Rattle.moves.specs.Code.{Follows};
 ghost use Rattle.relocate.specs.declared.Frame as frameType;
 ghost use Rattle.relocate.specs.Limits.{imageMost};
 ghost use Rattle.relocate.specs.Restore.{restore};
+ghost use Rattle.relocate.specs.Relocation.{noRegisters};
 ghost use Rattle.relocate.specs.Statepoint as spec;
 ghost use Rattle.relocate.specs.Statepoint.{rightForm};
 ghost use Rattle.relocate.specs.Plan.{recordsOf, imageRight, extentRight, only, planPairs, planRecord};
@@ -82,7 +83,7 @@ fn move_slots(
         × ((p : ℕ) → p < count → rightForm (frame .machine) old (poolOf (now s)) (pairNumber (recordOf (now s) at) p) ≡ true)
         × (pointers ≡ length (flatten (pointersBy old (poolOf (now s)) frame (recordOf (now s) at)))) × (pointers ≤ pairsMost)
         × (extentRight first (length (now image)) (frame .sp) size ≡ true) × (size ≤ imageMost) × (tableRight (now olds) (now news) ≡ true) ⌝ }
-    ensures { λ r. ⌜ Follows write r (now (image .exit)) (lookUp (now (olds .entry)) (now (news .entry))) (now (image .entry))
+    ensures { λ r. ⌜ Follows write r (now (image .exit)) noRegisters (lookUp (now (olds .entry)) (now (news .entry))) (now (image .entry)) noRegisters
         (planSlots (restore (now (s .entry)) (now (olds .entry)) (now (news .entry)) first) frame size (spec.pairs (recordOf (now (s .entry)) at))) ⌝ }
 {
     let mut live = [0u8; PAIRS_MOST];
@@ -104,13 +105,17 @@ fn move_slots(
         return refused(19, out);
     }
     let off = (frame.sp - first) as usize;
+    let mut values = [0u64; PAIRS_MOST];
+    let mut registers = [0u64; 1];
     let m = moves_window::move_window(
         image,
+        &mut registers[0..0],
         off,
         off + size,
         &live,
         &bases,
         &derived,
+        &mut values,
         pointers,
         olds,
         news,
@@ -136,7 +141,7 @@ fn move_pairs(
 ) -> Move
     requires { ⌜ Paired (now s) at start count × (old ≡ isOld (now s)) × (old ≡ true → count ≤ pairsMost)
         × (extentRight first (length (now image)) (frame .sp) size ≡ true) × (size ≤ imageMost) × (tableRight (now olds) (now news) ≡ true) ⌝ }
-    ensures { λ r. ⌜ Follows write r (now (image .exit)) (lookUp (now (olds .entry)) (now (news .entry))) (now (image .entry))
+    ensures { λ r. ⌜ Follows write r (now (image .exit)) noRegisters (lookUp (now (olds .entry)) (now (news .entry))) (now (image .entry)) noRegisters
         (planPairs (restore (now (s .entry)) (now (olds .entry)) (now (news .entry)) first) frame size (spec.pairs (recordOf (now (s .entry)) at))) ⌝ }
 {
     let machine = frame.machine;
@@ -189,7 +194,7 @@ fn move_record(
     write: bool,
 ) -> Move
     requires { ⌜ RecordInside (now s) at × (imageRight first (length (now image)) ≡ true) × (tableRight (now olds) (now news) ≡ true) ⌝ }
-    ensures { λ r. ⌜ Follows write r (now (image .exit)) (lookUp (now (olds .entry)) (now (news .entry))) (now (image .entry)) (planRecord (restore (now (s .entry)) (now (olds .entry)) (now (news .entry)) first) (length (now (image .entry))) frame size (recordOf (now (s .entry)) at)) ⌝ }
+    ensures { λ r. ⌜ Follows write r (now (image .exit)) noRegisters (lookUp (now (olds .entry)) (now (news .entry))) (now (image .entry)) noRegisters (planRecord (restore (now (s .entry)) (now (olds .entry)) (now (news .entry)) first) (length (now (image .entry))) frame size (recordOf (now (s .entry)) at)) ⌝ }
 {
     if statepoint::is_statepoint(s, at) {
         if extent::extent_right(first, image.len(), frame.sp, size) {
@@ -231,7 +236,7 @@ pub fn move_found(
     write: bool,
 ) -> Move
     requires { ⌜ Accepted (now s) × (found ≡ firstOf (recordsOf (now s) frame)) × (imageRight first (length (now image)) ≡ true) × (tableRight (now olds) (now news) ≡ true) ⌝ }
-    ensures { λ r. ⌜ Follows write r (now (image .exit)) (lookUp (now (olds .entry)) (now (news .entry))) (now (image .entry)) (only (recordsOf (now (s .entry)) frame) (planEntry (restore (now (s .entry)) (now (olds .entry)) (now (news .entry)) first) (length (now (image .entry))) frame)) ⌝ }
+    ensures { λ r. ⌜ Follows write r (now (image .exit)) noRegisters (lookUp (now (olds .entry)) (now (news .entry))) (now (image .entry)) noRegisters (only (recordsOf (now (s .entry)) frame) (planEntry (restore (now (s .entry)) (now (olds .entry)) (now (news .entry)) first) (length (now (image .entry))) frame)) ⌝ }
 {
     if found.number != 0 {
         return refused(10, 0);

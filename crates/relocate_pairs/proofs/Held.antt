@@ -7,8 +7,10 @@ use native.Mathlib.Omega.{arith}
 use lib.Dec.{eqb}
 use lib.ListN.{length, getD, set, length-set}
 use lib.Seq.{getD-set-same, getD-set-other}
+use Rattle.moves.specs.Slots.{memory}
 use Rattle.moves.specs.Pointers.{Pointer, null, slots}
-use Rattle.moves.specs.Arrays.{pointerAt, listFrom, pointersOf}
+use Rattle.moves.specs.Arrays.{registersFrom, pointerAt, listFrom, pointersOf}
+use Rattle.moves.proofs.Numbers.{slot-memory}
 use Rattle.relocate.specs.Statepoint.{pointersFrom}
 use Rattle.relocate.specs.Code.{Room, runOf}
 
@@ -36,7 +38,7 @@ pub held-none : (live bases derived : List ℕ) → pointersOf 0 live bases deri
 unfolding pointersOf
 held-none live bases derived = refl
 
-run-snoc : (k b d : ℕ) → pointersFrom (suc k) b d ≡ pointersFrom k b d ++ (slots (b + 8 * k) (d + 8 * k) ∷ [])
+run-snoc : (k b d : ℕ) → pointersFrom (suc k) b d ≡ pointersFrom k b d ++ (slots (memory (b + 8 * k)) (memory (d + 8 * k)) ∷ [])
 run-snoc zero b d =
     let x : b + 8 * 0 ≡ b = omega arith in
     let y : d + 8 * 0 ≡ d = omega arith in
@@ -44,7 +46,7 @@ run-snoc zero b d =
 run-snoc (suc k) b d =
     let x : b + 8 + 8 * k ≡ b + 8 * suc k = omega arith in
     let y : d + 8 + 8 * k ≡ d + 8 * suc k = omega arith in
-    ap (λ (l : List Pointer). slots b d ∷ l) (run-snoc k (b + 8) (d + 8) ∙ rw (x, y))
+    ap (λ (l : List Pointer). slots (memory b) (memory d) ∷ l) (run-snoc k (b + 8) (d + 8) ∙ rw (x, y))
 
 module _ (live bases derived : List ℕ) (n : ℕ) where
   -- one more pointer, of arrays that are the same below
@@ -60,12 +62,13 @@ module _ (live bases derived : List ℕ) (n : ℕ) where
       ∙ rw (z, here, list-ext (pointerAt live′ bases′ derived′) (pointerAt live bases derived) n 0 (λ k a b. same k (omega arith))))
 
   module _ (room : Room live bases derived) (h : n < 256) where
-    pub hold-slots : (b d : ℕ) → pointersOf (n + 1) (set live n 1) (set bases n b) (set derived n d) ≡ pointersOf n live bases derived ++ (slots b d ∷ [])
+    pub hold-slots : (b d : ℕ) → b < registersFrom → d < registersFrom
+        → pointersOf (n + 1) (set live n 1) (set bases n b) (set derived n d) ≡ pointersOf n live bases derived ++ (slots (memory b) (memory d) ∷ [])
     unfolding pointerAt
-    hold-slots b d =
-        snoc (set live n 1) (set bases n b) (set derived n d) (slots b d)
+    hold-slots b d x y =
+        snoc (set live n 1) (set bases n b) (set derived n d) (slots (memory b) (memory d))
         (λ k l. rw (getD-set-other live n k 1 0 (λ q. omega arith), getD-set-other bases n k b 0 (λ q. omega arith), getD-set-other derived n k d 0 (λ q. omega arith)))
-        (rw (getD-set-same live n 1 0 (omega (arith, room .live-room)), getD-set-same bases n b 0 (omega (arith, room .bases-room)), getD-set-same derived n d 0 (omega (arith, room .derived-room))))
+        (rw (getD-set-same live n 1 0 (omega (arith, room .live-room)), getD-set-same bases n b 0 (omega (arith, room .bases-room)), getD-set-same derived n d 0 (omega (arith, room .derived-room)), slot-memory b x, slot-memory d y))
 
     pub hold-null : pointersOf (n + 1) (set live n 0) bases derived ≡ pointersOf n live bases derived ++ (null ∷ [])
     unfolding pointerAt
@@ -95,16 +98,16 @@ run-start n k b d live bases derived r =
     record { most = omega arith; room = r; holds = rw e (sym (append-nil (pointersOf n live bases derived))) }
 
 pub run-on : {n k b d : ℕ} {before : List Pointer} {live bases derived : List ℕ} {next : ℕ} → Running n k b d before live bases derived next
-    → next < k → n + k ≤ 256
+    → next < k → n + k ≤ 256 → b + 8 * k ≤ registersFrom → d + 8 * k ≤ registersFrom
     → Running n k b d before (set live (n + next) 1) (set bases (n + next) (b + 8 * next)) (set derived (n + next) (d + 8 * next)) (next + 1)
-run-on {n} {k} {b} {d} {before} {live} {bases} {derived} {next} r h m =
+run-on {n} {k} {b} {d} {before} {live} {bases} {derived} {next} r h m x y =
     let e : n + (next + 1) ≡ n + next + 1 = omega arith in
     let g : next + 1 ≡ suc next = omega arith in
     record {
       most = omega arith;
       room = record { live-room = simp length-set (r .room .live-room); bases-room = simp length-set (r .room .bases-room); derived-room = simp length-set (r .room .derived-room) };
-      holds = rw (e, hold-slots live bases derived (n + next) (r .room) (omega arith) (b + 8 * next) (d + 8 * next), r .holds, g, run-snoc next b d)
-          (append-assoc before (pointersFrom next b d) (slots (b + 8 * next) (d + 8 * next) ∷ []));
+      holds = rw (e, hold-slots live bases derived (n + next) (r .room) (omega arith) (b + 8 * next) (d + 8 * next) (omega arith) (omega arith), r .holds, g, run-snoc next b d)
+          (append-assoc before (pointersFrom next b d) (slots (memory (b + 8 * next)) (memory (d + 8 * next)) ∷ []));
     }
 
 -- A pair's run: at least one pointer.

@@ -14,6 +14,7 @@ use Rattle.stackmap.specs.Verdict.{need}
 use Rattle.stackmap.specs.Section.{Record, Entry, isOld, readSection}
 use Rattle.stackmap.specs.Check.{sectionCheck}
 use Rattle.questions.specs.Questions.{ask}
+use Rattle.moves.specs.Slots.{state}
 use Rattle.moves.specs.Table.{tableRight, lookUp}
 use Rattle.moves.specs.Window.{part}
 use Rattle.moves.specs.Plan.{Plan, refuse, window, says}
@@ -22,7 +23,7 @@ use Rattle.relocate.specs.declared.Frame.{Frame}
 use Rattle.relocate.specs.Restore.{Restore}
 use Rattle.relocate.specs.Statepoint.{isStatepoint, Pair, pairs, pointersOf}
 use Rattle.relocate.specs.Plan.{recordsOf, only, every, imageRight, extentRight, stackSize, planPairs, planRecord, plan}
-use Rattle.relocate.specs.Relocation.{answer}
+use Rattle.relocate.specs.Relocation.{noRegisters, answer}
 
 module _ (R : Restore) where
   -- a plan with so few pointers
@@ -74,10 +75,10 @@ module _ (R : Restore) where
       (need-few (imageRight (R .first) n) 13 _ (λ a. need-few (tableRight (R .olds) (R .news)) 14 _ (λ b.
       only-few (recordsOf (R .section) f) _ (λ e. record-few n f (stackSize e) (e .body)))))
 
-  says-few : (table : ℕ → Option ℕ) (im : List ℕ) (p : Plan) → Few p → says table im p .count ≤ R .most
-  says-few table im (refuse n q) h = omega arith
-  says-few table im (window off size pss) h = omega (arith, settled-most table (flatten pss) (part im off size))
+  says-few : (table : ℕ → Option ℕ) (im rs : List ℕ) (p : Plan) → Few p → says table im rs p .count ≤ R .most
+  says-few table im rs (refuse n q) h = omega arith
+  says-few table im rs (window off size pss) h = omega (arith, settled-most table (flatten pss) (state (part im off size) rs))
 
   pub answer-few : (im : List ℕ) (f : Frame) → answer R im f .count ≤ R .most
   unfolding answer
-  answer-few im f = says-few (lookUp (R .olds) (R .news)) im (plan R (length im) f) (plan-few (length im) f)
+  answer-few im f = says-few (lookUp (R .olds) (R .news)) im noRegisters (plan R (length im) f) (plan-few (length im) f)

@@ -15,7 +15,7 @@ use Rattle.relocate.specs.declared.Frame.{Frame}
 use Rattle.relocate.specs.Restore.{Restore}
 use Rattle.relocate.specs.Plan.{recordsOf, imageRight, only}
 use Rattle.relocate.specs.Code.{planEntry}
-use Rattle.relocate.specs.Relocation.{answer, moved}
+use Rattle.relocate.specs.Relocation.{noRegisters, answer, moved}
 use Rattle.relocate.specs.Lists.{final}
 use Rattle.relocate_frame.proofs.Stages.{plan-on}
 use Rattle.thread.specs.Thread.{Thread, frameAt, framesFrom, passes, judged, pointersIn}
@@ -28,7 +28,7 @@ use Rattle.thread_call.proofs.Few.{answer-few}
 module _ (R : Restore) (im : List ℕ) (f : Frame) (k : Accepted (R .section)) (i : imageRight (R .first) (length im) ≡ true)
     (t : tableRight (R .olds) (R .news) ≡ true) where
   pub one-moved : (write : Bool) (r : Move) (after : List ℕ)
-      → Follows write r after (lookUp (R .olds) (R .news)) im (only (recordsOf (R .section) f) (planEntry R (length im) f))
+      → Follows write r after noRegisters (lookUp (R .olds) (R .news)) im noRegisters (only (recordsOf (R .section) f) (planEntry R (length im) f))
       → (r ≡ answer R im f) × (after ≡ movedIf write R im f)
   unfolding answer moved
   one-moved true r after h = rw (plan-on R im f k i t) (h .answer, h .left)

@@ -1,5 +1,5 @@
 use borrow.Author.Tests.{eq-eqb, ne-eqb}
-use Rattle.moves.specs.Pointers.{slotsClash}
+use Rattle.moves.specs.Arrays.{slotsClashAt}
 use borrow.Author.Needs.{needs}
 use Rattle.moves_window.proofs.collisions.clash.Statement.{statement}
 use Rattle.moves_window.proofs.collisions.clash.Tie as tie
@@ -8,19 +8,19 @@ any-overlap-requires : tie.Need-any-overlap-requires
 any-overlap-requires c κs = search needs
 
 returns : tie.Need-returns
-unfolding slotsClash
+unfolding slotsClashAt
 returns c = rw (← c .before .any-overlap .ensures, c .if1 .taken)
 
 returns-2 : tie.Need-returns-2
-unfolding slotsClash
+unfolding slotsClashAt
 returns-2 c = rw (← c .before .before .any-overlap .ensures, c .before .if1 .left, ne-eqb _ _ (c .if2 .taken))
 
 returns-3 : tie.Need-returns-3
-unfolding slotsClash
+unfolding slotsClashAt
 returns-3 c = rw (← c .before .before .before .any-overlap .ensures, c .before .before .if1 .left, eq-eqb _ _ (c .before .if2 .left), eq-eqb _ _ (c .if3 .taken))
 
 returns-4 : tie.Need-returns-4
-unfolding slotsClash
+unfolding slotsClashAt
 returns-4 c = rw (← c .before .before .before .any-overlap .ensures, c .before .before .if1 .left, eq-eqb _ _ (c .before .if2 .left), ne-eqb _ _ (c .if3 .left))
 
 pub clash-spec : {M : Type 1} → statement M

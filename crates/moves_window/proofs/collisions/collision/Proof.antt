@@ -30,8 +30,8 @@ loop-holds c = (omega arith, λ k h. absurd (omega arith))
 
 clash-at-requires : tie.Need-clash-at-requires Inv-loop μ-loop Inv-pairs μ-pairs
 clash-at-requires c κs =
-    let s = c .before .before .before .before in
-    (s .pre .0, omega arith, omega arith, s .pre .1)
+    let s = c .before .before .before .before .before in
+    (s .pre .0, s .pre .1, omega arith, omega arith, s .pre .2)
 
 add-q : tie.Need-add-q Inv-loop μ-loop Inv-pairs μ-pairs
 add-q c = search needs
@@ -50,20 +50,20 @@ pairs-less c = search needs
 
 pairs-again : tie.Need-pairs-again Inv-loop μ-loop Inv-pairs μ-pairs
 pairs-again c =
-    let a = c .before .before .before .before .args in
+    let a = c .before .before .before .before .before .args in
     let p = c .before .before .before .pairs in
     let e = no-any (clashAt (a .live .now) (a .bases .now) (a .derived .now) (a .contents .now) (p .p)) (suc (p .p)) (λ k h. c .before .loop .inv .1 k (omega arith)) in
     (omega arith, sym (low-step (badAt (a .live .now) (a .bases .now) (a .derived .now) (a .contents .now)) (a .pairs) (p .p) (omega arith) e) ∙ p .inv .1)
 
 returns : tie.Need-returns Inv-loop μ-loop Inv-pairs μ-pairs
 returns c =
-    let a = c .before .before .args in
+    let a = c .before .before .before .args in
     let p = c .before .pairs in
     sym (low-end (badAt (a .live .now) (a .bases .now) (a .derived .now) (a .contents .now)) (a .pairs) (p .p) (omega arith)) ∙ p .inv .1
 
 returns-2 : tie.Need-returns-2 Inv-loop μ-loop Inv-pairs μ-pairs
 returns-2 c =
-    let a = c .before .before .before .before .before .before .args in
+    let a = c .before .before .before .before .before .before .before .args in
     let p = c .before .before .before .before .before .pairs in
     let e = any-yes (clashAt (a .live .now) (a .bases .now) (a .derived .now) (a .contents .now) (p .p)) (suc (p .p)) (c .before .before .before .loop .q) (omega arith) (sym (c .before .clash-at .ensures) ∙ c .if1 .taken) in
     sym (low-hit (badAt (a .live .now) (a .bases .now) (a .derived .now) (a .contents .now)) (a .pairs) (p .p) (omega arith) e) ∙ p .inv .1

@@ -54,7 +54,9 @@ loop-less : tie.Need-loop-less Inv-loop μ-loop
 loop-less c = search needs
 
 loop-again : tie.Need-loop-again Inv-loop μ-loop
-loop-again c = run-on (c .before .loop .inv) (omega arith) (omega (arith, c .before .before .pre .1))
+loop-again c =
+    let s = c .before .before in
+    run-on (c .before .loop .inv) (omega arith) (omega (arith, s .pre .1)) (omega (arith, s .pre .2)) (omega (arith, s .pre .3))
 
 add-result : tie.Need-add-result Inv-loop μ-loop
 add-result c = omega (arith, c .before .before .pre .1, c .before .loop .inv .most)
