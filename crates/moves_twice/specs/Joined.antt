@@ -1,4 +1,5 @@
--- Two moves in a row: the joined table, and what is asked of the pointers and the numbers.
+-- For the code alone: nothing here has to be believed.
+-- Two moves in a row: the joined table, and what is asked of the pointers and the numbers. No promise cites it yet.
 use Prim.Native.Nat.{ℕ, _^_, _<_}
 use mathlib.Core.Option.{Option, none, some}
 use mathlib.Core.List.{List, [], _∷_, List·Memᴰ}

@@ -19,7 +19,6 @@ use Rattle.moves.specs.Search.{anyBelow}
 use Rattle.moves.specs.Table.{tableRight}
 use Rattle.moves.specs.Settle.{acceptedMove}
 use Rattle.relocate.specs.declared.Frame.{Frame}
-use Rattle.relocate.specs.declared.Machine.{Machine}
 use Rattle.relocate.specs.Restore.{Restore}
 use Rattle.relocate.specs.Plan.{imageRight, stackSize}
 use Rattle.relocate.specs.Relocation.{moved, OneRecord, extentOf}
@@ -125,7 +124,3 @@ framesAnswer R im fs =
 
 unfoldable pub framesImage : Restore → List ℕ → List Frame → List ℕ
 framesImage R im fs = cond (eqb (framesAnswer R im fs .number) 0) (final R fs im) im
-
--- a thread, by its machine and its list
-abbrev pub threadOf : Machine → List ℕ → Thread
-threadOf m ns = record { machine = m; list = ns }

@@ -23,6 +23,9 @@ pub record Thread : Type 0 where
   pub machine : Machine
   pub list : List ℕ
 
+abbrev pub threadOf : Machine → List ℕ → Thread
+threadOf m ns = record { machine = m; list = ns }
+
 abbrev pub framesMost : ℕ
 framesMost = 4096
 

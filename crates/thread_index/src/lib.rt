@@ -1,7 +1,7 @@
 // A whole thread in one call that is handed an index of the section. The index is tested; where it is the right one, the call is that
 // without an index.
 ghost use Rattle.relocate.specs.Restore.{restore};
-ghost use Rattle.thread.specs.Code.{threadOf};
+ghost use Rattle.thread.specs.Thread.{threadOf};
 ghost use Rattle.thread_index.specs.ByIndex.{ThreadsByIndex};
 use moves::Move;
 use moves_table::table;

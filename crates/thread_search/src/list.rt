@@ -5,7 +5,7 @@ ghost use mathlib.Core.Bool.{true};
 ghost use Prim.Native.Nat.{_+_, _*_, _/_, _≤_};
 ghost use lib.ListN.{length};
 ghost use Rattle.thread.specs.Thread.{framesMost, frameNumbers, listRight, frameAt};
-ghost use Rattle.thread.specs.Code.{threadOf};
+ghost use Rattle.thread.specs.Thread.{threadOf};
 use relocate::Frame;
 use relocate::Machine;
 use thread::FRAME_NUMBERS;

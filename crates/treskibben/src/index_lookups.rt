@@ -3,7 +3,7 @@ ghost use mathlib.Core.Path.{_≡_};
 ghost use Rattle.index.specs.Index.{byIndex, allByIndex};
 ghost use Rattle.relocate.specs.Restore.{restore};
 ghost use Rattle.thread_index.specs.ByIndex.{threadByIndexAnswer, threadByIndexImage};
-ghost use Rattle.thread.specs.Code.{threadOf};
+ghost use Rattle.thread.specs.Thread.{threadOf};
 ghost use Rattle.treskibben_answers.specs.Answer.{findAnswerOf, moveAnswer};
 ghost use Rattle.treskibben_answers.specs.Machine.{machineOf, ofMachine, imageOf};
 ghost use Rattle.treskibben.specs.AddressIndex.{listed};

@@ -6,7 +6,7 @@ ghost use Rattle.listing.specs.Listing.{toListing, toSection};
 ghost use Rattle.relocate.specs.Restore.{restore};
 ghost use Rattle.relocate.specs.Relocation;
 ghost use Rattle.thread.specs.Thread.{threadAnswer, threadImage};
-ghost use Rattle.thread.specs.Code.{threadOf};
+ghost use Rattle.thread.specs.Thread.{threadOf};
 ghost use Rattle.treskibben_answers.specs.Machine.{machineOf, ofMachine, imageOf};
 ghost use Rattle.treskibben_answers.specs.Answer.{answer, converted, moveAnswer, frameOf, findAnswerOf, recordPlaceOf, locationOf, liveOutOf};
 ghost use Rattle.treskibben_answers.specs.Version.{version};

@@ -3,7 +3,7 @@ use native.Mathlib.Omega.{arith}
 use Rattle.thread.specs.Thread.{framesFrom}
 use Rattle.relocate.specs.Restore.{restore}
 use Rattle.thread_call.proofs.Whole.{frames-refused, frames-26, frames-moved, each-sited}
-use Rattle.thread.specs.Code.{threadOf}
+use Rattle.thread.specs.Thread.{threadOf}
 use borrow.Author.Needs.{needs}
 use Rattle.thread_call.proofs.move_frames.Statement.{statement}
 use Rattle.thread_call.proofs.move_frames.Tie as tie

@@ -1,7 +1,7 @@
 use mathlib.Core.Path.{sym, _∙_}
 use Rattle.relocate.specs.Restore.{restore}
 use Rattle.thread_call.proofs.Whole.{thread-13, thread-14, thread-25, thread-frames}
-use Rattle.thread.specs.Code.{threadOf}
+use Rattle.thread.specs.Thread.{threadOf}
 use borrow.Author.Needs.{needs}
 use Rattle.thread_call.proofs.of_section.Statement.{statement}
 use Rattle.thread_call.proofs.of_section.Tie as tie

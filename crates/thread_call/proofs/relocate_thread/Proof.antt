@@ -1,7 +1,7 @@
 use mathlib.Core.Path.{sym, _∙_}
 use Rattle.relocate.specs.Restore.{restore}
 use Rattle.thread_call.proofs.Whole.{thread-section, valid-accepted, blank-holds, blank-counted}
-use Rattle.thread.specs.Code.{threadOf}
+use Rattle.thread.specs.Thread.{threadOf}
 use borrow.Author.Needs.{needs}
 use Rattle.thread_call.proofs.relocate_thread.Statement.{statement}
 use Rattle.thread_call.proofs.relocate_thread.Tie as tie

@@ -5,7 +5,7 @@ use Rattle.relocate.specs.Relocation.{extentOf}
 use Rattle.thread.specs.Thread.{frameAt}
 use Rattle.thread_stretches.specs.Listed.{Listed}
 use Rattle.thread_stretches.proofs.Laws.{listed-none}
-use Rattle.thread.specs.Code.{threadOf}
+use Rattle.thread.specs.Thread.{threadOf}
 use borrow.Author.Needs.{needs}
 use Rattle.thread_extents.proofs.all_apart.Statement.{statement}
 use Rattle.thread_extents.proofs.all_apart.Tie as tie

@@ -3,7 +3,7 @@ use mathlib.Core.Path.{sym, _∙_}
 use mathlib.Core.Logic.{⊎-elim}
 use native.Mathlib.Omega.{arith}
 use Rattle.thread_extents.proofs.Earlier.{Keeping, keeping-start, keeping-stop, keeping-empty, keeping-kept, keeping-end}
-use Rattle.thread.specs.Code.{threadOf}
+use Rattle.thread.specs.Thread.{threadOf}
 use borrow.Author.Needs.{needs}
 use Rattle.thread_extents.proofs.first_of.Statement.{statement}
 use Rattle.thread_extents.proofs.first_of.Tie as tie

@@ -1,6 +1,6 @@
 use native.Mathlib.Omega.{arith}
 use Rattle.thread_extents.proofs.Earlier.{none-shared}
-use Rattle.thread.specs.Code.{threadOf}
+use Rattle.thread.specs.Thread.{threadOf}
 use borrow.Author.Needs.{needs}
 use Rattle.thread_extents.proofs.first_shared.Statement.{statement}
 use Rattle.thread_extents.proofs.first_shared.Tie as tie

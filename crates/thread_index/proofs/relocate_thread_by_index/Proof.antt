@@ -7,7 +7,7 @@ use Rattle.questions.proofs.Standing.{tables-inside}
 use Rattle.questions.proofs.Searched.{section-refused, section-accepted}
 use Rattle.thread_index.specs.ByIndex.{threadByIndexAnswer}
 use Rattle.thread_index.proofs.Laws.{own-number, refused-so, moved-so, by-13, by-14, by-27, by-29, by-call}
-use Rattle.thread.specs.Code.{threadOf}
+use Rattle.thread.specs.Thread.{threadOf}
 use borrow.Author.Needs.{needs}
 use Rattle.thread_index.proofs.relocate_thread_by_index.Statement.{statement}
 use Rattle.thread_index.proofs.relocate_thread_by_index.Tie as tie

@@ -6,7 +6,7 @@ use Rattle.moves.specs.Settle.{acceptedMove}
 use Rattle.thread.specs.Thread.{framesFrom, pointersIn}
 use Rattle.relocate.specs.Restore.{restore}
 use Rattle.thread_call.proofs.Judging.{Judging, judging-start, judging-few, judging-on, judging-stop, judging-end}
-use Rattle.thread.specs.Code.{threadOf}
+use Rattle.thread.specs.Thread.{threadOf}
 use borrow.Author.Needs.{needs}
 use Rattle.thread_call.proofs.frames.judge.Statement.{statement}
 use Rattle.thread_call.proofs.frames.judge.Tie as tie

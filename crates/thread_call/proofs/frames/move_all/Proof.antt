@@ -2,7 +2,7 @@ use Prim.Native.Nat.{_-_}
 use native.Mathlib.Omega.{arith}
 use Rattle.relocate.specs.Restore.{restore}
 use Rattle.thread_call.proofs.Judging.{Moving, moving-start, moving-on, moving-end}
-use Rattle.thread.specs.Code.{threadOf}
+use Rattle.thread.specs.Thread.{threadOf}
 use borrow.Author.Needs.{needs}
 use Rattle.thread_call.proofs.frames.move_all.Statement.{statement}
 use Rattle.thread_call.proofs.frames.move_all.Tie as tie
