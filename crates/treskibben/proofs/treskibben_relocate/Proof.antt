@@ -1,0 +1,60 @@
+use mathlib.Core.Path.{refl, ap, _∙_}
+use borrow.Author.Tests.{lt-leb, le-leb}
+use Rattle.stackmap.specs.declared.Verdict.{Verdict}
+use Rattle.questions.specs.Questions.{ask}
+use Rattle.moves.specs.Settle.{refusedMove}
+use Rattle.relocate.specs.Relocation
+use Rattle.treskibben_answers.specs.Answer.{moveAnswer}
+use borrow.Author.Needs.{needs}
+use Rattle.treskibben.proofs.treskibben_relocate.Statement.{statement}
+use Rattle.treskibben.proofs.treskibben_relocate.Tie as tie
+
+check-requires : tie.Need-check-requires
+check-requires c κs = search needs
+
+unknown-machine-requires : tie.Need-unknown-machine-requires
+unknown-machine-requires c κs = search needs
+
+returns : tie.Need-returns
+returns c =
+    rw (lt-leb _ _ (c .before .before .if1 .taken))
+    (c .unknown-machine .ensures ∙ ap (λ (v : Verdict). moveAnswer (ask refusedMove (refusedMove 33 0) v)) (c .before .check .ensures), refl)
+
+machine-of-requires : tie.Need-machine-of-requires
+machine-of-requires c κs = search needs
+
+frame-of-requires : tie.Need-frame-of-requires
+frame-of-requires c κs = search needs
+
+relocate-requires : tie.Need-relocate-requires
+relocate-requires c κs = search needs
+
+move-answer-requires : tie.Need-move-answer-requires
+move-answer-requires c κs = search needs
+
+same-length : tie.Need-same-length
+same-length c = search needs
+
+returns-2 : tie.Need-returns-2
+returns-2 c =
+    let t = c .before .before .before .relocate .ensures in
+    let f = c .before .before .before .before .frame-of .ensures in
+    let m = c .before .before .before .before .before .before .machine-of .ensures in
+    rw (le-leb _ _ (c .before .before .before .before .before .before .before .if1 .left), ← m) (
+      c .move-answer .ensures ∙ ap moveAnswer (t .answer-is ∙ ap (Relocation.answer _ _) f),
+      t .image-is ∙ ap (Relocation.moved _ _) f,
+    )
+
+pub treskibben-relocate-spec : {M : Type 1} → statement M
+treskibben-relocate-spec =
+    tie.close
+    (tie.spec
+    check-requires
+    unknown-machine-requires
+    returns
+    machine-of-requires
+    frame-of-requires
+    relocate-requires
+    move-answer-requires
+    same-length
+    returns-2)
