@@ -1,6 +1,7 @@
 /*
  * Times two builds of the library in one run, in turn, on the same bytes: the check, a question and the move of a frame on a large
- * section of version 3, and, where both builds take it, of version 1; and the check of sections of other kinds. tools/compare builds it.
+ * section of version 3, and, where both builds take it, of version 1; the moves of a frame of 256 pointers; and the check of sections of other
+ * kinds. tools/compare builds it.
  *
  * The functions of the two builds have the prefixes `before_` and `after_`. OLD_FRAME says that the first build's frame has no function
  * number yet, and that it refuses version 1; BEFORE_MACHINE and AFTER_MACHINE that a build is told the frame's machine.
@@ -141,6 +142,55 @@ static void move_after(void) {
     sink += after_treskibben_relocate(bytes, length, image, sizeof image, STACK, NULL, 0, NULL, 0, AFTER_AMD64 f).number;
 }
 
+/* A frame of 256 pointers: the base slots one after another, then the derived ones; as many pairs, or a single pair of all of them. */
+enum { POINTERS = 256, CALLS = 16 };
+
+static uint64_t old_starts[POINTERS], new_starts[POINTERS];
+
+static void build_full(int single) {
+    const uint32_t count = single ? 5 : 3 + 2 * POINTERS, size = single ? 8 * POINTERS : 8;
+    size_t at = 16 + 24;
+    memset(bytes, 0, at);
+    bytes[0] = 3;
+    put(4, 1, 4);
+    put(12, 1, 4);
+    put(16, 0x400000, 8);
+    put(24, 2 * 8 * POINTERS, 8);
+    put(32, 1, 8);
+    last = 0x400000;
+    at = put(at, 7, 8);
+    at = put(at, 0, 6);
+    at = put(at, count, 2);
+    for (uint32_t i = 0; i < count; i++) {
+        size_t size_at = at + 2;
+        uint32_t k = i < 3 ? 0 : (i - 3) / 2, slot = (i < 3 || i % 2 ? 0 : 8 * POINTERS) + 8 * k;
+        at = i < 3 ? put_location(at, 0, 4, 0, 0) : put_location(at, 0, 3, 7, slot);
+        if (i >= 3) put(size_at, size, 2);
+    }
+    if (count % 2 == 1) at = put(at, 0, 4);
+    length = put(at, 0, 8);
+    for (uint64_t k = 0; k < POINTERS; k++) {
+        old_starts[k] = 0x10000 + 0x100 * k;
+        new_starts[k] = 0x90000 + 0x100 * k;
+        memcpy(image + 8 * k, &old_starts[k], 8);
+    }
+}
+
+static void full_before(void) {
+    before_frame f = {0};
+    f.address = last;
+    f.rsp = STACK;
+    for (int i = 0; i < CALLS; i++)
+        sink += before_treskibben_relocate(bytes, length, image, sizeof image, STACK, old_starts, POINTERS, new_starts, POINTERS,
+                                           BEFORE_AMD64 f).number;
+}
+static void full_after(void) {
+    frame f = {last, 0, STACK, 0};
+    for (int i = 0; i < CALLS; i++)
+        sink += after_treskibben_relocate(bytes, length, image, sizeof image, STACK, old_starts, POINTERS, new_starts, POINTERS,
+                                          AFTER_AMD64 f).number;
+}
+
 static int rising(const void *a, const void *b) {
     double x = *(const double *)a, y = *(const double *)b;
     return x < y ? -1 : x > y;
@@ -164,6 +214,24 @@ static void compare(const char *name, int rounds, void (*before)(void), void (*a
     qsort(b, (size_t)rounds, sizeof *b, rising);
     printf("%-28s before %7.3f ms, after %7.3f ms, after/before %.3f (fastest: %.3f)\n", name, a[rounds / 2],
            b[rounds / 2], b[rounds / 2] / a[rounds / 2], b[0] / a[0]);
+}
+
+/* The moves of a full frame; a build from before request 5 refuses the single pair. */
+static void full(int rounds) {
+    build_full(0);
+    compare("16 moves of 256 pairs", rounds, full_before, full_after);
+    double pairs = time_of(full_after), single;
+    for (int i = 0; i < rounds; i++) {
+        double t = time_of(full_after);
+        if (t < pairs) pairs = t;
+    }
+    build_full(1);
+    single = time_of(full_after);
+    for (int i = 0; i < rounds; i++) {
+        double t = time_of(full_after);
+        if (t < single) single = t;
+    }
+    printf("fastest move after, 256 pointers in one pair of 256 pairs: %.3f\n", single / pairs);
 }
 
 /* The check of sections of other kinds. */
@@ -195,6 +263,8 @@ int main(int argc, char **argv) {
     compare("check", rounds, check_before, check_after);
     compare("question, last record", rounds, find_before, find_after);
     compare("move of the last frame", rounds, move_before, move_after);
+    full(rounds);
+    build((shape){0});
     double three = time_of(check_after) / (double)length;
     for (int i = 0; i < rounds; i++) {
         double t = time_of(check_after) / (double)length;
