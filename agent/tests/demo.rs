@@ -217,6 +217,13 @@ fn a_stale_library_is_built_again_and_a_fresh_one_is_not() {
     it.write("crates/treskibben/must-fail/new.edit", "");
     it.write("crates/other/new", "");
     assert_eq!(it.library(), (true, String::new(), false));
+
+    // A crate below one that the library stands on is in it, named in its line or not.
+    it.write("crates.txt", "wire: other\nother:\ntreskibben: wire\n");
+    assert!(it.library().2);
+    it.age();
+    it.write("crates/other/new", "changed");
+    assert!(it.library().2);
 }
 
 #[test]
