@@ -40,7 +40,9 @@ typedef frame before_frame;
     answer prefix##treskibben_check(const uint8_t *, size_t);                                         \
     found prefix##treskibben_find(const uint8_t *, size_t, uint64_t);                                 \
     answer prefix##treskibben_relocate(const uint8_t *, size_t, uint8_t *, size_t, uint64_t, const uint64_t *, size_t, \
-                                       const uint64_t *, size_t, machine_type frame_type);
+                                       const uint64_t *, size_t, machine_type frame_type);                   \
+    answer prefix##treskibben_thread(const uint8_t *, size_t, uint8_t *, size_t, uint64_t, const uint64_t *, size_t,   \
+                                     const uint64_t *, size_t, machine_type const uint64_t *, size_t);
 DECLARE(before_, BEFORE_TYPE, before_frame)
 DECLARE(after_, AFTER_TYPE, frame)
 
@@ -140,6 +142,25 @@ static void move_before(void) {
 static void move_after(void) {
     frame f = {last, 0, STACK, 0};
     sink += after_treskibben_relocate(bytes, length, image, sizeof image, STACK, NULL, 0, NULL, 0, AFTER_AMD64 f).number;
+}
+
+/* A thread: one frame for each of so many functions, each with its own part of the image; four numbers a frame. */
+enum { FRAMES = 1024 };
+
+static uint64_t frames[4 * FRAMES];
+
+static void build_frames(void) {
+    memset(image, 0, sizeof image);
+    for (uint64_t i = 0; i < FRAMES; i++) {
+        frames[4 * i] = 0x400000 + 0x400 * 25 * i;
+        frames[4 * i + 2] = STACK + 64 * i;
+    }
+}
+static void thread_before(void) {
+    sink += before_treskibben_thread(bytes, length, image, sizeof image, STACK, NULL, 0, NULL, 0, BEFORE_AMD64 frames, 4 * FRAMES).number;
+}
+static void thread_after(void) {
+    sink += after_treskibben_thread(bytes, length, image, sizeof image, STACK, NULL, 0, NULL, 0, AFTER_AMD64 frames, 4 * FRAMES).number;
 }
 
 /* A frame of 256 pointers: the base slots one after another, then the derived ones; as many pairs, or a single pair of all of them. */
@@ -263,6 +284,13 @@ int main(int argc, char **argv) {
     compare("check", rounds, check_before, check_after);
     compare("question, last record", rounds, find_before, find_after);
     compare("move of the last frame", rounds, move_before, move_after);
+#ifndef OLD_FRAME
+    build_frames();
+    printf("thread of %d frames: answers %d and %d\n", FRAMES,
+           (int)before_treskibben_thread(bytes, length, image, sizeof image, STACK, NULL, 0, NULL, 0, BEFORE_AMD64 frames, 4 * FRAMES).number,
+           (int)after_treskibben_thread(bytes, length, image, sizeof image, STACK, NULL, 0, NULL, 0, AFTER_AMD64 frames, 4 * FRAMES).number);
+    compare("thread of 1,024 frames", rounds, thread_before, thread_after);
+#endif
     full(rounds);
     build((shape){0});
     double three = time_of(check_after) / (double)length;

@@ -2,7 +2,7 @@
 //! one with as many pairs and as many moved objects as there can be.
 
 use crate::measure::{measure, say, table, Row};
-use crate::section::{statepoint_with_pairs, STATEPOINT};
+use crate::section::{statepoint_of_selves, statepoint_with_pairs, STATEPOINT};
 use std::hint::black_box;
 use treskibben::{Frame, Machine, MoveTable};
 
@@ -10,11 +10,14 @@ const CHECK: &str = "treskibben check";
 const LARGE: &str = "one frame on the large section";
 const MANY: &str = "one frame, 256 pairs";
 const FEW: &str = "one frame, no pairs";
+const SELVES: &str = "256 slots, a pair each";
+const SINGLE: &str = "256 slots in one pair";
 const REFERENCE: &str = "reference";
 
 /// The ratios to reach: to the check of the same section, and to the second implementation.
 const MOST_OF_CHECK: f64 = 1.1;
 const MOST_OF_REFERENCE: f64 = 1.1;
+const MOST_OF_PAIRS: f64 = 1.0;
 
 /// Pairs and objects of the small section's frame.
 const PAIRS: usize = 256;
@@ -43,6 +46,7 @@ pub fn rows(rounds: usize, bytes: &[u8]) {
     let small = on_small(rounds);
     println!("\n{}", table(&small, &[REFERENCE]));
     say(&small, MANY, REFERENCE, "the reference", MOST_OF_REFERENCE);
+    say(&small, SINGLE, SELVES, "a pair each", MOST_OF_PAIRS);
     let time = |name: &str| {
         small
             .iter()
@@ -114,6 +118,15 @@ impl Stack {
         }
     }
 
+    /// A frame of 256 slots, each its own base, so many to a pair.
+    fn of_selves(to_a_pair: usize) -> Stack {
+        let mut stack = Stack::new(0);
+        stack.section = statepoint_of_selves(PAIRS, to_a_pair);
+        let starts = (0..PAIRS).map(|slot| stack.olds[slot * 251].to_le_bytes());
+        stack.image = starts.collect::<Vec<_>>().concat();
+        stack
+    }
+
     fn by_library(&mut self) {
         let table = MoveTable::new(&self.olds, &self.news);
         for _ in 0..TIMES {
@@ -158,6 +171,7 @@ impl Stack {
 
 fn on_small(rounds: usize) -> Vec<Row> {
     let (mut many, mut second, mut few) = (Stack::new(PAIRS), Stack::new(PAIRS), Stack::new(0));
+    let (mut selves, mut single) = (Stack::of_selves(1), Stack::of_selves(PAIRS));
     let before = many.image.clone();
     let table = MoveTable::new(&many.olds, &many.news);
     let (image, machine) = (&mut many.image, Machine::Amd64);
@@ -174,6 +188,8 @@ fn on_small(rounds: usize) -> Vec<Row> {
             (MANY, &mut || many.by_library()),
             (REFERENCE, &mut || second.by_reference()),
             (FEW, &mut || few.by_library()),
+            (SELVES, &mut || selves.by_library()),
+            (SINGLE, &mut || single.by_library()),
         ],
     )
 }

@@ -234,6 +234,22 @@ pub fn statepoint_with_pairs(pairs: usize) -> Vec<u8> {
     parts.bytes()
 }
 
+/// A section of one statepoint, at `STATEPOINT`, whose slots from RSP on are each their own base: `pointers` of them, so many to a pair.
+pub fn statepoint_of_selves(pointers: usize, to_a_pair: usize) -> Vec<u8> {
+    let mut parts = Parts::default();
+    let mut locations = vec![constant(0); 3];
+    for pair in 0..pointers / to_a_pair {
+        let slots = (3, 8 * to_a_pair as u16, RSP, (8 * to_a_pair * pair) as i32);
+        locations.extend([slots, slots]);
+    }
+    parts.write_record(0, &locations, 0);
+    for field in [0x40_0000, 8 * pointers as u64, 1] {
+        parts.functions.extend(field.to_le_bytes());
+    }
+    parts.record_count = 1;
+    parts.bytes()
+}
+
 /// A section as long as fits in `limit` bytes, mostly of records as short as can be, 24 bytes. Each of so many functions
 /// begins with a statepoint of two pairs, and the short records are shared out evenly among them.
 pub fn short_records(limit: usize, functions: usize) -> Vec<u8> {

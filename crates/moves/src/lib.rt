@@ -3,7 +3,7 @@
 // The bytes of a slot: one pointer.
 pub const POINTER_SIZE: usize = 8;
 
-// Pairs of a statepoint.
+// Pointers of a frame; in version 1 each pair is one.
 pub const PAIRS_MOST: usize = 256;
 
 // Slots as numbers: a slot in memory is its first byte, and register r is REGISTERS_FROM + 8 * r.
@@ -24,7 +24,7 @@ pub enum Content {
     Unknown,
 }
 
-// The answer to a move: a refusal's number and place, and count 0; or 0, 0 and the number of pairs, null ones included.
+// The answer to a move: a refusal's number and place, and count 0; or 0, 0 and the number of pointers, null ones included.
 pub struct Move {
     pub number: u8,
     pub place: usize,

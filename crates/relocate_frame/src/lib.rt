@@ -10,7 +10,7 @@ pub mod extent;
 pub mod moving;
 
 // Relocates one frame in the stack image that starts at the address `first`, by the move table of old and new starts: a refusal's
-// number and place, with the image as it was; or 0, 0 and the number of pairs, with each derived slot moved.
+// number and place, with the image as it was; or 0, 0 and the number of pointers, with each derived slot moved.
 pub fn relocate(
     section: &[u8],
     image: &mut [u8],
