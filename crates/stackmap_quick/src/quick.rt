@@ -1,6 +1,7 @@
 // Quick looks at the record at a place of the section, of either version. They give where it ends, if it is right, and else say nothing:
 // `record` then names what is wrong. `plain` answers for up to fifteen locations without a ConstIndex and for no live-outs, and calls
 // nothing that is not compiled into it, so that what it needs stays in registers. `other` answers for the rest.
+// No entry point: it requires a place inside the section, which the walk has shown.
 ghost use mathlib.Core.Path.{_≡_};
 ghost use mathlib.Core.Bool.{true, false};
 ghost use Prim.Native.Nat.{ℕ, _+_, _*_, _-_, _%_, _^_, _≤_, _<_};
