@@ -12,17 +12,20 @@ use Rattle.stackmap.specs.Section.{Location, Record, Entry, isOld, recordsAt, n
 use Rattle.questions.specs.declared.LocationAnswer.{LocationAnswer}
 use Rattle.moves.specs.declared.Move.{Move}
 use Rattle.moves.specs.Limits.{pointerSize, pairsMost}
+use Rattle.moves.specs.Slots.{Slot, memory}
 use Rattle.moves.specs.Pointers.{Pointer, null, orZero}
-use Rattle.relocate.specs.declared.Frame.{Frame}
+use Rattle.moves.specs.Arrays.{registersFrom, slotOf, Placed}
+use Rattle.relocate.specs.declared.Cursor.{Cursor}
 use Rattle.relocate.specs.declared.Machine.{Machine}
 use Rattle.relocate.specs.declared.Spot.{Spot}
 use Rattle.relocate.specs.declared.Spot.the-variants.{At, Outside}
 use Rattle.moves.specs.Plan.{Plan, window}
-use Rattle.relocate.specs.Limits.{imageMost, kindConstant}
+use Rattle.relocate.specs.Limits.{imageMost, registerCount, kindConstant}
 use Rattle.relocate.specs.Restore.{Restore}
+use Rattle.relocate.specs.Stopped.{Stopped}
 use Rattle.relocate.specs.Plan.{every, stackSize, planRecord}
-use Rattle.relocate.specs.Relocation.{answer, moved}
-use Rattle.relocate.specs.Statepoint.{locationAt, pairsAt, Pair, pairs, isNull, pointersIn, isSlot, sameSize, plusOffset, wholly, slotAt, slotsInside, inside, pointersFrom, pointersOf}
+use Rattle.relocate.specs.Relocation.{answer, moved, movedRegisters}
+use Rattle.relocate.specs.Statepoint.{locationAt, pairsAt, Pair, pairs, isNull, pointersIn, isSlot, sameSize, plusOffset, slotAddress, wholly, isRegister, slotAt, slotsInside, inside, pointersFrom, pointersOf}
 use Rattle.stackmap.specs.Section.{asOffset}
 
 -- The record at a place of the section, and the section's constants.
@@ -34,20 +37,21 @@ abbrev pub poolOf : List ℕ → List ℕ
 poolOf s = readSection s .constants
 
 -- the plan of a frame whose one entry is e
-abbrev pub planEntry : Restore → ℕ → Frame → Entry → Plan
+abbrev pub planEntry : Restore → ℕ → Cursor → Entry → Plan
 planEntry R n f e = planRecord R n f (stackSize e) (e .body)
 
 -- the plan of pairs that are right in form and not too many: 19, then the window
-unfoldable pub planSlots : Restore → Frame → ℕ → List Pair → Plan
+unfoldable pub planSlots : Restore → Cursor → ℕ → List Pair → Plan
 planSlots R f size ps =
     let old = isOld (R .section) in
     let pool = poolOf (R .section) in
     every (inside old pool f size) 19 0 ps (window (f .sp - R .first) size (map (pointersOf old pool f) ps))
 
--- an answer, and the image that is left, are those of a move
-pub record Relocates (R : Restore) (im : List ℕ) (f : Frame) (r : Move) (after : List ℕ) : Type 0 where
+-- an answer, and the image and the registers that are left, are those of a move
+pub record Relocates (R : Restore) (im : List ℕ) (f : Stopped) (r : Move) (after registers : List ℕ) : Type 0 where
   pub answer-is : r ≡ answer R im f
   pub image-is : after ≡ moved R im f
+  pub registers-is : registers ≡ movedRegisters R im f
 
 -- a record stands there: the tables are inside, and all of it is
 pub record RecordInside (s : List ℕ) (at : ℕ) : Type 0 where
@@ -76,16 +80,21 @@ locationOf a = record { kind = a .kind; size = a .size; register = a .register; 
 unfoldable pub zeroSaid : LocationAnswer → Bool
 zeroSaid a = eqb (a .constant) 0 && (eqb (a .kind) kindConstant || eqb (a .kind) kindConstIndex)
 
--- Slots in the n bytes from the stack pointer, counted from it; none for a slot that is not wholly inside.
+-- Slots as numbers (moves/specs/Arrays), those in memory in the n bytes from the stack pointer, counted from it; none for a slot in memory
+-- that is not wholly inside.
 
 abbrev pub spotOf : Spot → Option ℕ
 spotOf (At p) = some p
 spotOf Outside = none
 
-unfoldable pub slotIn : Bool → Frame → ℕ → Location → Option ℕ
-slotIn old f n l = cond (slotsInside old f n l) (some (slotAt f l)) none
+-- the first slot of a location as a number
+unfoldable pub numberOf : Cursor → Location → ℕ
+numberOf f l = cond (isRegister l) (registersFrom + pointerSize * l .register) (orZero (slotAddress f l) - f .sp)
 
--- the same by numbers: the register, the stack pointer, the offset's 32 bits, the slots
+unfoldable pub slotIn : Bool → Cursor → ℕ → Location → Option ℕ
+slotIn old f n l = cond (slotsInside old f n l) (some (numberOf f l)) none
+
+-- of memory by numbers: the register, the stack pointer, the offset's 32 bits, the slots
 unfoldable pub positionIn : ℕ → ℕ → ℕ → ℕ → ℕ → Option ℕ
 positionIn register sp offset k n =
     let a = plusOffset register (asOffset offset) in
@@ -106,7 +115,7 @@ formSaid m old b d =
     nullSaid b d || (isSlot m old (locationOf b) && (isSlot m old (locationOf d) && sameSize old (pairSaid b d)))
 
 -- the pointers of a record's pairs, pair by pair
-abbrev pub pointersBy : Bool → List ℕ → Frame → Record → List (List Pointer)
+abbrev pub pointersBy : Bool → List ℕ → Cursor → Record → List (List Pointer)
 pointersBy old pool f r = map (pointersOf old pool f) (pairs r)
 
 -- how many pointers a pair is, and all pairs are
@@ -123,13 +132,18 @@ pub record Room (live bases derived : List ℕ) : Type 0 where
   pub bases-room : length bases ≡ pairsMost
   pub derived-room : length derived ≡ pairsMost
 
--- a pair as so many pointers from two slots on; none is the null pointer
+-- a pair as so many pointers from two slots on, by their numbers; none is the null pointer
 abbrev pub runOf : ℕ → ℕ → ℕ → List Pointer
 runOf zero b d = null ∷ []
-runOf (suc k) b d = pointersFrom (suc k) b d
+runOf (suc k) b d = pointersFrom (suc k) (slotOf b) (slotOf d)
 
--- so it is, and its slots are in an image
-pub record Looked (old : Bool) (pool : List ℕ) (f : Frame) (p : Pair) (k b d : ℕ) : Type 0 where
+-- k slots from the number x on: one, in a window of m bytes or a register; or several in the window, one after another
+pub record RunPlaced (m k x : ℕ) : Type 0 where
+  pub first : Placed m registerCount x
+  pub more : 1 < k → x + pointerSize * k ≤ m
+
+-- so it is, and its slots are in the window of m bytes, or registers
+pub record Looked (old : Bool) (pool : List ℕ) (f : Cursor) (m : ℕ) (p : Pair) (k b d : ℕ) : Type 0 where
   pub pointers-are : runOf k b d ≡ pointersOf old pool f p
-  pub base-fits : b + pointerSize * k ≤ imageMost
-  pub derived-fits : d + pointerSize * k ≤ imageMost
+  pub base-placed : 0 < k → RunPlaced m k b
+  pub derived-placed : 0 < k → RunPlaced m k d

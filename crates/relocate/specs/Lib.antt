@@ -1,5 +1,6 @@
 pub mod Limits
 pub mod Restore
+pub mod Stopped
 pub mod Statepoint
 pub mod Plan
 pub mod Relocation

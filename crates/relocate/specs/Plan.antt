@@ -1,5 +1,5 @@
 -- What a frame is before any byte of the image is read: a refusal, or its extent in the image with its pointers. The order for
--- a frame: 1 to 9, 13, 14, 10, 15, 12, 16, 17, then 18, 19, each over all pairs before the next.
+-- a frame: 1 to 9, 13, 14, 25, 10, 15, 12, 16, 17, then 18, 19, each over all pairs before the next.
 use Prim.Native.Nat.{ℕ, suc, _+_, _-_}
 use mathlib.Core.Bool.{Bool, true, false, not, _&&_, _||_}
 use mathlib.Core.List.{List, [], _∷_, map, flatten}
@@ -13,7 +13,9 @@ use Rattle.moves.specs.Table.{tableRight}
 use Rattle.moves.specs.Plan.{Plan, refuse, window}
 use Rattle.relocate.specs.declared.Frame.{Frame}
 use Rattle.relocate.specs.Limits.{imageMost}
+use Rattle.relocate.specs.declared.Cursor.{Cursor}
 use Rattle.relocate.specs.Restore.{Restore}
+use Rattle.relocate.specs.Stopped.{Stopped, registersRight, cursor}
 use Rattle.questions.specs.Questions.{ask, sought}
 use Rattle.relocate.specs.Statepoint.{isStatepoint, Pair, pairs, rightForm, inside, pointersOf}
 
@@ -47,7 +49,7 @@ extentRight first n sp size =
 module _ (R : Restore) where
   -- 17, 18, 17, 19, of the pairs of a frame whose extent is so many bytes. In version 1 17 is over the pairs and comes before 18; in version 3
   -- it is over the pointers and comes after 18. (In version 1 pointers are pairs, so the second 17 is never given.)
-  unfoldable pub planPairs : Frame → ℕ → List Pair → Plan
+  unfoldable pub planPairs : Cursor → ℕ → List Pair → Plan
   planPairs f size ps =
       let old = isOld (R .section) in
       let pool = readSection (R .section) .constants in
@@ -59,16 +61,17 @@ module _ (R : Restore) where
       (window (f .sp - R .first) size pss))))
 
   -- 12, 16, then 17, 18, 19, of a frame whose one record is r, of a function with this stack size, in an image of n bytes
-  unfoldable pub planRecord : ℕ → Frame → ℕ → Record → Plan
+  unfoldable pub planRecord : ℕ → Cursor → ℕ → Record → Plan
   planRecord n f size r =
       need (isStatepoint r) (refuse 12 0)
       (need (extentRight (R .first) n (f .sp) size) (refuse 16 0)
       (planPairs f size (pairs r)))
 
-  unfoldable pub plan : ℕ → Frame → Plan
-  plan n f =
+  unfoldable pub plan : ℕ → Stopped → Plan
+  plan n st =
       ask refuse
       (need (imageRight (R .first) n) (refuse 13 0)
       (need (tableRight (R .olds) (R .news)) (refuse 14 0)
-      (only (recordsOf (R .section) f) (λ e. planRecord n f (stackSize e) (e .body)))))
+      (need (registersRight (st .registers)) (refuse 25 0)
+      (only (recordsOf (R .section) (st .frame)) (λ e. planRecord n (cursor st) (stackSize e) (e .body))))))
       (sectionCheck (R .section))

@@ -8,10 +8,10 @@ use lib.ListN.{take}
 use Rattle.wire.specs.Word.{Bytes}
 use Rattle.stackmap.specs.Section.{Location, Record, encodeSection, readSection}
 use Rattle.stackmap.specs.Check.{Accepted}
-use Rattle.relocate.specs.declared.Frame.{Frame}
 use Rattle.relocate.specs.Restore.{Restore}
+use Rattle.relocate.specs.Stopped.{Stopped}
 use Rattle.relocate.specs.Statepoint.{pairsAt, isStatepoint, Pair, pairs}
-use Rattle.relocate.specs.Relocation.{answer, moved}
+use Rattle.relocate.specs.Relocation.{answer, moved, movedRegisters}
 
 -- the locations of pairs, base first
 unfoldable pub unpair : List Pair → List Location
@@ -44,15 +44,16 @@ pub record OtherOrder (s s′ : List ℕ) : Type 0 where
 abbrev pub withSection : Restore → List ℕ → Restore
 withSection R s = record { section = s; olds = R .olds; news = R .news; first = R .first; most = R .most }
 
--- s′ is accepted; a move's number, its count and the image it leaves stay the same; only the place of 18 to 21 may differ
+-- s′ is accepted; a move's number, its count, and the image and registers it leaves stay the same; only the place of 18 to 21 may differ
 pub record SameMoves (R R′ : Restore) : Type 0 where
   pub accepted : Accepted (R′ .section)
-  pub number : (im : List ℕ) (f : Frame) → answer R′ im f .number ≡ answer R im f .number
-  pub count : (im : List ℕ) (f : Frame) → answer R′ im f .count ≡ answer R im f .count
-  pub image : (im : List ℕ) (f : Frame) → moved R′ im f ≡ moved R im f
-  pub place : (im : List ℕ) (f : Frame) → answer R im f .number < 18 → answer R′ im f .place ≡ answer R im f .place
+  pub number : (im : List ℕ) (f : Stopped) → answer R′ im f .number ≡ answer R im f .number
+  pub count : (im : List ℕ) (f : Stopped) → answer R′ im f .count ≡ answer R im f .count
+  pub image : (im : List ℕ) (f : Stopped) → moved R′ im f ≡ moved R im f
+  pub registers : (im : List ℕ) (f : Stopped) → movedRegisters R′ im f ≡ movedRegisters R im f
+  pub place : (im : List ℕ) (f : Stopped) → answer R im f .number < 18 → answer R′ im f .place ≡ answer R im f .place
 
 -- Demand 3, of the order of pairs: whatever order a statepoint of an accepted section lists its pairs in, a move gives the same
--- refusal number, the same count and the same image.
+-- refusal number, the same count, and the same image and registers.
 abbrev pub PairOrder : Type 0
 PairOrder = (R : Restore) (s′ : List ℕ) → Bytes (R .section) → OtherOrder (R .section) s′ → SameMoves R (withSection R s′)

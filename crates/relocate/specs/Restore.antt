@@ -11,6 +11,9 @@ pub record Restore : Type 0 where
   pub first : ℕ
   pub most : ℕ
 
+abbrev pub restore : List ℕ → List ℕ → List ℕ → ℕ → ℕ → Restore
+restore s olds news first most = record { section = s; olds = olds; news = news; first = first; most = most }
+
 -- document 01's: at most 256 pointers
-abbrev pub restore : List ℕ → List ℕ → List ℕ → ℕ → Restore
-restore s olds news first = record { section = s; olds = olds; news = news; first = first; most = pairsMost }
+abbrev pub restoreAll : List ℕ → List ℕ → List ℕ → ℕ → Restore
+restoreAll s olds news first = restore s olds news first pairsMost
