@@ -1,16 +1,66 @@
 // The move of one frame.
-ghost use Rattle.relocate.specs.Restore.{restore};
+ghost use mathlib.Core.Path.{_≡_};
+ghost use lib.ListN.{length};
+ghost use Rattle.relocate.specs.Limits.{registerCount, framePointer, stackPointer};
+ghost use Rattle.relocate.specs.Restore.{restoreAll};
+ghost use Rattle.relocate.specs.Stopped as spec;
+ghost use Rattle.relocate.specs.Stopped.{stopped, registersRight};
 ghost use Rattle.relocate.specs.Code.{Relocates};
 use moves::Move;
+use moves::PAIRS_MOST;
 use moves_table::table;
 use questions_find::find;
+use relocate::Cursor;
 use relocate::Frame;
+use relocate::Machine;
+use relocate::REGISTERS;
 
 pub mod extent;
 pub mod moving;
 
+// Frame pointer and stack pointer by their DWARF numbers: RBP and RSP on AMD64, x29 and sp on AArch64.
+fn frame_pointer(machine: Machine) -> usize
+    ensures { λ r. ⌜ r ≡ framePointer machine ⌝ }
+{
+    match machine {
+        Machine::Amd64 => 6,
+        Machine::Aarch64 => 29,
+    }
+}
+
+fn stack_pointer(machine: Machine) -> usize
+    ensures { λ r. ⌜ r ≡ stackPointer machine ⌝ }
+{
+    match machine {
+        Machine::Amd64 => 7,
+        Machine::Aarch64 => 31,
+    }
+}
+
+// What a plan reads of a frame.
+pub fn cursor(frame: Frame, registers: &[u64]) -> Cursor
+    requires { ⌜ length (now registers) ≡ registerCount ⌝ }
+    ensures { λ r. ⌜ r ≡ spec.cursor (stopped frame (now (registers .entry))) ⌝ }
+{
+    let machine = frame.machine;
+    Cursor {
+        address: frame.address,
+        function: frame.function,
+        fp: registers[frame_pointer(machine)],
+        sp: registers[stack_pointer(machine)],
+        machine,
+    }
+}
+
+// The test of refusal 25 of a single frame.
+pub fn registers_right(registers: &[u64]) -> bool
+    ensures { λ r. ⌜ r ≡ registersRight (now (registers .entry)) ⌝ }
+{
+    registers.len() == REGISTERS
+}
+
 // Relocates one frame in the stack image that starts at the address `first`, by the move table of old and new starts: a refusal's
-// number and place, with the image as it was; or 0, 0 and the number of pointers, with each derived slot moved.
+// number and place, with the image and the registers as they were; or 0, 0 and the number of pointers, with each derived slot moved.
 pub fn relocate(
     section: &[u8],
     image: &mut [u8],
@@ -18,8 +68,9 @@ pub fn relocate(
     olds: &[u64],
     news: &[u64],
     frame: Frame,
+    registers: &mut [u64],
 ) -> Move
-    ensures { λ r. ⌜ Relocates (restore (now (section .entry)) (now (olds .entry)) (now (news .entry)) first) (now (image .entry)) frame r (now (image .exit)) ⌝ }
+    ensures { λ r. ⌜ Relocates (restoreAll (now (section .entry)) (now (olds .entry)) (now (news .entry)) first) (now (image .entry)) (stopped frame (now (registers .entry))) r (now (image .exit)) (now (registers .exit)) ⌝ }
 {
     let found = find::records(section, frame.address);
     if find::of_section(found) {
@@ -27,8 +78,23 @@ pub fn relocate(
     }
     if extent::image_right(first, image.len()) {
         if table::table_right(olds, news) {
-            let named = find::named(section, found, frame.function);
-            return moving::move_found(section, named, image, first, olds, news, frame, true);
+            if registers_right(registers) {
+                let named = find::named(section, found, frame.function);
+                let at = cursor(frame, registers);
+                return moving::move_found(
+                    section,
+                    named,
+                    image,
+                    registers,
+                    first,
+                    olds,
+                    news,
+                    cursor,
+                    true,
+                    PAIRS_MOST,
+                );
+            }
+            return moving::refused(25, 0);
         }
         return moving::refused(14, 0);
     }

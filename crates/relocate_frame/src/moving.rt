@@ -1,4 +1,5 @@
-// A move after the search for its record, one stage of the plan a function. Where `write` is false the frame is only judged.
+// A move after the search for its record, one stage of the plan a function. Where `write` is false the frame is only judged. `most` is the
+// largest pointer count.
 // No entry point: each stage requires what the stages before it have tested.
 ghost use mathlib.Core.Path.{_≡_};
 ghost use mathlib.Core.Bool.{true, not, _||_};
@@ -8,25 +9,24 @@ ghost use lib.Dec.{leb};
 ghost use lib.ListN.{length};
 ghost use Rattle.stackmap.specs.Section.{isOld};
 ghost use Rattle.stackmap.specs.Check.{Accepted};
-ghost use Rattle.questions.specs.Questions.{firstOf};
+ghost use Rattle.questions.specs.Questions.{firstOf, sought};
 ghost use Rattle.moves.specs.Limits.{pairsMost};
 ghost use Rattle.moves.specs.Table.{tableRight, lookUp};
 ghost use Rattle.moves.specs.Settle.{refusedMove};
 ghost use Rattle.moves.specs.Plan.{atPair};
 ghost use Rattle.moves.specs.Code.{Follows};
-ghost use Rattle.relocate.specs.declared.Frame as frameType;
-ghost use Rattle.relocate.specs.Limits.{imageMost};
+ghost use Rattle.relocate.specs.declared.Cursor as cursorType;
+ghost use Rattle.relocate.specs.Limits.{imageMost, registerCount};
 ghost use Rattle.relocate.specs.Restore.{restore};
-ghost use Rattle.relocate.specs.Relocation.{noRegisters};
 ghost use Rattle.relocate.specs.Statepoint as spec;
 ghost use Rattle.relocate.specs.Statepoint.{rightForm};
-ghost use Rattle.relocate.specs.Plan.{recordsOf, imageRight, extentRight, only, planPairs, planRecord};
+ghost use Rattle.relocate.specs.Plan.{imageRight, extentRight, only, planPairs, planRecord};
 ghost use Rattle.relocate.specs.Code.{recordOf, poolOf, planEntry, planSlots, RecordInside, pairNumber, Paired, pointersBy};
 use crate::extent;
 use moves::Move;
 use moves::PAIRS_MOST;
 use questions::Found;
-use relocate::Frame;
+use relocate::Cursor;
 use relocate_pairs::fill;
 use relocate_pairs::pairs;
 use relocate_pairs::statepoint;
@@ -46,7 +46,7 @@ pub fn refused(number: u8, place: usize) -> Move
 // The answer of a window names a pointer; a move's names its pair.
 fn at_pair(m: Move, old: bool, s: &[u8], at: usize, start: usize, count: usize) -> Move
     requires { ⌜ Paired (now s) at start count ⌝ }
-    ensures { λ r. ⌜ ((f : frameType.Frame) → r ≡ atPair (pointersBy old (poolOf (now (s .entry))) f (recordOf (now (s .entry)) at)) m) ⌝ }
+    ensures { λ r. ⌜ ((f : cursorType.Cursor) → r ≡ atPair (pointersBy old (poolOf (now (s .entry))) f (recordOf (now (s .entry)) at)) m) ⌝ }
 {
     if m.number == 0 {
         return Move {
@@ -71,20 +71,22 @@ fn move_slots(
     count: usize,
     pointers: usize,
     image: &mut [u8],
+    registers: &mut [u64],
     first: u64,
     size: usize,
     olds: &[u64],
     news: &[u64],
-    frame: Frame,
+    frame: Cursor,
     old: bool,
     write: bool,
+    most: usize,
 ) -> Move
     requires { ⌜ Paired (now s) at start count × (old ≡ isOld (now s))
         × ((p : ℕ) → p < count → rightForm (frame .machine) old (poolOf (now s)) (pairNumber (recordOf (now s) at) p) ≡ true)
-        × (pointers ≡ length (flatten (pointersBy old (poolOf (now s)) frame (recordOf (now s) at)))) × (pointers ≤ pairsMost)
+        × (pointers ≡ length (flatten (pointersBy old (poolOf (now s)) frame (recordOf (now s) at)))) × (pointers ≤ pairsMost) × (length (now registers) ≡ registerCount)
         × (extentRight first (length (now image)) (frame .sp) size ≡ true) × (size ≤ imageMost) × (tableRight (now olds) (now news) ≡ true) ⌝ }
-    ensures { λ r. ⌜ Follows write r (now (image .exit)) noRegisters (lookUp (now (olds .entry)) (now (news .entry))) (now (image .entry)) noRegisters
-        (planSlots (restore (now (s .entry)) (now (olds .entry)) (now (news .entry)) first) frame size (spec.pairs (recordOf (now (s .entry)) at))) ⌝ }
+    ensures { λ r. ⌜ Follows write r (now (image .exit)) (now (registers .exit)) (lookUp (now (olds .entry)) (now (news .entry))) (now (image .entry)) (now (registers .entry))
+        (planSlots (restore (now (s .entry)) (now (olds .entry)) (now (news .entry)) first most) frame size (spec.pairs (recordOf (now (s .entry)) at))) ⌝ }
 {
     let mut live = [0u8; PAIRS_MOST];
     let mut bases = [0usize; PAIRS_MOST];
@@ -106,10 +108,9 @@ fn move_slots(
     }
     let off = (frame.sp - first) as usize;
     let mut values = [0u64; PAIRS_MOST];
-    let mut registers = [0u64; 1];
     let m = moves_window::move_window(
         image,
-        &mut registers[0..0],
+        registers,
         off,
         off + size,
         &live,
@@ -131,18 +132,20 @@ fn move_pairs(
     start: usize,
     count: usize,
     image: &mut [u8],
+    registers: &mut [u64],
     first: u64,
     size: usize,
     olds: &[u64],
     news: &[u64],
-    frame: Frame,
+    frame: Cursor,
     old: bool,
     write: bool,
+    most: usize,
 ) -> Move
-    requires { ⌜ Paired (now s) at start count × (old ≡ isOld (now s)) × (old ≡ true → count ≤ pairsMost)
+    requires { ⌜ Paired (now s) at start count × (old ≡ isOld (now s)) × (old ≡ true → count ≤ most) × (most ≤ pairsMost) × (length (now registers) ≡ registerCount)
         × (extentRight first (length (now image)) (frame .sp) size ≡ true) × (size ≤ imageMost) × (tableRight (now olds) (now news) ≡ true) ⌝ }
-    ensures { λ r. ⌜ Follows write r (now (image .exit)) noRegisters (lookUp (now (olds .entry)) (now (news .entry))) (now (image .entry)) noRegisters
-        (planPairs (restore (now (s .entry)) (now (olds .entry)) (now (news .entry)) first) frame size (spec.pairs (recordOf (now (s .entry)) at))) ⌝ }
+    ensures { λ r. ⌜ Follows write r (now (image .exit)) (now (registers .exit)) (lookUp (now (olds .entry)) (now (news .entry))) (now (image .entry)) (now (registers .entry))
+        (planPairs (restore (now (s .entry)) (now (olds .entry)) (now (news .entry)) first most) frame size (spec.pairs (recordOf (now (s .entry)) at))) ⌝ }
 {
     let machine = frame.machine;
     let forms = pairs::check_forms(machine, old, s, at, start, count);
@@ -151,7 +154,7 @@ fn move_pairs(
         return refused(18, wrong);
     }
     let pointers = forms.pointers;
-    if pointers > PAIRS_MOST {
+    if pointers > most {
         return refused(17, 0);
     }
     move_slots(
@@ -161,6 +164,7 @@ fn move_pairs(
         count,
         pointers,
         image,
+        registers,
         first,
         size,
         olds,
@@ -168,15 +172,16 @@ fn move_pairs(
         frame,
         old,
         write,
+        most,
     )
 }
 
 // In version 1 17 is over the pairs, and tested before 18.
-fn too_many(old: bool, count: usize) -> bool
-    ensures { λ r. ⌜ not r ≡ (not old || leb count pairsMost) ⌝ }
+fn too_many(old: bool, count: usize, most: usize) -> bool
+    ensures { λ r. ⌜ not r ≡ (not old || leb count most) ⌝ }
 {
     if old {
-        return count > PAIRS_MOST;
+        return count > most;
     }
     false
 }
@@ -187,21 +192,24 @@ fn move_record(
     at: usize,
     size: u64,
     image: &mut [u8],
+    registers: &mut [u64],
     first: u64,
     olds: &[u64],
     news: &[u64],
-    frame: Frame,
+    frame: Cursor,
     write: bool,
+    most: usize,
 ) -> Move
-    requires { ⌜ RecordInside (now s) at × (imageRight first (length (now image)) ≡ true) × (tableRight (now olds) (now news) ≡ true) ⌝ }
-    ensures { λ r. ⌜ Follows write r (now (image .exit)) noRegisters (lookUp (now (olds .entry)) (now (news .entry))) (now (image .entry)) noRegisters (planRecord (restore (now (s .entry)) (now (olds .entry)) (now (news .entry)) first) (length (now (image .entry))) frame size (recordOf (now (s .entry)) at)) ⌝ }
+    requires { ⌜ RecordInside (now s) at × (imageRight first (length (now image)) ≡ true) × (tableRight (now olds) (now news) ≡ true)
+        × (most ≤ pairsMost) × (length (now registers) ≡ registerCount) ⌝ }
+    ensures { λ r. ⌜ Follows write r (now (image .exit)) (now (registers .exit)) (lookUp (now (olds .entry)) (now (news .entry))) (now (image .entry)) (now (registers .entry)) (planRecord (restore (now (s .entry)) (now (olds .entry)) (now (news .entry)) first most) (length (now (image .entry))) frame size (recordOf (now (s .entry)) at)) ⌝ }
 {
     if statepoint::is_statepoint(s, at) {
         if extent::extent_right(first, image.len(), frame.sp, size) {
             let p = statepoint::pairs_of(s, at);
             let count = p.count;
             let old = tables::is_old(s);
-            if too_many(old, count) {
+            if too_many(old, count, most) {
                 return refused(17, 0);
             }
             return move_pairs(
@@ -210,6 +218,7 @@ fn move_record(
                 p.start,
                 count,
                 image,
+                registers,
                 first,
                 size as usize,
                 olds,
@@ -217,6 +226,7 @@ fn move_record(
                 frame,
                 old,
                 write,
+                most,
             );
         }
         return refused(16, 0);
@@ -229,14 +239,17 @@ pub fn move_found(
     s: &[u8],
     found: Found,
     image: &mut [u8],
+    registers: &mut [u64],
     first: u64,
     olds: &[u64],
     news: &[u64],
-    frame: Frame,
+    frame: Cursor,
     write: bool,
+    most: usize,
 ) -> Move
-    requires { ⌜ Accepted (now s) × (found ≡ firstOf (recordsOf (now s) frame)) × (imageRight first (length (now image)) ≡ true) × (tableRight (now olds) (now news) ≡ true) ⌝ }
-    ensures { λ r. ⌜ Follows write r (now (image .exit)) noRegisters (lookUp (now (olds .entry)) (now (news .entry))) (now (image .entry)) noRegisters (only (recordsOf (now (s .entry)) frame) (planEntry (restore (now (s .entry)) (now (olds .entry)) (now (news .entry)) first) (length (now (image .entry))) frame)) ⌝ }
+    requires { ⌜ Accepted (now s) × (found ≡ firstOf (sought (now s) (frame .function) (frame .address))) × (imageRight first (length (now image)) ≡ true) × (tableRight (now olds) (now news) ≡ true)
+        × (most ≤ pairsMost) × (length (now registers) ≡ registerCount) ⌝ }
+    ensures { λ r. ⌜ Follows write r (now (image .exit)) (now (registers .exit)) (lookUp (now (olds .entry)) (now (news .entry))) (now (image .entry)) (now (registers .entry)) (only (sought (now (s .entry)) (frame .function) (frame .address)) (planEntry (restore (now (s .entry)) (now (olds .entry)) (now (news .entry)) first most) (length (now (image .entry))) frame)) ⌝ }
 {
     if found.number != 0 {
         return refused(10, 0);
@@ -245,5 +258,17 @@ pub fn move_found(
         return refused(15, 0);
     }
     let size = tables::stack_size(s, found.function);
-    move_record(s, found.first, size, image, first, olds, news, frame, write)
+    move_record(
+        s,
+        found.first,
+        size,
+        image,
+        registers,
+        first,
+        olds,
+        news,
+        frame,
+        write,
+        most,
+    )
 }

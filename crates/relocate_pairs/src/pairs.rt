@@ -9,7 +9,7 @@ ghost use lib.ListN.{drop};
 ghost use Rattle.stackmap.specs.Section.{numLocations};
 ghost use Rattle.moves.specs.Search.{lowest};
 ghost use Rattle.moves.specs.Plan.{pairOf};
-ghost use Rattle.relocate.specs.declared.Frame as frameType;
+ghost use Rattle.relocate.specs.declared.Cursor as cursorType;
 ghost use Rattle.relocate.specs.Statepoint as spec;
 ghost use Rattle.relocate.specs.Statepoint.{rightForm};
 ghost use Rattle.relocate.specs.Code.{recordOf, poolOf, RecordInside, pairFrom, pairNumber, Paired, nullSaid, formSaid, pointersBy, countOf, totalOf};
@@ -111,7 +111,7 @@ pub fn check_forms(
 // The number of the pair that a pointer is of; `count` if there is no such pointer.
 pub fn pair_of(old: bool, s: &[u8], at: usize, start: usize, count: usize, pointer: usize) -> usize
     requires { ⌜ Paired (now s) at start count ⌝ }
-    ensures { λ r. ⌜ ((f : frameType.Frame) → r ≡ pairOf (pointersBy old (poolOf (now (s .entry))) f (recordOf (now (s .entry)) at)) pointer) ⌝ }
+    ensures { λ r. ⌜ ((f : cursorType.Cursor) → r ≡ pairOf (pointersBy old (poolOf (now (s .entry))) f (recordOf (now (s .entry)) at)) pointer) ⌝ }
 {
     let mut left = pointer;
     let mut p: usize = 0;

@@ -1,13 +1,15 @@
-// One location as a constant, or as slots one after another.
+// One location as a constant, as slots one after another in memory, or as a register.
 // No entry point: it requires an extent inside the image, which 16 has tested.
 ghost use mathlib.Core.Path.{_≡_};
 ghost use Prim.Native.Nat.{_≤_};
-ghost use Rattle.relocate.specs.Limits.{imageMost, framePointer, stackPointer};
-ghost use Rattle.relocate.specs.Statepoint.{sizeRight, pointersIn, isSlot};
+ghost use mathlib.Core.Bool.{_&&_, _||_};
+ghost use lib.Dec.{eqb};
+ghost use Rattle.relocate.specs.Limits.{imageMost, framePointer, stackPointer, generalRegisters};
+ghost use Rattle.relocate.specs.Statepoint.{sizeRight, pointersIn, isFrameOrStack, isMemorySlot, isRegisterSlot, isSlot};
 ghost use Rattle.relocate.specs.Code.{locationOf, zeroSaid, spotOf, slotIn, positionIn, placeIn};
 use moves::POINTER_SIZE;
 use questions::LocationAnswer;
-use relocate::Frame;
+use relocate::Cursor;
 use relocate::Machine;
 use relocate::Spot;
 use stackmap::layout;
@@ -21,7 +23,17 @@ const X29: u16 = 29;
 
 const SP: u16 = 31;
 
+// The registers that hold one pointer each are those below these numbers.
+const AMD64_REGISTERS: u16 = 16;
+
+const AARCH64_REGISTERS: u16 = 32;
+
+const KIND_REGISTER: u8 = 1;
+
 const KIND_INDIRECT: u8 = 3;
+
+// Register r as a number of a slot is this and 8 * r (moves/specs/Arrays).
+const REGISTERS_FROM: usize = 4294967296;
 
 // The size of one pointer, as a location states it.
 const SLOT_SIZE: u16 = 8;
@@ -93,20 +105,79 @@ fn stack_pointer(machine: Machine) -> u16
     }
 }
 
-// Whether a location is a slot: kind 3, the right size, and the machine's frame or stack pointer.
-pub fn is_slot(machine: Machine, old: bool, l: LocationAnswer) -> bool
-    ensures { λ r. ⌜ r ≡ isSlot machine old (locationOf l) ⌝ }
+fn general_registers(machine: Machine) -> u16
+    ensures { λ r. ⌜ r ≡ generalRegisters machine ⌝ }
+{
+    match machine {
+        Machine::Amd64 => AMD64_REGISTERS,
+        Machine::Aarch64 => AARCH64_REGISTERS,
+    }
+}
+
+// Whether a register is the machine's frame pointer or stack pointer.
+fn is_frame_or_stack(machine: Machine, register: u16) -> bool
+    ensures { λ r. ⌜ r ≡ isFrameOrStack machine register ⌝ }
+{
+    if register == frame_pointer(machine) {
+        return true;
+    }
+    register == stack_pointer(machine)
+}
+
+// Whether a location is slots in memory: kind 3, the right size, and the machine's frame or stack pointer.
+fn is_memory_slot(machine: Machine, old: bool, l: LocationAnswer) -> bool
+    ensures { λ r. ⌜ r ≡ isMemorySlot machine old (locationOf l) ⌝ }
 {
     if l.kind != KIND_INDIRECT {
         return false;
     }
     if size_right(old, l.size) {
-        if l.register == frame_pointer(machine) {
-            return true;
-        }
-        return l.register == stack_pointer(machine);
+        return is_frame_or_stack(machine, l.register);
     }
     false
+}
+
+// Whether a register may state this size: 8, and in version 1 also 0.
+fn register_size(old: bool, size: u16) -> bool
+    ensures { λ r. ⌜ r ≡ (eqb size 8 || (old && eqb size 0)) ⌝ }
+{
+    if size == SLOT_SIZE {
+        return true;
+    }
+    if old {
+        return size == 0;
+    }
+    false
+}
+
+// Whether a location is a register that is a slot: kind 1, the size of one pointer, offset 0, and one of the machine's registers but its frame and
+// its stack pointer.
+fn is_register_slot(machine: Machine, old: bool, l: LocationAnswer) -> bool
+    ensures { λ r. ⌜ r ≡ isRegisterSlot machine old (locationOf l) ⌝ }
+{
+    if l.kind != KIND_REGISTER {
+        return false;
+    }
+    if register_size(old, l.size) {
+        if l.offset != 0 {
+            return false;
+        }
+        if l.register >= general_registers(machine) {
+            return false;
+        }
+        return !is_frame_or_stack(machine, l.register);
+    }
+    false
+}
+
+// Whether a location is slots, in memory or a register.
+pub fn is_slot(machine: Machine, old: bool, l: LocationAnswer) -> bool
+    ensures { λ r. ⌜ r ≡ isSlot machine old (locationOf l) ⌝ }
+{
+    if is_memory_slot(machine, old, l) {
+        return true;
+    }
+    is_register_slot(machine, old, l)
 }
 
 // Slots from p bytes after the stack pointer on, in an extent of `size` bytes.
@@ -155,11 +226,15 @@ fn position(register: u64, sp: u64, offset: u32, slots: usize, size: usize) -> S
     place(gap - down, slots, size)
 }
 
-// Where the first slot of a location is, if all of its slots are in the frame's extent of `size` bytes.
-pub fn slot(frame: Frame, old: bool, size: usize, l: LocationAnswer) -> Spot
+// Where the first slot of a location is, as a number (moves/specs/Arrays): of a register always; in memory if all of its slots are in the
+// frame's extent of `size` bytes.
+pub fn slot(frame: Cursor, old: bool, size: usize, l: LocationAnswer) -> Spot
     requires { ⌜ size ≤ imageMost ⌝ }
     ensures { λ r. ⌜ spotOf r ≡ slotIn old frame size (locationOf l) ⌝ }
 {
+    if l.kind == KIND_REGISTER {
+        return Spot::At(REGISTERS_FROM + POINTER_SIZE * l.register as usize);
+    }
     let machine = frame.machine;
     let slots = pointers_in(old, l.size);
     if l.register == frame_pointer(machine) {
