@@ -89,7 +89,7 @@ pub fn relocate(
                     first,
                     olds,
                     news,
-                    cursor,
+                    at,
                     true,
                     PAIRS_MOST,
                 );
