@@ -1,4 +1,5 @@
 pub mod Pairing
 pub mod Records
 pub mod Planned
+pub mod Demand
 pub mod Like
