@@ -3,3 +3,5 @@ pub mod Records
 pub mod Planned
 pub mod Demand
 pub mod Like
+pub mod Reorder
+pub mod Consequences
