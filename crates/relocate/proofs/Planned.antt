@@ -29,7 +29,7 @@ use Rattle.relocate.specs.declared.Machine.{Machine}
 use Rattle.relocate.specs.declared.Machine.the-variants.{Amd64, Aarch64}
 use Rattle.questions.specs.Questions.{ask}
 use Rattle.relocate.specs.Limits.{framePointer, stackPointer, generalRegisters, registerCount}
-use Rattle.relocate.specs.Restore.{Restore}
+use Rattle.relocate.specs.Restore.{Restore, allowed}
 use Rattle.relocate.specs.Stopped.{Stopped, registersRight, cursor}
 use Rattle.relocate.specs.Statepoint.{isStatepoint, Pair, pairs, isNull, isFrameOrStack, isMemorySlot, isRegisterSlot, isSlot, pointersIn, sameSize, rightForm, slotAddress, onward, isRegister, slotNumber, slotsInside, inside, slotAt, next, pointersFrom, pointersOf}
 use Rattle.relocate.specs.Plan.{recordsOf, only, every, stackSize, imageRight, extentRight, planPairs, planRecord, plan}
@@ -308,14 +308,15 @@ module _ (R : Restore) (n : ℕ) (st : Stopped) where
   pub planned : (e : ℕ) → sectionCheck (R .section) ≡ Valid e → (off size : ℕ) (ws : List (List Pointer)) → plan R n st ≡ window off size ws → Planned off size ws
   unfolding plan planRecord planPairs extentRight registersRight ask
   planned e k off size ws h =
-      let h₀ = need-held (tableRight (R .olds) (R .news)) 14 _ (need-held (imageRight (R .first) n) 13 _ (rw k at h) .1) in
+      let hₐ = need-held (allowed R (st .frame .machine)) 33 _ (rw k at h) in
+      let h₀ = need-held (tableRight (R .olds) (R .news)) 14 _ (need-held (imageRight (R .first) n) 13 _ (hₐ .1) .1) in
       let hᵣ = need-held (registersRight (st .registers)) 25 _ (h₀ .1) in
       let o = only-held _ _ (hᵣ .1) in
       let h₁ = need-held (isStatepoint (o .0 .body)) 12 _ (o .2) in
       let h₂ = need-held (extentRight (R .first) n (f .sp) (stackSize (o .0))) 16 _ (h₁ .1) in
-      let h₃ = need-held (not old || leb (length (pairs (o .0 .body))) (R .most)) 17 _ (h₂ .1) in
+      let h₃ = need-held (not old || leb (length (pairs (o .0 .body))) (R .settings .most)) 17 _ (h₂ .1) in
       let h₄ = every-held _ _ _ _ _ (h₃ .1) in
-      let h₄₅ = need-held (leb (length (flatten (map (pointersOf old pool f) (pairs (o .0 .body))))) (R .most)) 17 _ (h₄ .1) in
+      let h₄₅ = need-held (leb (length (flatten (map (pointersOf old pool f) (pairs (o .0 .body))))) (R .settings .most)) 17 _ (h₄ .1) in
       let h₅ = every-held _ _ _ _ _ (h₄₅ .1) in
       let x = and-true _ _ (h₂ .0) in
       let y = and-true _ _ (x .1) in
@@ -339,11 +340,11 @@ module _ (R : Restore) (n : ℕ) (st : Stopped) where
   unfolding plan planRecord planPairs ask
   plan-above e k =
       rw k
-      (need-above (imageRight (R .first) n) 12 _ (need-above (tableRight (R .olds) (R .news)) 13 _
+      (need-above (allowed R (st .frame .machine)) 32 _ (need-above (imageRight (R .first) n) 12 _ (need-above (tableRight (R .olds) (R .news)) 13 _
       (need-above (registersRight (st .registers)) 24 _ (only-above _ _ (λ x.
       need-above (isStatepoint (x .body)) 11 _ (need-above (extentRight (R .first) n (f .sp) (stackSize x)) 15 _
-      (need-above (not old || leb (length (pairs (x .body))) (R .most)) 16 _ (every-above _ 17 0 _ _
-      (need-above (leb (length (flatten (map (pointersOf old pool f) (pairs (x .body))))) (R .most)) 16 _ (every-above _ 18 0 _ _ tt))))))))))
+      (need-above (not old || leb (length (pairs (x .body))) (R .settings .most)) 16 _ (every-above _ 17 0 _ _
+      (need-above (leb (length (flatten (map (pointersOf old pool f) (pairs (x .body))))) (R .settings .most)) 16 _ (every-above _ 18 0 _ _ tt)))))))))))
 
   pub window-pair : (off size : ℕ) (ws : List (List Pointer)) (q : Planned off size ws)
       → (b d : Slot) → List·Memᴰ (slots b d) (flatten ws) → (p : Pair) × List·Memᴰ p (pairs (q .entry .body)) × ((i : ℕ) × From old pool f size b d p i)

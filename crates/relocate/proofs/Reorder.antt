@@ -27,7 +27,7 @@ use Rattle.moves.proofs.Blocks.{blocks-perm, pairs-alike}
 use Rattle.moves.proofs.Lists.{Sound, all-inside}
 use Rattle.relocate.specs.declared.Cursor.{Cursor}
 use Rattle.questions.specs.Questions.{ask, among, withAddress, atOffset, ofFunction, sought}
-use Rattle.relocate.specs.Restore.{Restore}
+use Rattle.relocate.specs.Restore.{Restore, allowed}
 use Rattle.relocate.specs.Stopped.{Stopped, registersRight, cursor}
 use Rattle.relocate.specs.Statepoint.{isStatepoint, Pair, pairs, rightForm, inside, pointersOf}
 use Rattle.relocate.specs.Plan.{recordsOf, only, every, stackSize, imageRight, extentRight, planPairs, planRecord, plan}
@@ -78,7 +78,7 @@ record Same (R R′ : Restore) : Type 0 where
   old-same : isOld (R′ .section) ≡ isOld (R .section)
   pool-same : readSection (R′ .section) .constants ≡ readSection (R .section) .constants
   first-same : R′ .first ≡ R .first
-  most-same : R′ .most ≡ R .most
+  most-same : R′ .settings .most ≡ R .settings .most
 
 same-entry : (R R′ : Restore) (n : ℕ) (f : Cursor) (e e′ : Entry) → Same R R′ → EntryLike e e′ → SamePlan (planEntry R n f e) (planEntry R′ n f e′)
 unfolding planRecord planPairs
@@ -91,8 +91,8 @@ same-entry R R′ n f e e′ w l =
     let g = pointersOf old pool f in
     let d : length (flatten (map g (pairs (e′ .body)))) ≡ length (flatten (map g (pairs (e .body)))) = sym (perm-length (blocks-perm (Permᴰ·map g p))) in
     rw (l .body-like .statepoint-same, o, c, w .old-same, w .pool-same, w .first-same, w .most-same, d)
-    (same-need (isStatepoint (e .body)) 12 _ _ (same-need (extentRight (R .first) n (f .sp) (stackSize e)) 16 _ _ (same-need (not old || leb (length (pairs (e .body))) (R .most)) 17 _ _
-    (same-every (rightForm (f .machine) old pool) 18 0 _ _ _ _ (omega arith) p (same-need (leb (length (flatten (map g (pairs (e .body))))) (R .most)) 17 _ _
+    (same-need (isStatepoint (e .body)) 12 _ _ (same-need (extentRight (R .first) n (f .sp) (stackSize e)) 16 _ _ (same-need (not old || leb (length (pairs (e .body))) (R .settings .most)) 17 _ _
+    (same-every (rightForm (f .machine) old pool) 18 0 _ _ _ _ (omega arith) p (same-need (leb (length (flatten (map g (pairs (e .body))))) (R .settings .most)) 17 _ _
     (same-every (inside old pool f (stackSize e)) 19 0 _ _ _ _ (omega arith) p (windows (Permᴰ·map g p))))))))
 
 with-like : (a : ℕ) (es es′ : List Entry) → EntriesLike es es′ → EntriesLike (withAddress a es) (withAddress a es′)
@@ -185,13 +185,13 @@ module _ (R : Restore) (s′ : List ℕ) (w : Bytes (R .section)) (o : OtherOrde
 
   module _ (im : List ℕ) (f : Stopped) where
     same-plan : SamePlan (plan R (length im) f) (plan R′ (length im) f)
-    unfolding plan recordsOf sought ofFunction entries ask
+    unfolding plan allowed recordsOf sought ofFunction entries ask
     same-plan =
         rw (o .accepted, now-accepted, old-same, now-read)
-        (same-need (imageRight (R .first) (length im)) 13 _ _ (same-need (tableRight (R .olds) (R .news)) 14 _ _
+        (same-need (allowed R (f .frame .machine)) 33 _ _ (same-need (imageRight (R .first) (length im)) 13 _ _ (same-need (tableRight (R .olds) (R .news)) 14 _ _
         (same-need (registersRight (f .registers)) 25 _ _
         (same-only _ _ _ _ (sought-like (isOld (R .section)) (t .functions) (f .frame .function) (f .frame .address) _ _ (section-like t (o .records) (o .reordered)))
-        (λ e e′. same-entry R R′ (length im) (cursor f) e e′ same)))))
+        (λ e e′. same-entry R R′ (length im) (cursor f) e e′ same))))))
 
     both : Alike (answer R im f) (answer R′ im f) × (moved R′ im f ≡ moved R im f) × (movedRegisters R′ im f ≡ movedRegisters R im f)
     unfolding answer moved movedRegisters

@@ -1,5 +1,5 @@
 -- What a frame is before any byte of the image is read: a refusal, or its extent in the image with its pointers. The order for
--- a frame: 1 to 9, 13, 14, 25, 10, 15, 12, 16, 17, then 18, 19, each over all pairs before the next.
+-- a frame: 1 to 9, 33, 13, 14, 25, 10, 15, 12, 16, 17, then 18, 19, each over all pairs before the next.
 use Prim.Native.Nat.{ℕ, suc, _+_, _-_}
 use mathlib.Core.Bool.{Bool, true, false, not, _&&_, _||_}
 use mathlib.Core.List.{List, [], _∷_, map, flatten}
@@ -14,7 +14,7 @@ use Rattle.moves.specs.Plan.{Plan, refuse, window}
 use Rattle.relocate.specs.declared.Frame.{Frame}
 use Rattle.relocate.specs.Limits.{imageMost}
 use Rattle.relocate.specs.declared.Cursor.{Cursor}
-use Rattle.relocate.specs.Restore.{Restore}
+use Rattle.relocate.specs.Restore.{Restore, allowed}
 use Rattle.relocate.specs.Stopped.{Stopped, registersRight, cursor}
 use Rattle.questions.specs.Questions.{ask, sought}
 use Rattle.relocate.specs.Statepoint.{isStatepoint, Pair, pairs, rightForm, inside, pointersOf}
@@ -54,9 +54,9 @@ module _ (R : Restore) where
       let old = isOld (R .section) in
       let pool = readSection (R .section) .constants in
       let pss = map (pointersOf old pool f) ps in
-      need (not old || leb (length ps) (R .most)) (refuse 17 0)
+      need (not old || leb (length ps) (R .settings .most)) (refuse 17 0)
       (every (rightForm (f .machine) old pool) 18 0 ps
-      (need (leb (length (flatten pss)) (R .most)) (refuse 17 0)
+      (need (leb (length (flatten pss)) (R .settings .most)) (refuse 17 0)
       (every (inside old pool f size) 19 0 ps
       (window (f .sp - R .first) size pss))))
 
@@ -70,8 +70,9 @@ module _ (R : Restore) where
   unfoldable pub plan : ℕ → Stopped → Plan
   plan n st =
       ask refuse
+      (need (allowed R (st .frame .machine)) (refuse 33 0)
       (need (imageRight (R .first) n) (refuse 13 0)
       (need (tableRight (R .olds) (R .news)) (refuse 14 0)
       (need (registersRight (st .registers)) (refuse 25 0)
-      (only (recordsOf (R .section) (st .frame)) (λ e. planRecord n (cursor st) (stackSize e) (e .body))))))
+      (only (recordsOf (R .section) (st .frame)) (λ e. planRecord n (cursor st) (stackSize e) (e .body)))))))
       (sectionCheck (R .section))

@@ -42,7 +42,7 @@ pub record OtherOrder (s s′ : List ℕ) : Type 0 where
 
 -- the same restore with another section
 abbrev pub withSection : Restore → List ℕ → Restore
-withSection R s = record { section = s; olds = R .olds; news = R .news; first = R .first; most = R .most }
+withSection R s = record { section = s; olds = R .olds; news = R .news; first = R .first; settings = R .settings }
 
 -- s′ is accepted; a move's number, its count, and the image and registers it leaves stay the same; only the place of 18 to 21 may differ
 pub record SameMoves (R R′ : Restore) : Type 0 where

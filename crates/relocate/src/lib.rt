@@ -31,3 +31,11 @@ pub struct Cursor {
     pub fp: u64,
     pub sp: u64,
 }
+
+// The settings of a restore, which an edition keeps: the largest pointer count, the machine, and whether each version is allowed.
+pub struct Settings {
+    pub most: usize,
+    pub machine: Machine,
+    pub version1: bool,
+    pub version3: bool,
+}

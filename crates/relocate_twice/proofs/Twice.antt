@@ -22,7 +22,7 @@ use Rattle.moves_twice.specs.Joined.{joined}
 use Rattle.moves_twice.proofs.Joined.{joined-right}
 use Rattle.moves_twice.proofs.TwoMoves.{Plain, Ready, lookJoined}
 use Rattle.moves_twice.proofs.TwoImages.{OneImage, refused-image, two-moves-image}
-use Rattle.relocate.specs.Restore.{Restore}
+use Rattle.relocate.specs.Restore.{Restore, allowed}
 use Rattle.relocate.specs.Stopped.{Stopped, registersRight, cursor}
 use Rattle.relocate.specs.Plan.{planPairs, planRecord, plan}
 use Rattle.relocate.specs.Relocation.{answer, moved, movedRegisters, ListedPointer}
@@ -51,12 +51,12 @@ module _ (R : Restore) (olds2 news2 im : List ℕ) (f : Stopped) (right : tableR
 
   -- a plan reads of the table only that it is right
   joined-plan : plan R12 (length im) f ≡ plan R (length im) f
-  unfolding plan planRecord planPairs
+  unfolding plan planRecord planPairs allowed
   joined-plan = rw (joined-right (R .olds) (R .news) olds2 news2 right right2, right)
 
   -- the second move has the first one's plan
   second-plan : plan R2 (length (moved R im f)) (afterMove R im f) ≡ plan R (length im) f
-  unfolding plan planRecord planPairs registersRight
+  unfolding plan planRecord planPairs allowed registersRight
   second-plan =
       rw (
         demand3 R im (f ∷ []) ((λ g m. absurd (List·Memᴰ·not-nil m)), tt) .same-length,

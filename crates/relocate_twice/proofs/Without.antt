@@ -22,6 +22,7 @@ use Rattle.relocate.specs.Statepoint.{registerOf, slotAddress, isRegister, slot
 use Rattle.stackmap.specs.Section.{asOffset}
 use Rattle.relocate.specs.Plan.{recordsOf, only, every, imageRight, extentRight, planPairs, planRecord, plan}
 use Rattle.relocate.specs.Relocation.{answer, moved, movedRegisters}
+use Rattle.relocate.specs.Restore.{sameMachine, allowed}
 use Rattle.relocate.specs.Stopped.{registersRight, cursor}
 use Rattle.relocate_twice.specs.Without.{WithoutSelfPair, SecondRefused, ImagesDiffer}
 
@@ -34,7 +35,7 @@ unfolding word bytes must chain bind pick shift bytesOf size all many functionFi
     Pointers.anyOverlap Pointers.slotsClash Pointers.clash Pointers.newDerived Pointers.newContent atLowest first20 first21 settled settle
     deoptCount constantHead pairedRest isStatepoint pairUp pairs isZero isNull sizeRight pointersIn isFrameOrStack isMemorySlot isRegisterSlot isSlot
     sameSize rightForm registerOf asOffset slotAddress isRegister slotsInside slotAt inside flatten pointersOf pairOf recordsOf only every imageRight
-    extentRight planPairs planRecord registersRight cursor plan answer moved movedRegisters
+    extentRight planPairs planRecord sameMachine allowed registersRight cursor plan answer moved movedRegisters
 second-refused = record { first-accepted = refl; second-refused = refl; joined-accepted = refl }
 
 images-differ : ImagesDiffer
@@ -46,7 +47,7 @@ unfolding word bytes must chain bind pick shift bytesOf size all many functionFi
     Pointers.anyOverlap Pointers.slotsClash Pointers.clash Pointers.newDerived Pointers.newContent atLowest first20 first21 settled settle
     deoptCount constantHead pairedRest isStatepoint pairUp pairs isZero isNull sizeRight pointersIn isFrameOrStack isMemorySlot isRegisterSlot isSlot
     sameSize rightForm registerOf asOffset slotAddress isRegister slotsInside slotAt inside flatten pointersOf pairOf recordsOf only every imageRight
-    extentRight planPairs planRecord registersRight cursor plan answer moved movedRegisters
+    extentRight planPairs planRecord sameMachine allowed registersRight cursor plan answer moved movedRegisters
 images-differ = record { first-accepted = refl; second-accepted = refl; joined-accepted = refl; two-leave = refl; one-leaves = refl }
 
 pub without-self-pair : WithoutSelfPair

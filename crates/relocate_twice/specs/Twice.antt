@@ -15,7 +15,7 @@ use Rattle.relocate.specs.Consequences.{Words, afterMove}
 
 -- the same restore with another table
 abbrev pub withTable : Restore → List ℕ → List ℕ → Restore
-withTable R olds news = record { section = R .section; olds = olds; news = news; first = R .first; most = R .most }
+withTable R olds news = record { section = R .section; olds = olds; news = news; first = R .first; settings = R .settings }
 
 -- the same restore with its table and a second one joined
 abbrev pub withJoined : Restore → List ℕ → List ℕ → Restore

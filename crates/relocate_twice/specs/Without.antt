@@ -10,7 +10,7 @@ use Rattle.moves.specs.declared.Move.{Move}
 use Rattle.moves.specs.Settle.{refusedMove, acceptedMove}
 use Rattle.moves_twice.specs.Joined.{Table, joined}
 use Rattle.relocate.specs.declared.Machine.the-variants.{Amd64}
-use Rattle.relocate.specs.Restore.{Restore, restoreAll}
+use Rattle.relocate.specs.Restore.{Restore, restore, everything}
 use Rattle.relocate.specs.Stopped.{Stopped}
 use Rattle.relocate.specs.Relocation.{answer, moved}
 use Rattle.relocate.specs.Consequences.{afterMove}
@@ -44,7 +44,7 @@ image b d = replicate 8 0 ++ (bytes 8 b ++ bytes 8 d)
 
 -- an object goes from 0x50000 to 0x90000, and on to 0xA0000; in the other second table another one goes from 0x50000 to 0x70000
 abbrev pub by : List ℕ → List ℕ → Restore
-by olds news = restoreAll section olds news 0x7000
+by olds news = restore section olds news 0x7000 (everything Amd64)
 
 abbrev pub first : Restore
 first = by (0x50000 ∷ []) (0x90000 ∷ [])
