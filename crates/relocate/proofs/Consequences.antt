@@ -69,10 +69,10 @@ pub listed-holder : (s : List ℕ) (f : Stopped) (b : Slot) (r : ℕ) → Listed
 listed-holder s f b r l = number-holder (f .frame .machine) (isOld s) (cursor f) (l .pair .derived) (l .pointer) r (l .derived-slot) (l .derived-at)
 
 -- one frame alone
-alone : (R : Restore) (im : List ℕ) (f : Stopped) → Holds R im (f ∷ [])
+pub alone : (R : Restore) (im : List ℕ) (f : Stopped) → Holds R im (f ∷ [])
 alone R im f = demand3 R im (f ∷ []) ((λ g m. absurd (List·Memᴰ·not-nil m)), tt)
 
-registers-alone : (R : Restore) (im : List ℕ) (f : Stopped) → RegistersHold R im f
+pub registers-alone : (R : Restore) (im : List ℕ) (f : Stopped) → RegistersHold R im f
 registers-alone R im f = alone R im f .registers f (List·Memᴰ·head refl)
 
 same-cursor : (R : Restore) (im : List ℕ) (f : Stopped) → cursor (afterMove R im f) ≡ cursor f
@@ -119,15 +119,15 @@ counts =
     }
 
 -- the slots of an accepted frame stand in the image, or are registers
-abbrev From : ℕ → Slot → Type 0
+abbrev pub From : ℕ → Slot → Type 0
 From first (memory a) = first ≤ a
 From first (register r) = Unit {0}
 
-from-window : (first sp : ℕ) (x : Slot) → first ≤ sp → From first (fromImage sp x)
+pub from-window : (first sp : ℕ) (x : Slot) → first ≤ sp → From first (fromImage sp x)
 from-window first sp (memory a) h = omega arith
 from-window first sp (register r) h = tt
 
-slots-low : (R : Restore) (im : List ℕ) (f : Stopped) → answer R im f .number ≡ 0
+pub slots-low : (R : Restore) (im : List ℕ) (f : Stopped) → answer R im f .number ≡ 0
     → (b d : Slot) → ListedPointer (R .section) f b d → From (R .first) b × From (R .first) d
 slots-low R im f h b d l =
     let k = accepted-section R im f h in
@@ -139,7 +139,7 @@ slots-low R im f h b d l =
     )
 
 -- the new content of a derived slot, as a number in the new image or the new registers
-new-content : (R : Restore) (im : List ℕ) (f : Stopped) → answer R im f .number ≡ 0
+pub new-content : (R : Restore) (im : List ℕ) (f : Stopped) → answer R im f .number ≡ 0
     → (b d : Slot) → ListedPointer (R .section) f b d → From (R .first) d
     → contentAt R (moved R im f) (movedRegisters R im f) d ≡ newContentAt R im (f .registers) b d
 unfolding newContent newDerived
@@ -152,7 +152,7 @@ new-content R im f a b (memory d) l low =
     ∙ omega arith
 
 -- a slot holds a 64-bit number
-content-bound : (R : Restore) (im rs : List ℕ) (x : Slot) → Bytes im → Words rs → contentAt R im rs x < 2 ^ 64
+pub content-bound : (R : Restore) (im rs : List ℕ) (x : Slot) → Bytes im → Words rs → contentAt R im rs x < 2 ^ 64
 content-bound R im rs (memory a) w u = omega (arith, word-bound 8 im (a - R .first) w)
 content-bound R im rs (register r) w u = u r
 
@@ -212,7 +212,7 @@ module _ (R : Restore) (im im′ rs′ : List ℕ) (f : Stopped) (g : AgreeOnSlo
       go (Valid e) k = plan-agrees e k P refl
       go (Refused n p) k = rw (plan-refused R (length im) f n p k)
 
-  content-agrees : (x : Slot) → From (R .first) x → AgreeOn R im im′ rs rs′ x → contentAt R im rs x ≡ contentAt R im′ rs′ x
+  pub content-agrees : (x : Slot) → From (R .first) x → AgreeOn R im im′ rs rs′ x → contentAt R im rs x ≡ contentAt R im′ rs′ x
   content-agrees (memory a) low h = word-local 8 im im′ (a - R .first) (λ i r. h i (record { low = omega arith; high = omega arith }))
   content-agrees (register r) low h = h
 
