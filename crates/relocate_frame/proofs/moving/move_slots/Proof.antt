@@ -1,11 +1,10 @@
-use Prim.Native.Nat.{_+_, _-_, _≤_}
+use Prim.Native.Nat.{_+_, _-_}
 use mathlib.Core.Path.{_≡_, refl}
 use native.Mathlib.Omega.{arith}
 use lib.ListN.{length}
 use Rattle.relocate.specs.Restore.{restore}
-use Rattle.relocate.specs.Statepoint.{inside}
-use Rattle.relocate.specs.Code.{recordOf, poolOf}
-use Rattle.relocate_frame.proofs.Following.{each-passed, arrays-placed, follows-pairs}
+use Rattle.relocate.specs.Code.{recordOf}
+use Rattle.relocate_frame.proofs.Following.{follows-pairs}
 use Rattle.relocate_frame.proofs.Stages.{refuses, extent-tells, slots-19, slots-on}
 use borrow.Author.Needs.{needs}
 use Rattle.relocate_frame.proofs.moving.move_slots.Statement.{statement}
@@ -22,38 +21,29 @@ slice-aggregate-fill-3 c = search needs
 
 fill-requires : tie.Need-fill-requires
 fill-requires c κs =
-    let s = c .before .before .before .before .before .before .before in
-    (record { live-room = refl; bases-room = refl; derived-room = refl }, s .pre .0, s .pre .6, s .pre .2, omega (arith, s .pre .3, s .pre .4))
+    let s = c .before .before .before .before .before .before .before .before in
+    (record { live-room = refl; bases-room = refl; derived-room = refl }, s .pre .0, s .pre .7, s .pre .2, omega (arith, s .pre .3, s .pre .4))
 
 refused-requires : tie.Need-refused-requires
 refused-requires c κs = search needs
 
 returns : tie.Need-returns
 returns c =
-    let s = c .before .before .before .before .before .before .before .before .before .before .before .before .before in
+    let s = c .before .before .before .before .before .before .before .before .before .before .before .before .before .before in
     let a = s .args in
-    refuses _ _ _ _ _ 19 _ (c .refused .ensures)
-    (slots-19 (restore (a .s .now) (a .olds .now) (a .news .now) (a .first)) (a .frame) (a .size) (recordOf (a .s .now) (a .at)) (a .count) (s .pre .0 .counted) (a .old) (s .pre .1) _
+    refuses _ _ _ _ _ _ 19 _ (c .refused .ensures)
+    (slots-19 (restore (a .s .now) (a .olds .now) (a .news .now) (a .first) (a .most)) (a .frame) (a .size) (recordOf (a .s .now) (a .at)) (a .count) (s .pre .0 .counted) (a .old) (s .pre .1) _
     (c .before .before .before .before .before .fill .ensures .0) (c .before .if1 .taken))
 
 sub-off : tie.Need-sub-off
 sub-off c =
-    let s = c .before .before .before .before .before .before .before .before .before .before .before .before .before in
-    omega (arith, extent-tells (s .args .first) (length (s .args .image .now)) (s .args .frame .sp) (s .args .size) (s .pre .5))
-
-sub-move-window : tie.Need-sub-move-window
-sub-move-window c = search needs
-
-part-registers-start : tie.Need-part-registers-start
-part-registers-start c = search needs
-
-part-registers-end : tie.Need-part-registers-end
-part-registers-end c = search needs
+    let s = c .before .before .before .before .before .before .before .before .before .before .before .before .before .before in
+    omega (arith, extent-tells (s .args .first) (length (s .args .image .now)) (s .args .frame .sp) (s .args .size) (s .pre .6))
 
 add-move-window : tie.Need-add-move-window
 add-move-window c =
-    let s = c .before .before .before .before .before .before .before .before .before .before .before .before .before .before .before in
-    omega (arith, extent-tells (s .args .first) (length (s .args .image .now)) (s .args .frame .sp) (s .args .size) (s .pre .5))
+    let s = c .before .before .before .before .before .before .before .before .before .before .before .before .before .before .before .before in
+    omega (arith, extent-tells (s .args .first) (length (s .args .image .now)) (s .args .frame .sp) (s .args .size) (s .pre .6))
 
 slice-aggregate-move-window : tie.Need-slice-aggregate-move-window
 slice-aggregate-move-window c = search needs
@@ -62,41 +52,41 @@ move-window-requires : tie.Need-move-window-requires
 move-window-requires c κs =
     let i = c .before .before .before .before .before .before .before in
     let g = i .before .before .before .before in
-    let s = g .before .before .before .before .before .before .before .before in
+    let s = g .before .before .before .before .before .before .before .before .before in
     let a = s .args in
-    let r = recordOf (a .s .now) (a .at) in
-    let pool = poolOf (a .s .now) in
-    let x = each-passed (inside (a .old) pool (a .frame) (a .size)) r (a .count) (g .fill .result) (g .fill .ensures .0) (i .if1 .left) in
-    let e = extent-tells (a .first) (length (a .image .now)) (a .frame .sp) (a .size) (s .pre .5) in
+    let e = extent-tells (a .first) (length (a .image .now)) (a .frame .sp) (a .size) (s .pre .6) in
     let off = a .frame .sp - a .first in
     let z : off + a .size - off ≡ a .size = omega arith in (
       omega arith,
       omega arith,
       s .pre .4,
       s .pre .4,
-      omega (arith, s .pre .6),
-      (let y : 0 ≤ 32 = omega arith in y),
-      rw z (arrays-placed (a .old) pool r (a .frame) (a .size) (a .count) (a .pointers) _ _ _ (s .pre .0 .counted) (s .pre .2) x (rw (s .pre .3) (g .fill .ensures .2 (i .if1 .left))) _ (omega (arith, s .pre .6))),
-      s .pre .7,
+      omega (arith, s .pre .7),
+      omega (arith, s .pre .5),
+      rw (z, s .pre .5, s .pre .3) (g .fill .ensures .3 (i .if1 .left)),
+      s .pre .8,
     )
 
 at-pair-requires : tie.Need-at-pair-requires
 at-pair-requires c κs =
-    let i = c .before .before .before .before .before .before .before .before .before .before .before .before in
-    i .before .before .before .before .before .before .before .before .before .before .before .before .pre .0
+    let i = c .before .before .before .before .before .before .before .before .before .before .before .before .before in
+    i .before .before .before .before .before .before .before .before .before .before .before .before .before .pre .0
 
 same-length : tie.Need-same-length
 same-length c = search needs
 
+same-length-2 : tie.Need-same-length-2
+same-length-2 c = search needs
+
 returns-2 : tie.Need-returns-2
 returns-2 c =
-    let i = c .before .before .before .before .before .before .before .before .before .before .before .before .before in
+    let i = c .before .before .before .before .before .before .before .before .before .before .before .before .before .before in
     let g = i .before .before .before .before in
-    let s = g .before .before .before .before .before .before .before .before in
+    let s = g .before .before .before .before .before .before .before .before .before in
     let a = s .args in
     let r = recordOf (a .s .now) (a .at) in
-    rw (slots-on (restore (a .s .now) (a .olds .now) (a .news .now) (a .first)) (a .frame) (a .size) r (a .count) (s .pre .0 .counted) (a .old) (s .pre .1) _ (g .fill .ensures .0) (i .if1 .left) (a .frame .sp - a .first) refl)
-    (follows-pairs _ (a .write) _ _ (a .image .now) _ _ _ _ _ _ (rw (s .pre .3) (g .fill .ensures .2 (i .if1 .left))) (c .at-pair .ensures (a .frame)) (c .before .before .before .before .before .move-window .ensures))
+    rw (slots-on (restore (a .s .now) (a .olds .now) (a .news .now) (a .first) (a .most)) (a .frame) (a .size) r (a .count) (s .pre .0 .counted) (a .old) (s .pre .1) _ (g .fill .ensures .0) (i .if1 .left) (a .frame .sp - a .first) refl)
+    (follows-pairs _ (a .write) _ _ (a .image .now) _ _ _ _ _ _ _ (rw (s .pre .3) (g .fill .ensures .2 (i .if1 .left))) (c .at-pair .ensures (a .frame)) (c .before .before .before .before .before .before .move-window .ensures))
 
 pub move-slots-spec : {M : Type 1} → statement M
 move-slots-spec =
@@ -109,12 +99,10 @@ move-slots-spec =
     refused-requires
     returns
     sub-off
-    sub-move-window
-    part-registers-start
-    part-registers-end
     add-move-window
     slice-aggregate-move-window
     move-window-requires
     at-pair-requires
     same-length
+    same-length-2
     returns-2)
