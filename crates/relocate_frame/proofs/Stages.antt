@@ -1,12 +1,11 @@
 -- The stages of a plan, each by the tests that lead to it.
 use Prim.Native.Nat.{ℕ, _+_, _-_, _^_, _≤_, _<_}
 use mathlib.Core.Path.{_≡_, refl, _∙_}
-use mathlib.Core.Bool.{Bool, true, false, not, _&&_, _||_}
-use mathlib.Core.Option.{Option}
+use mathlib.Core.Bool.{Bool, true, false, not, _||_}
 use mathlib.Core.List.{List, flatten}
 use native.Mathlib.Omega.{arith}
 use borrow.Author.Tests.{eqb-true, leb-true, leb-false, le-leb, lt-leb, lt-ltb, le-ltb, eq-eqb, ne-eqb}
-use lib.Dec.{eqb, leb, ltb}
+use lib.Dec.{leb, ltb}
 use lib.ListN.{length}
 use Rattle.wire.specs.Word.{Bytes}
 use Rattle.stackmap.specs.Section.{Record, Entry, isOld}
@@ -20,8 +19,7 @@ use Rattle.stackmap.proofs.Tests.{and-true}
 use Rattle.moves.specs.declared.Move.{Move}
 use Rattle.moves.specs.Search.{lowest}
 use Rattle.moves.specs.Table.{tableRight, lookUp}
-use Rattle.moves.specs.Settle.{refusedMove}
-use Rattle.moves.specs.Plan.{Plan, refuse, window}
+use Rattle.moves.specs.Plan.{refuse}
 use Rattle.moves.specs.Code.{Follows}
 use Rattle.relocate.specs.declared.Cursor.{Cursor}
 use Rattle.relocate.specs.declared.Machine.{Machine}
@@ -29,18 +27,12 @@ use Rattle.relocate.specs.declared.Machine.the-variants.{Amd64, Aarch64}
 use Rattle.relocate.specs.Limits.{imageMost, registerCount, framePointer, stackPointer}
 use Rattle.relocate.specs.Restore.{Restore}
 use Rattle.relocate.specs.Stopped.{Stopped, registersRight, cursor}
-use Rattle.relocate.specs.Statepoint.{isStatepoint, pairs, rightForm, inside}
+use Rattle.relocate.specs.Statepoint.{isStatepoint, pairs, rightForm}
 use Rattle.relocate.specs.Plan.{recordsOf, only, stackSize, imageRight, extentRight, planPairs, planRecord, plan}
 use Rattle.relocate.specs.Relocation.{answer, moved, movedRegisters}
 use Rattle.relocate.specs.Code.{recordOf, poolOf, planEntry, planSlots, Relocates, pairNumber, pointersBy}
-use Rattle.relocate_frame.proofs.Following.{every-refused, every-passed}
+use Rattle.relocate_window.proofs.Following.{every-refused, every-passed}
 use Rattle.relocate_frame.proofs.Asking.{one-found, body-is, size-is}
-
--- a refusal follows a plan that is one
-pub refuses : (write : Bool) (r : Move) (table : ℕ → Option ℕ) (im rs : List ℕ) (p : Plan) (n i : ℕ) → r ≡ refusedMove n i → p ≡ refuse n i
-    → Follows write r im rs table im rs p
-refuses true r table im rs p n i h e = rw (h, e) (record { answer = refl; left = refl; registers-left = refl })
-refuses false r table im rs p n i h e = rw (h, e) (record { answer = refl; left = refl; registers-left = refl })
 
 -- 13
 
@@ -81,14 +73,7 @@ module _ (first n rsp size : ℕ) where
     unfolding extentRight
     extent-fine l h = rw (ne-eqb size (2 ^ 64 - 1) known, le-leb first rsp l, le-leb (rsp + size) (first + n) h)
 
-  pub extent-tells : extentRight first n rsp size ≡ true → (first ≤ rsp) × (rsp + size ≤ first + n)
-  unfolding extentRight
-  extent-tells h =
-      let a = and-true (not (eqb size (2 ^ 64 - 1))) (leb first rsp && leb (rsp + size) (first + n)) h in
-      let b = and-true (leb first rsp) (leb (rsp + size) (first + n)) (a .1) in
-      (leb-true _ _ (b .0), leb-true _ _ (b .1))
-
--- 18, 17 over the pointers, 19
+-- 18, 17 over the pointers
 
 module _ (R : Restore) (f : Cursor) (size : ℕ) (r : Record) (count : ℕ) (c : count ≡ length (pairs r)) (old : Bool) (is : old ≡ isOld (R .section)) where
   abbrev pool : List ℕ
@@ -114,17 +99,6 @@ module _ (R : Restore) (f : Cursor) (size : ℕ) (r : Record) (count : ℕ) (c :
       pub pairs-on : pointers ≤ R .most → planPairs R f size (pairs r) ≡ planSlots R f size (pairs r)
       unfolding planPairs planSlots
       pairs-on h = rw (← is, few-pairs, ← e, le-leb pointers (R .most) h) (every-passed (rightForm (f .machine) old pool) 18 r _ count wrong c w right)
-
-  module _ (out : ℕ) (o : out ≡ lowest (λ p. not (inside old pool f size (pairNumber r p))) count) where
-    pub slots-19 : out < count → planSlots R f size (pairs r) ≡ refuse 19 out
-    unfolding planSlots
-    slots-19 h = rw (← is) (every-refused (inside old pool f size) 19 r _ count out c o h)
-
-    pub slots-on : count ≤ out → (off : ℕ) → off ≡ f .sp - R .first → planSlots R f size (pairs r) ≡ window off (off + size - off) (pointersBy old pool f r)
-    unfolding planSlots
-    slots-on h off e =
-        let z : off + size - off ≡ size = omega arith in
-        rw (← is) (every-passed (inside old pool f size) 19 r _ count out c o h ∙ rw (z, e))
 
 -- in version 1 there are few pairs
 pub few-old : (old : Bool) (n most : ℕ) → (not old || leb n most) ≡ true → old ≡ true → n ≤ most

@@ -6,7 +6,8 @@ use Rattle.questions.proofs.Searched.{section-accepted, first-found, named-soug
 use Rattle.questions.specs.Questions.{firstOf}
 use Rattle.relocate.specs.Restore.{restoreAll}
 use Rattle.relocate.specs.Stopped.{stopped}
-use Rattle.relocate_frame.proofs.Stages.{refuses, relocates, plan-section, plan-13, plan-14, plan-25, plan-at, records-at, registers-32}
+use Rattle.relocate_window.proofs.Following.{refuses}
+use Rattle.relocate_frame.proofs.Stages.{relocates, plan-section, plan-13, plan-14, plan-25, plan-at, records-at, registers-32}
 use borrow.Author.Needs.{needs}
 use Rattle.relocate_frame.proofs.relocate.Statement.{statement}
 use Rattle.relocate_frame.proofs.relocate.Tie as tie

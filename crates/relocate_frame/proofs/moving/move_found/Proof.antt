@@ -4,7 +4,8 @@ use Rattle.questions.specs.Questions.{sought}
 use Rattle.relocate.specs.Restore.{restore}
 use Rattle.relocate.specs.Code.{planEntry}
 use Rattle.relocate_frame.proofs.Asking.{none-found, several-found, found-stands, found-function}
-use Rattle.relocate_frame.proofs.Stages.{refuses, entry-plan}
+use Rattle.relocate_window.proofs.Following.{refuses}
+use Rattle.relocate_frame.proofs.Stages.{entry-plan}
 use borrow.Author.Needs.{needs}
 use Rattle.relocate_frame.proofs.moving.move_found.Statement.{statement}
 use Rattle.relocate_frame.proofs.moving.move_found.Tie as tie

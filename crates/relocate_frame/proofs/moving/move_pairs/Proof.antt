@@ -1,12 +1,11 @@
-use Prim.Native.Nat.{_≤_}
 use mathlib.Core.Path.{sym, _∙_}
 use native.Mathlib.Omega.{arith}
 use Rattle.relocate.specs.Restore.{restore}
 use Rattle.relocate.specs.Statepoint.{rightForm}
 use Rattle.relocate.specs.Code.{recordOf, poolOf}
 use Rattle.relocate_pairs.proofs.Counting.{pointers-length}
-use Rattle.relocate_frame.proofs.Following.{each-passed}
-use Rattle.relocate_frame.proofs.Stages.{refuses, pairs-18, pairs-17, pairs-on}
+use Rattle.relocate_window.proofs.Following.{refuses, each-passed}
+use Rattle.relocate_frame.proofs.Stages.{pairs-18, pairs-17, pairs-on}
 use borrow.Author.Needs.{needs}
 use Rattle.relocate_frame.proofs.moving.move_pairs.Statement.{statement}
 use Rattle.relocate_frame.proofs.moving.move_pairs.Tie as tie

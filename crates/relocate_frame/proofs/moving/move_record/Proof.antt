@@ -4,7 +4,8 @@ use native.Mathlib.Omega.{arith}
 use lib.ListN.{length}
 use Rattle.relocate.specs.Restore.{restore}
 use Rattle.relocate.specs.Code.{recordOf}
-use Rattle.relocate_frame.proofs.Stages.{refuses, image-most, extent-tells, few-old, record-12, record-16, record-17, record-on}
+use Rattle.relocate_window.proofs.Following.{refuses, extent-tells}
+use Rattle.relocate_frame.proofs.Stages.{image-most, few-old, record-12, record-16, record-17, record-on}
 use borrow.Author.Needs.{needs}
 use Rattle.relocate_frame.proofs.moving.move_record.Statement.{statement}
 use Rattle.relocate_frame.proofs.moving.move_record.Tie as tie

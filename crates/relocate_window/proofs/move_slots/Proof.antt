@@ -4,11 +4,10 @@ use native.Mathlib.Omega.{arith}
 use lib.ListN.{length}
 use Rattle.relocate.specs.Restore.{restore}
 use Rattle.relocate.specs.Code.{recordOf}
-use Rattle.relocate_frame.proofs.Following.{follows-pairs}
-use Rattle.relocate_frame.proofs.Stages.{refuses, extent-tells, slots-19, slots-on}
+use Rattle.relocate_window.proofs.Following.{follows-pairs, refuses, extent-tells, slots-19, slots-on}
 use borrow.Author.Needs.{needs}
-use Rattle.relocate_frame.proofs.moving.move_slots.Statement.{statement}
-use Rattle.relocate_frame.proofs.moving.move_slots.Tie as tie
+use Rattle.relocate_window.proofs.move_slots.Statement.{statement}
+use Rattle.relocate_window.proofs.move_slots.Tie as tie
 
 slice-aggregate-fill : tie.Need-slice-aggregate-fill
 slice-aggregate-fill c = search needs
@@ -24,16 +23,13 @@ fill-requires c κs =
     let s = c .before .before .before .before .before .before .before .before in
     (record { live-room = refl; bases-room = refl; derived-room = refl }, s .pre .0, s .pre .7, s .pre .2, omega (arith, s .pre .3, s .pre .4))
 
-refused-requires : tie.Need-refused-requires
-refused-requires c κs = search needs
-
 returns : tie.Need-returns
 returns c =
-    let s = c .before .before .before .before .before .before .before .before .before .before .before .before .before .before in
+    let s = c .before .before .before .before .before .before .before .before .before .before .before .before .before in
     let a = s .args in
-    refuses _ _ _ _ _ _ 19 _ (c .refused .ensures)
+    refuses _ _ _ _ _ _ 19 _ refl
     (slots-19 (restore (a .s .now) (a .olds .now) (a .news .now) (a .first) (a .most)) (a .frame) (a .size) (recordOf (a .s .now) (a .at)) (a .count) (s .pre .0 .counted) (a .old) (s .pre .1) _
-    (c .before .before .before .before .before .fill .ensures .0) (c .before .if1 .taken))
+    (c .before .before .before .before .fill .ensures .0) (c .if1 .taken))
 
 sub-off : tie.Need-sub-off
 sub-off c =
@@ -96,7 +92,6 @@ move-slots-spec =
     slice-aggregate-fill-2
     slice-aggregate-fill-3
     fill-requires
-    refused-requires
     returns
     sub-off
     add-move-window

@@ -1,28 +1,31 @@
 -- What the code answers and leaves is what the plan gives: the refusals of pairs, and the move of a window.
-use Prim.Native.Nat.{ℕ, suc, _+_, _≤_, _<_}
+use Prim.Native.Nat.{ℕ, suc, _+_, _-_, _^_, _≤_, _<_}
 use mathlib.Core.Path.{_≡_, refl, sym, ap, _∙_}
-use mathlib.Core.Bool.{Bool, true, false, not, cond}
+use mathlib.Core.Bool.{Bool, true, false, not, cond, _&&_}
 use mathlib.Core.Option.{Option}
 use mathlib.Core.List.{List, [], _∷_, flatten}
 use native.Mathlib.Omega.{arith}
 use native.Mathlib.Nat.{zero-add}
-use borrow.Author.Tests.{lt-ltb, le-ltb, not-false}
-use lib.Dec.{ltb}
+use borrow.Author.Tests.{leb-true, lt-ltb, le-ltb, not-false}
+use lib.Dec.{eqb, leb, ltb}
 use lib.ListN.{length, getD}
-use Rattle.stackmap.specs.Section.{Record}
+use Rattle.stackmap.specs.Section.{Record, isOld}
+use Rattle.stackmap.proofs.Tests.{and-true}
 use Rattle.moves.specs.declared.Move.{Move}
 use Rattle.moves.specs.Search.{lowestFrom, lowest}
 use Rattle.moves.specs.Slots.{State, state}
 use Rattle.moves.specs.Pointers.{Pointer}
 use Rattle.moves.specs.Plan.{Plan, refuse, window, atPair}
 use Rattle.moves.specs.Window.{part, splice}
-use Rattle.moves.specs.Settle.{settled}
+use Rattle.moves.specs.Settle.{refusedMove, settled}
 use Rattle.moves.specs.Code.{settleIf, SettlesIn, Follows}
 use Rattle.moves.proofs.Searches.{lowest-all}
 use Rattle.moves.proofs.Splice.{splice-if, registers-if}
-use Rattle.relocate.specs.Statepoint.{Pair, pairs}
-use Rattle.relocate.specs.Plan.{every}
-use Rattle.relocate.specs.Code.{pairNumber}
+use Rattle.relocate.specs.declared.Cursor.{Cursor}
+use Rattle.relocate.specs.Restore.{Restore}
+use Rattle.relocate.specs.Statepoint.{Pair, pairs, inside}
+use Rattle.relocate.specs.Plan.{every, extentRight}
+use Rattle.relocate.specs.Code.{poolOf, planSlots, pairNumber, pointersBy}
 use Rattle.relocate.proofs.Pairing.{noPair, pair-at}
 use Rattle.relocate.proofs.Planned.{every-yes, every-no}
 
@@ -84,3 +87,35 @@ follows-pairs table write m r im after rs rs′ off n ps pss e a h =
   where
     w : State
     w = state (part im off n) rs
+
+-- a refusal follows a plan that is one
+pub refuses : (write : Bool) (r : Move) (table : ℕ → Option ℕ) (im rs : List ℕ) (p : Plan) (n i : ℕ) → r ≡ refusedMove n i → p ≡ refuse n i
+    → Follows write r im rs table im rs p
+refuses true r table im rs p n i h e = rw (h, e) (record { answer = refl; left = refl; registers-left = refl })
+refuses false r table im rs p n i h e = rw (h, e) (record { answer = refl; left = refl; registers-left = refl })
+
+-- an extent that is right is inside the image
+module _ (first n rsp size : ℕ) where
+  pub extent-tells : extentRight first n rsp size ≡ true → (first ≤ rsp) × (rsp + size ≤ first + n)
+  unfolding extentRight
+  extent-tells h =
+      let a = and-true (not (eqb size (2 ^ 64 - 1))) (leb first rsp && leb (rsp + size) (first + n)) h in
+      let b = and-true (leb first rsp) (leb (rsp + size) (first + n)) (a .1) in
+      (leb-true _ _ (b .0), leb-true _ _ (b .1))
+
+-- 19
+
+module _ (R : Restore) (f : Cursor) (size : ℕ) (r : Record) (count : ℕ) (c : count ≡ length (pairs r)) (old : Bool) (is : old ≡ isOld (R .section)) where
+  abbrev pool : List ℕ
+  pool = poolOf (R .section)
+
+  module _ (out : ℕ) (o : out ≡ lowest (λ p. not (inside old pool f size (pairNumber r p))) count) where
+    pub slots-19 : out < count → planSlots R f size (pairs r) ≡ refuse 19 out
+    unfolding planSlots
+    slots-19 h = rw (← is) (every-refused (inside old pool f size) 19 r _ count out c o h)
+
+    pub slots-on : count ≤ out → (off : ℕ) → off ≡ f .sp - R .first → planSlots R f size (pairs r) ≡ window off (off + size - off) (pointersBy old pool f r)
+    unfolding planSlots
+    slots-on h off e =
+        let z : off + size - off ≡ size = omega arith in
+        rw (← is) (every-passed (inside old pool f size) 19 r _ count out c o h ∙ rw (z, e))
