@@ -2,7 +2,7 @@
 -- What the code's steps rely on, and what their values mean.
 use Prim.Native.Nat.{ℕ, zero, suc, _+_, _*_, _-_, _≤_, _<_}
 use mathlib.Core.Path.{_≡_}
-use mathlib.Core.Bool.{Bool, cond, _&&_, _||_}
+use mathlib.Core.Bool.{Bool, true, cond, _&&_, _||_}
 use mathlib.Core.Option.{Option, none, some}
 use mathlib.Core.List.{List, [], _∷_, map}
 use lib.Dec.{eqb, leb}
@@ -17,6 +17,8 @@ use Rattle.moves.specs.Pointers.{Pointer, null, orZero}
 use Rattle.moves.specs.Arrays.{registersFrom, slotOf, Placed}
 use Rattle.relocate.specs.declared.Cursor.{Cursor}
 use Rattle.relocate.specs.declared.Machine.{Machine}
+use Rattle.relocate.specs.declared.Machine.the-variants.{Amd64}
+use Rattle.relocate.specs.declared.Settings.{Settings}
 use Rattle.relocate.specs.declared.Spot.{Spot}
 use Rattle.relocate.specs.declared.Spot.the-variants.{At, Outside}
 use Rattle.moves.specs.Plan.{Plan, window}
@@ -35,6 +37,10 @@ recordOf s at = readRecord (isOld s) (drop at s)
 
 abbrev pub poolOf : List ℕ → List ℕ
 poolOf s = readSection s .constants
+
+-- settings by their pointer count alone: what follows 25 reads nothing else of them
+abbrev pub limited : ℕ → Settings
+limited most = record { most = most; machine = Amd64; version1 = true; version3 = true }
 
 -- the plan of a frame whose one entry is e
 abbrev pub planEntry : Restore → ℕ → Cursor → Entry → Plan

@@ -1,7 +1,7 @@
 -- The stages of a plan, each by the tests that lead to it.
 use Prim.Native.Nat.{ℕ, _+_, _-_, _^_, _≤_, _<_}
-use mathlib.Core.Path.{_≡_, refl, _∙_}
-use mathlib.Core.Bool.{Bool, true, false, not, _||_}
+use mathlib.Core.Path.{_≡_, refl, sym, _∙_}
+use mathlib.Core.Bool.{Bool, true, false, cond, not, _&&_, _||_}
 use mathlib.Core.List.{List, flatten}
 use native.Mathlib.Omega.{arith}
 use borrow.Author.Tests.{eqb-true, leb-true, leb-false, le-leb, lt-leb, lt-ltb, le-ltb, eq-eqb, ne-eqb}
@@ -25,12 +25,13 @@ use Rattle.relocate.specs.declared.Cursor.{Cursor}
 use Rattle.relocate.specs.declared.Machine.{Machine}
 use Rattle.relocate.specs.declared.Machine.the-variants.{Amd64, Aarch64}
 use Rattle.relocate.specs.Limits.{imageMost, registerCount, framePointer, stackPointer}
-use Rattle.relocate.specs.Restore.{Restore}
+use Rattle.relocate.specs.declared.Settings.{Settings}
+use Rattle.relocate.specs.Restore.{Restore, restore, sameMachine, allowed}
 use Rattle.relocate.specs.Stopped.{Stopped, registersRight, cursor}
 use Rattle.relocate.specs.Statepoint.{isStatepoint, pairs, rightForm}
 use Rattle.relocate.specs.Plan.{recordsOf, only, stackSize, imageRight, extentRight, planPairs, planRecord, plan}
 use Rattle.relocate.specs.Relocation.{answer, moved, movedRegisters}
-use Rattle.relocate.specs.Code.{recordOf, poolOf, planEntry, planSlots, Relocates, pairNumber, pointersBy}
+use Rattle.relocate.specs.Code.{limited, recordOf, poolOf, planEntry, planSlots, Relocates, pairNumber, pointersBy}
 use Rattle.relocate_window.proofs.Following.{every-refused, every-passed}
 use Rattle.relocate_frame.proofs.Asking.{one-found, body-is, size-is}
 
@@ -79,11 +80,11 @@ module _ (R : Restore) (f : Cursor) (size : ℕ) (r : Record) (count : ℕ) (c :
   abbrev pool : List ℕ
   pool = poolOf (R .section)
 
-  module _ (few : old ≡ true → count ≤ R .most) (wrong : ℕ) (w : wrong ≡ lowest (λ p. not (rightForm (f .machine) old pool (pairNumber r p))) count) where
-    few-pairs : (not old || leb (length (pairs r)) (R .most)) ≡ true
+  module _ (few : old ≡ true → count ≤ R .settings .most) (wrong : ℕ) (w : wrong ≡ lowest (λ p. not (rightForm (f .machine) old pool (pairNumber r p))) count) where
+    few-pairs : (not old || leb (length (pairs r)) (R .settings .most)) ≡ true
     few-pairs = go old refl
       where
-        go : (t : Bool) → old ≡ t → (not t || leb (length (pairs r)) (R .most)) ≡ true
+        go : (t : Bool) → old ≡ t → (not t || leb (length (pairs r)) (R .settings .most)) ≡ true
         go true q = le-leb _ _ (rw c at (few q))
         go false q = refl
 
@@ -92,13 +93,13 @@ module _ (R : Restore) (f : Cursor) (size : ℕ) (r : Record) (count : ℕ) (c :
     pairs-18 h = rw (← is, few-pairs) (every-refused (rightForm (f .machine) old pool) 18 r _ count wrong c w h)
 
     module _ (right : count ≤ wrong) (pointers : ℕ) (e : pointers ≡ length (flatten (pointersBy old pool f r))) where
-      pub pairs-17 : R .most < pointers → planPairs R f size (pairs r) ≡ refuse 17 0
+      pub pairs-17 : R .settings .most < pointers → planPairs R f size (pairs r) ≡ refuse 17 0
       unfolding planPairs
-      pairs-17 h = rw (← is, few-pairs, ← e, lt-leb pointers (R .most) h) (every-passed (rightForm (f .machine) old pool) 18 r _ count wrong c w right)
+      pairs-17 h = rw (← is, few-pairs, ← e, lt-leb pointers (R .settings .most) h) (every-passed (rightForm (f .machine) old pool) 18 r _ count wrong c w right)
 
-      pub pairs-on : pointers ≤ R .most → planPairs R f size (pairs r) ≡ planSlots R f size (pairs r)
+      pub pairs-on : pointers ≤ R .settings .most → planPairs R f size (pairs r) ≡ planSlots R f size (pairs r)
       unfolding planPairs planSlots
-      pairs-on h = rw (← is, few-pairs, ← e, le-leb pointers (R .most) h) (every-passed (rightForm (f .machine) old pool) 18 r _ count wrong c w right)
+      pairs-on h = rw (← is, few-pairs, ← e, le-leb pointers (R .settings .most) h) (every-passed (rightForm (f .machine) old pool) 18 r _ count wrong c w right)
 
 -- in version 1 there are few pairs
 pub few-old : (old : Bool) (n most : ℕ) → (not old || leb n most) ≡ true → old ≡ true → n ≤ most
@@ -125,7 +126,7 @@ module _ (R : Restore) (n : ℕ) (f : Cursor) (size : ℕ) (r : Record) where
     record-16 h = rw (s, h)
 
     module _ (e : extentRight (R .first) n (f .sp) size ≡ true) (count : ℕ) (c : count ≡ length (pairs r)) where
-      pub record-17 : (not (isOld (R .section)) || leb count (R .most)) ≡ false → planRecord R n f size r ≡ refuse 17 0
+      pub record-17 : (not (isOld (R .section)) || leb count (R .settings .most)) ≡ false → planRecord R n f size r ≡ refuse 17 0
       unfolding planRecord planPairs
       record-17 h = rw (s, e, ← c, h)
 
@@ -153,7 +154,7 @@ module _ (R : Restore) (n : ℕ) (f : Cursor) where
       ∙ same-record size (r .function) (r .first) (o .entry) q (o .function-is) (o .first-is)
       (size-is s (f .function) (f .address) k w (o .entry) (o .alone)) (body-is s (f .function) (f .address) k w (o .entry) (o .alone))
 
--- 1 to 9, 13, 14, 25
+-- 1 to 9, 33, 13, 14, 25
 
 module _ (R : Restore) (im : List ℕ) (st : Stopped) where
   pub relocates : (r : Move) (after rs : List ℕ) → Follows true r after rs (lookUp (R .olds) (R .news)) im (st .registers) (plan R (length im) st)
@@ -166,30 +167,47 @@ module _ (R : Restore) (im : List ℕ) (st : Stopped) where
   plan-section r e h = section-refused (R .section) (st .frame .address) r e refuse _ h
 
   module _ (k : Accepted (R .section)) where
-    pub plan-13 : imageRight (R .first) (length im) ≡ false → plan R (length im) st ≡ refuse 13 0
+    pub plan-33 : allowed R (st .frame .machine) ≡ false → plan R (length im) st ≡ refuse 33 0
     unfolding plan ask
-    plan-13 h = rw (k, h)
+    plan-33 h = rw (k, h)
 
-    module _ (i : imageRight (R .first) (length im) ≡ true) where
-      pub plan-14 : tableRight (R .olds) (R .news) ≡ false → plan R (length im) st ≡ refuse 14 0
+    module _ (l : allowed R (st .frame .machine) ≡ true) where
+      pub plan-13 : imageRight (R .first) (length im) ≡ false → plan R (length im) st ≡ refuse 13 0
       unfolding plan ask
-      plan-14 h = rw (k, i, h)
+      plan-13 h = rw (k, l, h)
 
-      module _ (t : tableRight (R .olds) (R .news) ≡ true) where
-        pub plan-25 : registersRight (st .registers) ≡ false → plan R (length im) st ≡ refuse 25 0
+      module _ (i : imageRight (R .first) (length im) ≡ true) where
+        pub plan-14 : tableRight (R .olds) (R .news) ≡ false → plan R (length im) st ≡ refuse 14 0
         unfolding plan ask
-        plan-25 h = rw (k, i, t, h)
+        plan-14 h = rw (k, l, i, h)
 
-        module _ (g : registersRight (st .registers) ≡ true) where
-          pub plan-on : plan R (length im) st ≡ only (recordsOf (R .section) (st .frame)) (planEntry R (length im) (cursor st))
+        module _ (t : tableRight (R .olds) (R .news) ≡ true) where
+          pub plan-25 : registersRight (st .registers) ≡ false → plan R (length im) st ≡ refuse 25 0
           unfolding plan ask
-          plan-on = rw (k, i, t, g)
+          plan-25 h = rw (k, l, i, t, h)
 
-          -- by the cursor that the code works out
-          pub plan-at : (f : Cursor) → f ≡ cursor st
-              → plan R (length im) st ≡ only (sought (R .section) (f .function) (f .address)) (planEntry R (length im) f)
-          unfolding recordsOf cursor
-          plan-at f e = rw e plan-on
+          module _ (g : registersRight (st .registers) ≡ true) where
+            pub plan-on : plan R (length im) st ≡ only (recordsOf (R .section) (st .frame)) (planEntry R (length im) (cursor st))
+            unfolding plan ask
+            plan-on = rw (k, l, i, t, g)
+
+            -- by the cursor that the code works out
+            pub plan-at : (f : Cursor) → f ≡ cursor st
+                → plan R (length im) st ≡ only (sought (R .section) (f .function) (f .address)) (planEntry R (length im) f)
+            unfolding recordsOf cursor
+            plan-at f e = rw e plan-on
+
+-- 33, as the code tests it
+pub allowed-is : (R : Restore) (m : Machine) (old r : Bool) → old ≡ isOld (R .section)
+    → r ≡ (cond old (R .settings .version1) (R .settings .version3) && sameMachine m (R .settings .machine)) → allowed R m ≡ r
+unfolding allowed
+allowed-is R m old r o e = rw (← o) (sym e)
+
+-- the plan of an entry reads of the settings only the pointer count
+pub limited-entry : (s olds news : List ℕ) (first : ℕ) (settings : Settings) (n : ℕ) (f : Cursor) (es : List Entry)
+    → only es (planEntry (restore s olds news first (limited (settings .most))) n f) ≡ only es (planEntry (restore s olds news first settings) n f)
+unfolding planRecord planPairs
+limited-entry s olds news first settings n f es = refl
 
 -- what a cursor's records are
 pub records-at : (s : List ℕ) (st : Stopped) (f : Cursor) → f ≡ cursor st → sought s (f .function) (f .address) ≡ sought s (st .frame .function) (st .frame .address)

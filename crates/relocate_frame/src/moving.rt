@@ -17,7 +17,7 @@ ghost use Rattle.relocate.specs.Limits.{imageMost, registerCount};
 ghost use Rattle.relocate.specs.Restore.{restore};
 ghost use Rattle.relocate.specs.Statepoint as spec;
 ghost use Rattle.relocate.specs.Plan.{imageRight, extentRight, only, planPairs, planRecord};
-ghost use Rattle.relocate.specs.Code.{recordOf, planEntry, RecordInside, Paired};
+ghost use Rattle.relocate.specs.Code.{limited, recordOf, planEntry, RecordInside, Paired};
 use crate::extent;
 use moves::Move;
 use questions::Found;
@@ -57,7 +57,7 @@ fn move_pairs(
     requires { ⌜ Paired (now s) at start count × (old ≡ isOld (now s)) × (old ≡ true → count ≤ most) × (most ≤ pairsMost) × (length (now registers) ≡ registerCount)
         × (extentRight first (length (now image)) (frame .sp) size ≡ true) × (size ≤ imageMost) × (tableRight (now olds) (now news) ≡ true) ⌝ }
     ensures { λ r. ⌜ Follows write r (now (image .exit)) (now (registers .exit)) (lookUp (now (olds .entry)) (now (news .entry))) (now (image .entry)) (now (registers .entry))
-        (planPairs (restore (now (s .entry)) (now (olds .entry)) (now (news .entry)) first most) frame size (spec.pairs (recordOf (now (s .entry)) at))) ⌝ }
+        (planPairs (restore (now (s .entry)) (now (olds .entry)) (now (news .entry)) first (limited most)) frame size (spec.pairs (recordOf (now (s .entry)) at))) ⌝ }
 {
     let machine = frame.machine;
     let forms = pairs::check_forms(machine, old, s, at, start, count);
@@ -114,7 +114,7 @@ fn move_record(
 ) -> Move
     requires { ⌜ RecordInside (now s) at × (imageRight first (length (now image)) ≡ true) × (tableRight (now olds) (now news) ≡ true)
         × (most ≤ pairsMost) × (length (now registers) ≡ registerCount) ⌝ }
-    ensures { λ r. ⌜ Follows write r (now (image .exit)) (now (registers .exit)) (lookUp (now (olds .entry)) (now (news .entry))) (now (image .entry)) (now (registers .entry)) (planRecord (restore (now (s .entry)) (now (olds .entry)) (now (news .entry)) first most) (length (now (image .entry))) frame size (recordOf (now (s .entry)) at)) ⌝ }
+    ensures { λ r. ⌜ Follows write r (now (image .exit)) (now (registers .exit)) (lookUp (now (olds .entry)) (now (news .entry))) (now (image .entry)) (now (registers .entry)) (planRecord (restore (now (s .entry)) (now (olds .entry)) (now (news .entry)) first (limited most)) (length (now (image .entry))) frame size (recordOf (now (s .entry)) at)) ⌝ }
 {
     if statepoint::is_statepoint(s, at) {
         if extent::extent_right(first, image.len(), frame.sp, size) {
@@ -161,7 +161,7 @@ pub fn move_found(
 ) -> Move
     requires { ⌜ Accepted (now s) × (found ≡ firstOf (sought (now s) (frame .function) (frame .address))) × (imageRight first (length (now image)) ≡ true) × (tableRight (now olds) (now news) ≡ true)
         × (most ≤ pairsMost) × (length (now registers) ≡ registerCount) ⌝ }
-    ensures { λ r. ⌜ Follows write r (now (image .exit)) (now (registers .exit)) (lookUp (now (olds .entry)) (now (news .entry))) (now (image .entry)) (now (registers .entry)) (only (sought (now (s .entry)) (frame .function) (frame .address)) (planEntry (restore (now (s .entry)) (now (olds .entry)) (now (news .entry)) first most) (length (now (image .entry))) frame)) ⌝ }
+    ensures { λ r. ⌜ Follows write r (now (image .exit)) (now (registers .exit)) (lookUp (now (olds .entry)) (now (news .entry))) (now (image .entry)) (now (registers .entry)) (only (sought (now (s .entry)) (frame .function) (frame .address)) (planEntry (restore (now (s .entry)) (now (olds .entry)) (now (news .entry)) first (limited most)) (length (now (image .entry))) frame)) ⌝ }
 {
     if found.number != 0 {
         return refused(10, 0);

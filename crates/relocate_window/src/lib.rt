@@ -17,7 +17,7 @@ ghost use Rattle.relocate.specs.Restore.{restore};
 ghost use Rattle.relocate.specs.Statepoint as spec;
 ghost use Rattle.relocate.specs.Statepoint.{rightForm};
 ghost use Rattle.relocate.specs.Plan.{extentRight};
-ghost use Rattle.relocate.specs.Code.{recordOf, poolOf, planSlots, pairNumber, Paired, pointersBy};
+ghost use Rattle.relocate.specs.Code.{limited, recordOf, poolOf, planSlots, pairNumber, Paired, pointersBy};
 use moves::Move;
 use moves::PAIRS_MOST;
 use relocate::Cursor;
@@ -67,7 +67,7 @@ pub fn move_slots(
         × (pointers ≡ length (flatten (pointersBy old (poolOf (now s)) frame (recordOf (now s) at)))) × (pointers ≤ pairsMost) × (length (now registers) ≡ registerCount)
         × (extentRight first (length (now image)) (frame .sp) size ≡ true) × (size ≤ imageMost) × (tableRight (now olds) (now news) ≡ true) ⌝ }
     ensures { λ r. ⌜ Follows write r (now (image .exit)) (now (registers .exit)) (lookUp (now (olds .entry)) (now (news .entry))) (now (image .entry)) (now (registers .entry))
-        (planSlots (restore (now (s .entry)) (now (olds .entry)) (now (news .entry)) first most) frame size (spec.pairs (recordOf (now (s .entry)) at))) ⌝ }
+        (planSlots (restore (now (s .entry)) (now (olds .entry)) (now (news .entry)) first (limited most)) frame size (spec.pairs (recordOf (now (s .entry)) at))) ⌝ }
 {
     let mut live = [0u8; PAIRS_MOST];
     let mut bases = [0usize; PAIRS_MOST];

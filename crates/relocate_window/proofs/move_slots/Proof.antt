@@ -3,7 +3,7 @@ use mathlib.Core.Path.{_≡_, refl}
 use native.Mathlib.Omega.{arith}
 use lib.ListN.{length}
 use Rattle.relocate.specs.Restore.{restore}
-use Rattle.relocate.specs.Code.{recordOf}
+use Rattle.relocate.specs.Code.{limited, recordOf}
 use Rattle.relocate_window.proofs.Following.{follows-pairs, refuses, extent-tells, slots-19, slots-on}
 use borrow.Author.Needs.{needs}
 use Rattle.relocate_window.proofs.move_slots.Statement.{statement}
@@ -28,7 +28,7 @@ returns c =
     let s = c .before .before .before .before .before .before .before .before .before .before .before .before .before in
     let a = s .args in
     refuses _ _ _ _ _ _ 19 _ refl
-    (slots-19 (restore (a .s .now) (a .olds .now) (a .news .now) (a .first) (a .most)) (a .frame) (a .size) (recordOf (a .s .now) (a .at)) (a .count) (s .pre .0 .counted) (a .old) (s .pre .1) _
+    (slots-19 (restore (a .s .now) (a .olds .now) (a .news .now) (a .first) (limited (a .most))) (a .frame) (a .size) (recordOf (a .s .now) (a .at)) (a .count) (s .pre .0 .counted) (a .old) (s .pre .1) _
     (c .before .before .before .before .fill .ensures .0) (c .if1 .taken))
 
 sub-off : tie.Need-sub-off
@@ -81,7 +81,7 @@ returns-2 c =
     let s = g .before .before .before .before .before .before .before .before .before in
     let a = s .args in
     let r = recordOf (a .s .now) (a .at) in
-    rw (slots-on (restore (a .s .now) (a .olds .now) (a .news .now) (a .first) (a .most)) (a .frame) (a .size) r (a .count) (s .pre .0 .counted) (a .old) (s .pre .1) _ (g .fill .ensures .0) (i .if1 .left) (a .frame .sp - a .first) refl)
+    rw (slots-on (restore (a .s .now) (a .olds .now) (a .news .now) (a .first) (limited (a .most))) (a .frame) (a .size) r (a .count) (s .pre .0 .counted) (a .old) (s .pre .1) _ (g .fill .ensures .0) (i .if1 .left) (a .frame .sp - a .first) refl)
     (follows-pairs _ (a .write) _ _ (a .image .now) _ _ _ _ _ _ _ (rw (s .pre .3) (g .fill .ensures .2 (i .if1 .left))) (c .at-pair .ensures (a .frame)) (c .before .before .before .before .before .before .move-window .ensures))
 
 pub move-slots-spec : {M : Type 1} → statement M

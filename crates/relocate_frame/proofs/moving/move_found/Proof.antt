@@ -2,7 +2,7 @@ use lib.ListN.{length}
 use Rattle.wire.specs.Word.{Bytes}
 use Rattle.questions.specs.Questions.{sought}
 use Rattle.relocate.specs.Restore.{restore}
-use Rattle.relocate.specs.Code.{planEntry}
+use Rattle.relocate.specs.Code.{limited, planEntry}
 use Rattle.relocate_frame.proofs.Asking.{none-found, several-found, found-stands, found-function}
 use Rattle.relocate_window.proofs.Following.{refuses}
 use Rattle.relocate_frame.proofs.Stages.{entry-plan}
@@ -18,7 +18,7 @@ returns c =
     let s = c .before .before .before .before .before .before .before .before in
     let a = s .args in
     refuses _ _ _ _ _ _ 10 0 (c .refused .ensures)
-    (none-found (a .found) (planEntry (restore (a .s .now) (a .olds .now) (a .news .now) (a .first) (a .most)) (length (a .image .now)) (a .frame)) (sought (a .s .now) (a .frame .function) (a .frame .address)) (s .pre .1) (c .before .if1 .taken))
+    (none-found (a .found) (planEntry (restore (a .s .now) (a .olds .now) (a .news .now) (a .first) (limited (a .most))) (length (a .image .now)) (a .frame)) (sought (a .s .now) (a .frame .function) (a .frame .address)) (s .pre .1) (c .before .if1 .taken))
 
 refused-requires-2 : tie.Need-refused-requires-2
 refused-requires-2 c κs = search needs
@@ -28,7 +28,7 @@ returns-2 c =
     let s = c .before .before .before .before .before .before .before .before .before .before in
     let a = s .args in
     refuses _ _ _ _ _ _ 15 0 (c .refused2 .ensures)
-    (several-found (a .found) (planEntry (restore (a .s .now) (a .olds .now) (a .news .now) (a .first) (a .most)) (length (a .image .now)) (a .frame)) (sought (a .s .now) (a .frame .function) (a .frame .address)) (s .pre .1) (c .before .before .before .if1 .left) (c .before .if2 .taken))
+    (several-found (a .found) (planEntry (restore (a .s .now) (a .olds .now) (a .news .now) (a .first) (limited (a .most))) (length (a .image .now)) (a .frame)) (sought (a .s .now) (a .frame .function) (a .frame .address)) (s .pre .1) (c .before .before .before .if1 .left) (c .before .if2 .taken))
 
 stack-size-requires : tie.Need-stack-size-requires
 stack-size-requires c κs =
@@ -56,7 +56,7 @@ returns-3 c =
     let s = z .before .before .before .before .before .before .before .before .before .before in
     let a = s .args in
     let w : Bytes (a .s .now) = record { below = λ i. z .before .before .before .before .before .before .before .before .before .shared-slice-known .given i .fits } in
-    rw (entry-plan (restore (a .s .now) (a .olds .now) (a .news .now) (a .first) (a .most)) (length (a .image .now)) (a .frame) (a .found) (z .stack-size .result) (s .pre .0) w (s .pre .1) (z .before .before .before .if1 .left) (z .before .if2 .left) (z .stack-size .ensures))
+    rw (entry-plan (restore (a .s .now) (a .olds .now) (a .news .now) (a .first) (limited (a .most))) (length (a .image .now)) (a .frame) (a .found) (z .stack-size .result) (s .pre .0) w (s .pre .1) (z .before .before .before .if1 .left) (z .before .if2 .left) (z .stack-size .ensures))
     (c .before .before .before .before .move-record .ensures)
 
 pub move-found-spec : {M : Type 1} → statement M

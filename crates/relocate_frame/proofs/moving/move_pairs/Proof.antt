@@ -2,7 +2,7 @@ use mathlib.Core.Path.{sym, _∙_}
 use native.Mathlib.Omega.{arith}
 use Rattle.relocate.specs.Restore.{restore}
 use Rattle.relocate.specs.Statepoint.{rightForm}
-use Rattle.relocate.specs.Code.{recordOf, poolOf}
+use Rattle.relocate.specs.Code.{limited, recordOf, poolOf}
 use Rattle.relocate_pairs.proofs.Counting.{pointers-length}
 use Rattle.relocate_window.proofs.Following.{refuses, each-passed}
 use Rattle.relocate_frame.proofs.Stages.{pairs-18, pairs-17, pairs-on}
@@ -20,7 +20,7 @@ returns : tie.Need-returns
 returns c =
     let s = c .before .before .before .before .before .before .before .before in
     let a = s .args in
-    refuses _ _ _ _ _ _ 18 _ (c .refused .ensures) (pairs-18 (restore (a .s .now) (a .olds .now) (a .news .now) (a .first) (a .most)) (a .frame) (a .size) (recordOf (a .s .now) (a .at)) (a .count) (s .pre .0 .counted) (a .old) (s .pre .1) (s .pre .2) _ (c .before .before .check-forms .ensures .0) (c .before .if1 .taken))
+    refuses _ _ _ _ _ _ 18 _ (c .refused .ensures) (pairs-18 (restore (a .s .now) (a .olds .now) (a .news .now) (a .first) (limited (a .most))) (a .frame) (a .size) (recordOf (a .s .now) (a .at)) (a .count) (s .pre .0 .counted) (a .old) (s .pre .1) (s .pre .2) _ (c .before .before .check-forms .ensures .0) (c .before .if1 .taken))
 
 refused-requires-2 : tie.Need-refused-requires-2
 refused-requires-2 c κs = search needs
@@ -32,7 +32,7 @@ returns-2 c =
     let a = s .args in
     let h = c .before .before .if1 .left in
     refuses _ _ _ _ _ _ 17 0 (c .refused2 .ensures)
-    (pairs-17 (restore (a .s .now) (a .olds .now) (a .news .now) (a .first) (a .most)) (a .frame) (a .size) (recordOf (a .s .now) (a .at)) (a .count) (s .pre .0 .counted) (a .old) (s .pre .1) (s .pre .2) _ (k .check-forms .ensures .0) h _ (k .check-forms .ensures .1 h ∙ sym (pointers-length (a .old) (poolOf (a .s .now)) (a .frame) (recordOf (a .s .now) (a .at)))) (c .before .if2 .taken))
+    (pairs-17 (restore (a .s .now) (a .olds .now) (a .news .now) (a .first) (limited (a .most))) (a .frame) (a .size) (recordOf (a .s .now) (a .at)) (a .count) (s .pre .0 .counted) (a .old) (s .pre .1) (s .pre .2) _ (k .check-forms .ensures .0) h _ (k .check-forms .ensures .1 h ∙ sym (pointers-length (a .old) (poolOf (a .s .now)) (a .frame) (recordOf (a .s .now) (a .at)))) (c .before .if2 .taken))
 
 move-slots-requires : tie.Need-move-slots-requires
 move-slots-requires c κs =
@@ -55,7 +55,7 @@ returns-3 c =
     let s = k .before .before .before .before .before .before in
     let a = s .args in
     let h = c .before .before .before .before .before .before .before .before .if1 .left in
-    rw (pairs-on (restore (a .s .now) (a .olds .now) (a .news .now) (a .first) (a .most)) (a .frame) (a .size) (recordOf (a .s .now) (a .at)) (a .count) (s .pre .0 .counted) (a .old) (s .pre .1) (s .pre .2) _ (k .check-forms .ensures .0) h _ (k .check-forms .ensures .1 h ∙ sym (pointers-length (a .old) (poolOf (a .s .now)) (a .frame) (recordOf (a .s .now) (a .at)))) (c .before .before .before .before .before .before .before .if2 .left))
+    rw (pairs-on (restore (a .s .now) (a .olds .now) (a .news .now) (a .first) (limited (a .most))) (a .frame) (a .size) (recordOf (a .s .now) (a .at)) (a .count) (s .pre .0 .counted) (a .old) (s .pre .1) (s .pre .2) _ (k .check-forms .ensures .0) h _ (k .check-forms .ensures .1 h ∙ sym (pointers-length (a .old) (poolOf (a .s .now)) (a .frame) (recordOf (a .s .now) (a .at)))) (c .before .before .before .before .before .before .before .if2 .left))
     (c .before .before .before .before .move-slots .ensures)
 
 pub move-pairs-spec : {M : Type 1} → statement M

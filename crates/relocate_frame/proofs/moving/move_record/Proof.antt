@@ -3,7 +3,7 @@ use mathlib.Core.Bool.{not}
 use native.Mathlib.Omega.{arith}
 use lib.ListN.{length}
 use Rattle.relocate.specs.Restore.{restore}
-use Rattle.relocate.specs.Code.{recordOf}
+use Rattle.relocate.specs.Code.{limited, recordOf}
 use Rattle.relocate_window.proofs.Following.{refuses, extent-tells}
 use Rattle.relocate_frame.proofs.Stages.{image-most, few-old, record-12, record-16, record-17, record-on}
 use borrow.Author.Needs.{needs}
@@ -35,7 +35,7 @@ returns c =
     let s = i .before .before .before .before .before .before in
     let a = s .args in
     refuses _ _ _ _ _ _ 17 0 (c .refused .ensures)
-    (record-17 (restore (a .s .now) (a .olds .now) (a .news .now) (a .first) (a .most)) (length (a .image .now)) (a .frame) (a .size) (recordOf (a .s .now) (a .at)) (sym (i .is-statepoint .ensures) ∙ p .before .before .before .if1 .taken) (sym (p .before .before .extent-right .ensures) ∙ p .before .if2 .taken) _ (p .pairs-of .ensures .counted)
+    (record-17 (restore (a .s .now) (a .olds .now) (a .news .now) (a .first) (limited (a .most))) (length (a .image .now)) (a .frame) (a .size) (recordOf (a .s .now) (a .at)) (sym (i .is-statepoint .ensures) ∙ p .before .before .before .if1 .taken) (sym (p .before .before .extent-right .ensures) ∙ p .before .if2 .taken) _ (p .pairs-of .ensures .counted)
     (rw (c .before .before .before .is-old .ensures) at (sym (c .before .before .too-many .ensures) ∙ ap not (c .before .if3 .taken))))
 
 move-pairs-requires : tie.Need-move-pairs-requires
@@ -60,7 +60,7 @@ returns-2 c =
     let i = p .before .before .before .before in
     let s = i .before .before .before .before .before .before in
     let a = s .args in
-    rw (record-on (restore (a .s .now) (a .olds .now) (a .news .now) (a .first) (a .most)) (length (a .image .now)) (a .frame) (a .size) (recordOf (a .s .now) (a .at)) (sym (i .is-statepoint .ensures) ∙ p .before .before .before .if1 .taken) (sym (p .before .before .extent-right .ensures) ∙ p .before .if2 .taken) _ (p .pairs-of .ensures .counted))
+    rw (record-on (restore (a .s .now) (a .olds .now) (a .news .now) (a .first) (limited (a .most))) (length (a .image .now)) (a .frame) (a .size) (recordOf (a .s .now) (a .at)) (sym (i .is-statepoint .ensures) ∙ p .before .before .before .if1 .taken) (sym (p .before .before .extent-right .ensures) ∙ p .before .if2 .taken) _ (p .pairs-of .ensures .counted))
     (c .before .before .before .before .move-pairs .ensures)
 
 refused-requires-2 : tie.Need-refused-requires-2
@@ -71,7 +71,7 @@ returns-3 c =
     let s = c .before .before .before .before .before .before .before .before .before .before in
     let a = s .args in
     refuses _ _ _ _ _ _ 16 0 (c .refused2 .ensures)
-    (record-16 (restore (a .s .now) (a .olds .now) (a .news .now) (a .first) (a .most)) (length (a .image .now)) (a .frame) (a .size) (recordOf (a .s .now) (a .at)) (sym (c .before .before .before .before .is-statepoint .ensures) ∙ c .before .before .before .if1 .taken) (sym (c .before .before .extent-right .ensures) ∙ c .before .if2 .left))
+    (record-16 (restore (a .s .now) (a .olds .now) (a .news .now) (a .first) (limited (a .most))) (length (a .image .now)) (a .frame) (a .size) (recordOf (a .s .now) (a .at)) (sym (c .before .before .before .before .is-statepoint .ensures) ∙ c .before .before .before .if1 .taken) (sym (c .before .before .extent-right .ensures) ∙ c .before .if2 .left))
 
 refused-requires-3 : tie.Need-refused-requires-3
 refused-requires-3 c κs = search needs
@@ -80,7 +80,7 @@ returns-4 : tie.Need-returns-4
 returns-4 c =
     let s = c .before .before .before .before .before .before .before .before in
     let a = s .args in
-    refuses _ _ _ _ _ _ 12 0 (c .refused3 .ensures) (record-12 (restore (a .s .now) (a .olds .now) (a .news .now) (a .first) (a .most)) (length (a .image .now)) (a .frame) (a .size) (recordOf (a .s .now) (a .at)) (sym (c .before .before .is-statepoint .ensures) ∙ c .before .if1 .left))
+    refuses _ _ _ _ _ _ 12 0 (c .refused3 .ensures) (record-12 (restore (a .s .now) (a .olds .now) (a .news .now) (a .first) (limited (a .most))) (length (a .image .now)) (a .frame) (a .size) (recordOf (a .s .now) (a .at)) (sym (c .before .before .is-statepoint .ensures) ∙ c .before .if1 .left))
 
 pub move-record-spec : {M : Type 1} → statement M
 move-record-spec =
