@@ -135,12 +135,12 @@ pub const SHAPES: [Shape; 46] = [
     ("kind 4, constant below 0", |_, _, a| below_0(a, 4)),
     ("kind 4, constant above 0", |_, _, a| above_0(a, 4)),
     ("kind 5, not the first of the pool", |_, _, a| above_0(a, 5)),
-    ("held nowhere, of version 1", |s, _, a| held_1(s, a, 0)),
-    ("held in a register, of version 1", |s, _, a| held_1(s, a, 1)),
-    ("held in memory, of version 1", |s, _, a| held_1(s, a, 2)),
-    ("held nowhere, of version 3", |s, _, a| held_3(s, a, 0)),
-    ("held in a register, of version 3", |s, _, a| held_3(s, a, 1)),
-    ("held in memory, of version 3", |s, _, a| held_3(s, a, 2)),
+    ("nowhere, version 1", |s, _, a| held_1(s, a, 0)),
+    ("in a register, version 1", |s, _, a| held_1(s, a, 1)),
+    ("in memory, version 1", |s, _, a| held_1(s, a, 2)),
+    ("nowhere, version 3", |s, _, a| held_3(s, a, 0)),
+    ("in a register, version 3", |s, _, a| held_3(s, a, 1)),
+    ("in memory, version 3", |s, _, a| held_3(s, a, 2)),
 ];
 
 /// The refusal of a record or function that isn't there.
