@@ -56,6 +56,7 @@ fn by_library(section: &[u8], question: Question) -> Answer {
                 register: it.register,
                 offset: it.offset,
                 constant: it.constant,
+                content: it.content.number(),
             })
         }
         Question::LiveOut(record, number) => {
@@ -69,6 +70,11 @@ fn by_library(section: &[u8], question: Question) -> Answer {
         number: refusal.number(),
         place: refusal.place(),
     })
+}
+
+/// The content place of a location with this kind: 1 a register, 2 memory, 0 none.
+fn content(kind: u8) -> u8 {
+    u8::from(kind == 1) + 2 * u8::from(kind == 3)
 }
 
 fn by_second(section: &[u8], question: Question) -> Answer {
@@ -92,6 +98,7 @@ fn by_second(section: &[u8], question: Question) -> Answer {
                 register: it.register,
                 offset: it.offset,
                 constant: it.constant,
+                content: content(it.kind),
             })
         }
         Question::LiveOut(record, number) => {
