@@ -1,4 +1,4 @@
 pub mod Frames
 pub mod StretchesApart
 pub mod Overlaps
-pub mod OneInstant
+pub mod Judged

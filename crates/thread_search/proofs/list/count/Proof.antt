@@ -11,7 +11,7 @@ list-right-requires c κs = search needs
 
 returns : tie.Need-returns
 returns c =
-    let m = right-most (c .before .before .before .args .frames .now) (sym (c .before .list-right .ensures) ∙ c .if1 .taken) in (omega arith, m, λ z. refl)
+    let a = c .before .before .before .before .args in let m = right-most (a .frames .now) (a .registers .now) (sym (c .before .list-right .ensures) ∙ c .if1 .taken) in (omega arith, m, λ z. refl)
 
 returns-2 : tie.Need-returns-2
 returns-2 c =
