@@ -11,7 +11,8 @@ use Rattle.moves.specs.Pointers.{Pointer, slots, anyOverlap, slotsClash, clash,
 use Rattle.moves.specs.Search.{lowest}
 use Rattle.moves.specs.Settle.{acceptedMove, refusedMove, atLowest, first20, first21, settled, settle}
 use Rattle.moves.specs.Table.{rising, noZero, tableRight, lookUp}
-use Rattle.moves_twice.specs.Joined.{joined, Words}
+use Rattle.moves_twice.specs.Joined.{joined}
+use Rattle.moves_twice.specs.Pointers.{Words}
 use Rattle.moves.proofs.Writes.{Inside}
 use Rattle.moves_twice.proofs.TwoMoves.{Plain, Ready, OneMove, lookJoined}
 

@@ -12,7 +12,8 @@ use lib.Seq.{getD-drop}
 use Rattle.moves.specs.Limits.{tableMost}
 use Rattle.moves.specs.Pointers.{orZero}
 use Rattle.moves.specs.Table.{rising, noZero, tableRight, found, lookUp}
-use Rattle.moves_twice.specs.Joined.{Table, listed, joined, andThen, Words}
+use Rattle.moves_twice.specs.Joined.{Table, listed, joined}
+use Rattle.moves_twice.specs.Pointers.{andThen, Words}
 
 and-true : (a b : Bool) → (a && b) ≡ true → (a ≡ true) × (b ≡ true)
 and-true true b h = (refl, h)

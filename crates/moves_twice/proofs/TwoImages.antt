@@ -13,7 +13,7 @@ use Rattle.moves.specs.Slots.{State, state}
 use Rattle.moves.specs.Pointers.{Pointer}
 use Rattle.moves.specs.Settle.{settle}
 use Rattle.moves.specs.Table.{lookUp}
-use Rattle.moves_twice.specs.Joined.{SelfListed}
+use Rattle.moves_twice.specs.Pointers.{SelfListed}
 use Rattle.moves.proofs.Splice.{in?, part-length, part-at, splice-length, splice-in, splice-out}
 use Rattle.moves.proofs.Order.{settle-shape}
 use Rattle.moves_twice.proofs.TwoMoves.{Ready, OneMove, lookJoined, two-moves}

@@ -14,7 +14,8 @@ use Rattle.moves.proofs.Cells.{Cell, byte, whole, at, piece}
 use Rattle.moves.specs.Pointers.{Pointer, null, slots, anyOverlap, clash, slotsClash, isNone, orZero, unknown, newDerived, newContent}
 use Rattle.moves.specs.Settle.{settled, settle}
 use Rattle.moves.specs.Table.{tableRight, lookUp}
-use Rattle.moves_twice.specs.Joined.{joined, andThen, SelfListed, Words}
+use Rattle.moves_twice.specs.Joined.{joined}
+use Rattle.moves_twice.specs.Pointers.{andThen, SelfListed, Words}
 use Rattle.moves.proofs.Searches.{or-no}
 use Rattle.moves.proofs.Writes.{Inside, Shape, Hits, fits-shape, hits?, ext-at}
 use Rattle.moves.proofs.Order.{settle-shape, settle-hit, settle-miss, accepted-whole}
