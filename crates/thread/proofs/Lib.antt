@@ -1,4 +1,5 @@
 pub mod Frames
+pub mod Parts
 pub mod StretchesApart
 pub mod Overlaps
 pub mod Judged

@@ -1,5 +1,5 @@
 -- A thread's call is one instant or none: from the definition of its answer, and from demand 3.
-use Prim.Native.Nat.{ℕ, suc}
+use Prim.Native.Nat.{ℕ, suc, _+_, _*_, _/_, _<_}
 use mathlib.Core.Path.{_≡_, refl, sym, ap, _∙_}
 use mathlib.Core.Bool.{Bool, true, false}
 use mathlib.Core.Logic.{⊎-elim}
@@ -17,16 +17,18 @@ use Rattle.stackmap.proofs.Forth.{accepted-length}
 use Rattle.questions.specs.Questions.{ask}
 use Rattle.moves.specs.declared.Move.{Move}
 use Rattle.moves.specs.Table.{tableRight}
+use Rattle.moves.specs.Window.{part}
 use Rattle.moves.specs.Settle.{refusedMove, acceptedMove}
 use Rattle.moves.proofs.Searches.{perm-mem}
 use Rattle.relocate.specs.Restore.{Restore}
 use Rattle.relocate.specs.Stopped.{Stopped}
 use Rattle.relocate.specs.Plan.{imageRight}
-use Rattle.relocate.specs.Relocation.{answer}
+use Rattle.relocate.specs.Relocation.{answer, movedRegisters}
 use Rattle.relocate.specs.Lists.{final, finalRegisters, Holds}
 use Rattle.relocate.proofs.Demand.{demand3, order-free, disjoint-perm}
-use Rattle.thread.specs.Thread.{Thread, listRight, framesOf, passes, judged, pointersIn, threadAnswer, threadImage, threadRegisters}
+use Rattle.thread.specs.Thread.{Thread, listRight, stoppedAt, framesOf, passes, judged, pointersIn, threadAnswer, threadImage, threadRegisters}
 use Rattle.thread.specs.Theorems.{Movable, total, plainRegisters, AcceptedOnly, ByFrames, FrameByFrame, OrNone, AnyOrder, OneInstant}
+use Rattle.thread.proofs.Parts.{right-tells, moved-registers, part-of}
 use Rattle.thread.proofs.Judged.{judged-tells, judged-passes}
 use Rattle.thread.proofs.Overlaps.{apart-passes, apart-tells}
 
@@ -98,6 +100,14 @@ module _ (R : Restore) (im : List ℕ) where
       plain-registers : threadRegisters R im ns ≡ plainRegisters R im ns
       plain-registers = movable-registers ∙ ap flatten (holds .plain-registers)
 
+      at-position : (k : ℕ) → k < length (ns .list) / 2 → part (plainRegisters R im ns) (32 * k) 32 ≡ movedRegisters R im (stoppedAt ns k)
+      unfolding framesOf
+      at-position k l =
+          let n = length (ns .list) / 2 in
+          let e = right-tells (ns .list) (ns .registers) (m .list-right) .1 in
+          let z : 0 + k ≡ k = omega arith in
+          part-of (movedRegisters R im) ns n 0 k (λ j p q. moved-registers R im ns n j e (omega arith)) l ∙ rw z
+
       by-frames : ByFrames R im ns
       by-frames =
           record {
@@ -109,6 +119,7 @@ module _ (R : Restore) (im : List ℕ) where
             answer-is = movable-answer ∙ ap acceptedMove (sym (ap total (holds .plain) ∙ total-is (framesOf ns)));
             bytes-are = holds;
             registers-are = plain-registers;
+            registers-at = λ k l. rw plain-registers (at-position k l);
           }
 
 pub accepted-only : AcceptedOnly

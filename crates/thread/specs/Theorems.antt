@@ -1,5 +1,5 @@
 -- What is shown of a thread's call: one instant or none, of the image and of the registers.
-use Prim.Native.Nat.{ℕ, _+_}
+use Prim.Native.Nat.{ℕ, _+_, _*_, _/_, _<_}
 use mathlib.Core.Path.{_≡_}
 use mathlib.Core.Bool.{true}
 use mathlib.Core.List.{List, [], _∷_, map, flatten, List·Memᴰ, List·Permᴰ}
@@ -7,13 +7,15 @@ use lib.ListN.{length}
 use Rattle.stackmap.specs.Check.{Accepted}
 use Rattle.moves.specs.declared.Move.{Move}
 use Rattle.moves.specs.Table.{tableRight}
+use Rattle.moves.specs.Window.{part}
 use Rattle.moves.specs.Settle.{acceptedMove}
+use Rattle.relocate.specs.Limits.{registerCount}
 use Rattle.relocate.specs.Restore.{Restore}
 use Rattle.relocate.specs.Stopped.{Stopped}
 use Rattle.relocate.specs.Plan.{imageRight}
 use Rattle.relocate.specs.Relocation.{answer, movedRegisters}
 use Rattle.relocate.specs.Lists.{answers, final, finalRegisters, Disjoint, Holds}
-use Rattle.thread.specs.Thread.{Thread, listRight, framesOf, threadAnswer, threadImage, threadRegisters}
+use Rattle.thread.specs.Thread.{Thread, frameNumbers, listRight, stoppedAt, framesOf, threadAnswer, threadImage, threadRegisters}
 
 -- every frame is accepted by itself on the starting image, and no two extents share a byte
 pub record Movable (R : Restore) (im : List ℕ) (t : Thread) : Type 0 where
@@ -47,6 +49,9 @@ pub record ByFrames (R : Restore) (im : List ℕ) (t : Thread) : Type 0 where
   -- every byte of the image and every register are fixed by the starting image and registers, as demand 3 says
   pub bytes-are : Holds R im (framesOf t)
   pub registers-are : threadRegisters R im t ≡ plainRegisters R im t
+  -- so that the 32 numbers at a frame's position are those of its plain move
+  pub registers-at : (k : ℕ) → k < length (t .list) / frameNumbers
+      → part (threadRegisters R im t) (registerCount * k) registerCount ≡ movedRegisters R im (stoppedAt t k)
 
 abbrev pub FrameByFrame : Type 0
 FrameByFrame = (R : Restore) (im : List ℕ) (t : Thread) → Movable R im t → ByFrames R im t

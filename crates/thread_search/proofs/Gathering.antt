@@ -1,18 +1,13 @@
 -- The addresses are copied and put in order.
-use Prim.Native.Nat.{ℕ, _+_, _*_, _/_, _%_, _≤_, _<_}
+use Prim.Native.Nat.{ℕ, _+_, _*_, _<_}
 use mathlib.Core.Path.{_≡_, refl, _∙_}
-use mathlib.Core.Bool.{true, _&&_}
 use mathlib.Core.List.{List}
 use native.Mathlib.Omega.{arith}
 use native.Mathlib.Decide.{decLt}
-use borrow.Author.Tests.{leb-true}
-use lib.Dec.{eqb, leb}
 use lib.ListN.{length, getD, set}
 use lib.Seq.{getD-set-same, getD-set-other}
 use Rattle.sorted.specs.Sorted.{Sorted}
 use Rattle.sorted_numbers.specs.Numbers.{Rearranged}
-use Rattle.stackmap.proofs.Tests.{and-true}
-use Rattle.thread.specs.Thread.{listRight}
 use Rattle.thread.specs.Code.{Gathered}
 
 -- the first k are copied
@@ -36,10 +31,3 @@ pub gathered : (ns before after : List ℕ) (n : ℕ) → ((j : ℕ) → j < n �
     → Gathered ns after n
 gathered ns before after n c r s =
     record { sorted = s; each = λ k l. record { place = r .place k; inside = r .inside k l; same = r .same k l ∙ c k l } }
-
--- a right list has so many frames
-pub right-most : (ns rs : List ℕ) → listRight ns rs ≡ true → length ns / 2 ≤ 4096
-unfolding listRight
-right-most ns rs h =
-    let a = and-true (eqb (length ns % 2) 0) (leb (length ns / 2) 4096 && eqb (length rs) (32 * (length ns / 2))) h in
-    leb-true _ _ (and-true (leb (length ns / 2) 4096) (eqb (length rs) (32 * (length ns / 2))) (a .1) .0)
