@@ -11,11 +11,12 @@ use lib.Seq.{take-at, drop-append-add}
 use Rattle.stackmap.proofs.Tests.{and-true}
 use Rattle.moves.specs.Window.{part}
 use Rattle.moves.proofs.Splice.{part-length}
+use Rattle.relocate.specs.declared.Frame.{Frame}
 use Rattle.relocate.specs.Restore.{Restore}
-use Rattle.relocate.specs.Stopped.{Stopped}
+use Rattle.relocate.specs.Stopped.{Stopped, stopped}
 use Rattle.relocate.specs.Relocation.{movedRegisters}
 use Rattle.relocate.proofs.Consequences.{keeps-cursor}
-use Rattle.thread.specs.Thread.{Thread, listRight, stoppedAt, framesFrom}
+use Rattle.thread.specs.Thread.{Thread, listRight, frameAt, stoppedAt, framesFrom}
 
 -- a right list has so many frames, and registers for each of them
 pub right-tells : (ns rs : List ℕ) → listRight ns rs ≡ true → (length ns / 2 ≤ 4096) × (length rs ≡ 32 * (length ns / 2))
@@ -24,6 +25,12 @@ right-tells ns rs h =
     let a = and-true (eqb (length ns % 2) 0) (leb (length ns / 2) 4096 && eqb (length rs) (32 * (length ns / 2))) h in
     let b = and-true (leb (length ns / 2) 4096) (eqb (length rs) (32 * (length ns / 2))) (a .1) in
     (leb-true _ _ (b .0), eqb-true _ _ (b .1))
+
+-- the frame at a position with its part of the registers, as the code lends it
+pub stopped-at : (t : Thread) (k n : ℕ) (f : Frame) → f ≡ frameAt (t .machine) (t .list) k → n ≡ 32
+    → stopped f (take n (drop (32 * k) (t .registers))) ≡ stoppedAt t k
+unfolding stoppedAt
+stopped-at t k n f e h = rw (e, h)
 
 -- a frame's own registers, before its move and after it
 pub own-registers : (t : Thread) (n k : ℕ) → length (t .registers) ≡ 32 * n → k < n → length (stoppedAt t k .registers) ≡ 32

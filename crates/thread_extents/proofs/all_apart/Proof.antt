@@ -21,11 +21,11 @@ loop-holds : tie.Need-loop-holds Inv-loop μ-loop
 loop-holds c = (listed-none _ _ _ _, omega arith, omega arith)
 
 extent-requires : tie.Need-extent-requires Inv-loop μ-loop
-extent-requires c κs = let q = c .before .before .before .before in (q .pre .0, q .pre .1, q .pre .2, c .loop-test .taken)
+extent-requires c κs = let q = c .before .before .before .before .before in (q .pre .0, q .pre .1, q .pre .2, c .loop-test .taken)
 
 put-requires : tie.Need-put-requires Inv-loop μ-loop
 put-requires c κs =
-    let q = c .before .before .before .before .before .before .before in
+    let q = c .before .before .before .before .before .before .before .before in
     let l = c .before .before .before .before .loop in
     (omega (arith, l .inv .2), omega (arith, q .pre .0 .most))
 
@@ -42,13 +42,13 @@ loop-again c =
 
 all-apart-requires : tie.Need-all-apart-requires Inv-loop μ-loop
 all-apart-requires c κs =
-    let q = c .before .before .before .before .before .before in
+    let q = c .before .before .before .before .before .before .before in
     let l = c .before .before .before .loop in
     omega (arith, l .inv .1, l .inv .2, q .pre .0 .most)
 
 returns : tie.Need-returns Inv-loop μ-loop
 returns c =
-    let q = c .before .before .before .before .before .before .before in
+    let q = c .before .before .before .before .before .before .before .before in
     let l = c .before .before .before .before .loop in
     let z : l .k ≡ q .args .count = omega (arith, l .inv .1) in
     λ h. rw z at (c .all-apart .ensures h _ _ _ (omega (arith, l .inv .1, q .pre .0 .most)) (l .inv .0))

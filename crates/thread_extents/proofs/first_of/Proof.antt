@@ -16,16 +16,16 @@ abbrev μ-loop : tie.MeasureT-loop
 
 loop-holds : tie.Need-loop-holds Inv-loop μ-loop
 loop-holds c =
-    let q = c .before .before in
+    let q = c .before .before .before in
     let a = q .args in
     keeping-start (a .s .now) (threadOf (a .machine) (a .frames .now) (a .registers .now)) (a .count) _ _
 
 extent-requires : tie.Need-extent-requires Inv-loop μ-loop
-extent-requires c κs = let q = c .before .before .before .before in (q .pre .0, q .pre .1, q .pre .2, c .loop-test .taken)
+extent-requires c κs = let q = c .before .before .before .before .before in (q .pre .0, q .pre .1, q .pre .2, c .loop-test .taken)
 
 shares-requires : tie.Need-shares-requires Inv-loop μ-loop
 shares-requires c κs =
-    let q = c .before .before .before .before .before .before .before
+    let q = c .before .before .before .before .before .before .before .before
     in (
       c .before .before .before .before .loop .inv .in-order,
       omega (
@@ -38,7 +38,7 @@ shares-requires c κs =
 
 returns : tie.Need-returns Inv-loop μ-loop
 returns c =
-    let q = c .before .before .before .before .before .before .before .before .before in
+    let q = c .before .before .before .before .before .before .before .before .before .before in
     let a = q .args in (
       omega (arith, c .before .before .before .before .before .before .loop .inv .most),
       keeping-stop (a .s .now) (threadOf (a .machine) (a .frames .now) (a .registers .now)) (a .count)
@@ -50,7 +50,7 @@ returns c =
 
 keep-requires : tie.Need-keep-requires Inv-loop μ-loop
 keep-requires c κs =
-    let q = c .before .before .before .before .before .before .before .before .before .before .before .before in
+    let q = c .before .before .before .before .before .before .before .before .before .before .before .before .before in
     let a = q .args in (
       c .before .before .before .before .before .before .before .before .before .loop .inv .in-order,
       omega (arith, c .before .before .before .before .before .before .before .before .before .loop .inv .fewer, q .pre .0 .most),
@@ -60,13 +60,13 @@ keep-requires c κs =
 
 add-kept : tie.Need-add-kept Inv-loop μ-loop
 add-kept c =
-    let q = c .before .before .before .before .before .before .before .before .before .before .before .before .before in
+    let q = c .before .before .before .before .before .before .before .before .before .before .before .before .before .before in
     let a = q .args in
     omega (arith, c .before .before .before .before .before .before .before .before .before .before .loop .inv .fewer, c .before .before .before .before .before .before .before .before .before .before .loop .inv .most, q .pre .0 .most)
 
 add-k : tie.Need-add-k Inv-loop μ-loop
 add-k c =
-    let q = c .before .before .before .before .before .before .before .before .before .before in
+    let q = c .before .before .before .before .before .before .before .before .before .before .before in
     let a = q .args in
     omega (arith, c .before .before .before .before .before .before .before .loop .inv .most, q .pre .0 .most)
 
@@ -75,7 +75,7 @@ loop-less c = search needs
 
 loop-again : tie.Need-loop-again Inv-loop μ-loop
 loop-again c =
-    let q = c .before .before .before .before .before .before .before .before .before .before in
+    let q = c .before .before .before .before .before .before .before .before .before .before .before in
     let a = q .args in
     let no = sym (c .before .before .shares .ensures) ∙ c .before .if1 .left in
     ⊎-elim
@@ -93,7 +93,7 @@ loop-again c =
 
 returns-2 : tie.Need-returns-2 Inv-loop μ-loop
 returns-2 c =
-    let q = c .before .before .before .before in
+    let q = c .before .before .before .before .before in
     let a = q .args in
     (omega (arith, c .before .loop .inv .most), keeping-end (a .s .now) (threadOf (a .machine) (a .frames .now) (a .registers .now)) (a .count) (c .before .loop .inv) (c .loop-test .left))
 
