@@ -10,12 +10,11 @@ use Rattle.stackmap.specs.Walk.{functionNumber}
 use Rattle.stackmap.specs.Check.{Accepted}
 use Rattle.stackmap.proofs.Entries.{entry-body, entry-inside}
 use Rattle.questions.specs.declared.Found.{Found}
-use Rattle.questions.specs.Questions.{firstOf}
+use Rattle.questions.specs.Questions.{firstOf, sought}
 use Rattle.questions.proofs.Standing.{tables-inside}
 use Rattle.questions.proofs.Searched as searched
 use Rattle.moves.specs.Plan.{Plan, refuse}
-use Rattle.relocate.specs.declared.Frame.{Frame}
-use Rattle.relocate.specs.Plan.{recordsOf, only, stackSize}
+use Rattle.relocate.specs.Plan.{only, stackSize}
 use Rattle.relocate.specs.Code.{recordOf, RecordInside}
 
 -- one record, or none, or more
@@ -52,10 +51,9 @@ module _ (r : Found) (k : Entry → Plan) where
   one-found (x ∷ y ∷ es) e h n = absurd (let z = ap (λ (f : Found). f .sharing) e in omega arith)
 
 -- the one record that a frame names in an accepted section
-module _ (s : List ℕ) (f : Frame) (k : Accepted s) (w : Bytes s) (e : Entry) (one : recordsOf s f ≡ e ∷ []) where
+module _ (s : List ℕ) (function address : ℕ) (k : Accepted s) (w : Bytes s) (e : Entry) (one : sought s function address ≡ e ∷ []) where
   there : searched.One s e
-  unfolding recordsOf
-  there = searched.sought-one s (f .function) (f .address) e one
+  there = searched.sought-one s function address e one
 
   pub stands : RecordInside s (e .first)
   stands =
@@ -76,13 +74,13 @@ pub functions-inside : (s : List ℕ) → Accepted s → constantsAt s ≤ lengt
 functions-inside s k = let t = tables-inside s (length s) k in omega arith
 
 -- where what was found stands
-module _ (s : List ℕ) (f : Frame) (k : Accepted s) (w : Bytes s) (r : Found) (e : r ≡ firstOf (recordsOf s f)) (z : r .number ≡ 0) (one : r .sharing ≡ 1) where
-  found : One r (λ x. refuse 0 0) (recordsOf s f)
-  found = one-found r (λ x. refuse 0 0) (recordsOf s f) e z one
+module _ (s : List ℕ) (function address : ℕ) (k : Accepted s) (w : Bytes s) (r : Found) (e : r ≡ firstOf (sought s function address)) (z : r .number ≡ 0) (one : r .sharing ≡ 1) where
+  found : One r (λ x. refuse 0 0) (sought s function address)
+  found = one-found r (λ x. refuse 0 0) (sought s function address) e z one
 
   pub found-stands : RecordInside s (r .first)
-  found-stands = rw (found .first-is) (stands s f k w (found .entry) (found .alone))
+  found-stands = rw (found .first-is) (stands s function address k w (found .entry) (found .alone))
 
   -- its function is one of the section's
   pub found-function : (constantsAt s ≤ length s) × (r .function < numFunctions s)
-  found-function = (functions-inside s k, rw (found .function-is) (owner-number s f k w (found .entry) (found .alone)))
+  found-function = (functions-inside s k, rw (found .function-is) (owner-number s function address k w (found .entry) (found .alone)))

@@ -1,12 +1,11 @@
 -- The stages of a plan, each by the tests that lead to it.
 use Prim.Native.Nat.{ℕ, _+_, _-_, _^_, _≤_, _<_}
 use mathlib.Core.Path.{_≡_, refl, _∙_}
-use mathlib.Core.Bool.{Bool, true, false, not, _&&_, _||_}
-use mathlib.Core.Option.{Option}
+use mathlib.Core.Bool.{Bool, true, false, not, _||_}
 use mathlib.Core.List.{List, flatten}
 use native.Mathlib.Omega.{arith}
-use borrow.Author.Tests.{leb-true, leb-false, le-leb, lt-leb, lt-ltb, le-ltb, eq-eqb, ne-eqb}
-use lib.Dec.{eqb, leb, ltb}
+use borrow.Author.Tests.{eqb-true, leb-true, leb-false, le-leb, lt-leb, lt-ltb, le-ltb, eq-eqb, ne-eqb}
+use lib.Dec.{leb, ltb}
 use lib.ListN.{length}
 use Rattle.wire.specs.Word.{Bytes}
 use Rattle.stackmap.specs.Section.{Record, Entry, isOld}
@@ -14,30 +13,26 @@ use Rattle.stackmap.specs.Walk.{functionNumber}
 use Rattle.stackmap.specs.Check.{Accepted}
 use Rattle.questions.specs.declared.Found.{Found}
 use Rattle.questions.specs.Kept.{searched, ofSection}
-use Rattle.questions.specs.Questions.{ask, firstOf}
+use Rattle.questions.specs.Questions.{ask, firstOf, sought}
 use Rattle.questions.proofs.Searched.{section-refused}
 use Rattle.stackmap.proofs.Tests.{and-true}
 use Rattle.moves.specs.declared.Move.{Move}
 use Rattle.moves.specs.Search.{lowest}
 use Rattle.moves.specs.Table.{tableRight, lookUp}
-use Rattle.moves.specs.Settle.{refusedMove}
-use Rattle.moves.specs.Plan.{Plan, refuse, window}
+use Rattle.moves.specs.Plan.{refuse}
 use Rattle.moves.specs.Code.{Follows}
-use Rattle.relocate.specs.declared.Frame.{Frame}
-use Rattle.relocate.specs.Limits.{imageMost}
+use Rattle.relocate.specs.declared.Cursor.{Cursor}
+use Rattle.relocate.specs.declared.Machine.{Machine}
+use Rattle.relocate.specs.declared.Machine.the-variants.{Amd64, Aarch64}
+use Rattle.relocate.specs.Limits.{imageMost, registerCount, framePointer, stackPointer}
 use Rattle.relocate.specs.Restore.{Restore}
-use Rattle.relocate.specs.Statepoint.{isStatepoint, pairs, rightForm, inside}
+use Rattle.relocate.specs.Stopped.{Stopped, registersRight, cursor}
+use Rattle.relocate.specs.Statepoint.{isStatepoint, pairs, rightForm}
 use Rattle.relocate.specs.Plan.{recordsOf, only, stackSize, imageRight, extentRight, planPairs, planRecord, plan}
-use Rattle.relocate.specs.Relocation.{noRegisters, answer, moved}
+use Rattle.relocate.specs.Relocation.{answer, moved, movedRegisters}
 use Rattle.relocate.specs.Code.{recordOf, poolOf, planEntry, planSlots, Relocates, pairNumber, pointersBy}
-use Rattle.relocate_frame.proofs.Following.{every-refused, every-passed}
+use Rattle.relocate_window.proofs.Following.{every-refused, every-passed}
 use Rattle.relocate_frame.proofs.Asking.{one-found, body-is, size-is}
-
--- a refusal follows a plan that is one
-pub refuses : (write : Bool) (r : Move) (table : ℕ → Option ℕ) (im : List ℕ) (p : Plan) (n i : ℕ) → r ≡ refusedMove n i → p ≡ refuse n i
-    → Follows write r im noRegisters table im noRegisters p
-refuses true r table im p n i h e = rw (h, e) (record { answer = refl; left = refl; registers-left = refl })
-refuses false r table im p n i h e = rw (h, e) (record { answer = refl; left = refl; registers-left = refl })
 
 -- 13
 
@@ -78,16 +73,9 @@ module _ (first n rsp size : ℕ) where
     unfolding extentRight
     extent-fine l h = rw (ne-eqb size (2 ^ 64 - 1) known, le-leb first rsp l, le-leb (rsp + size) (first + n) h)
 
-  pub extent-tells : extentRight first n rsp size ≡ true → (first ≤ rsp) × (rsp + size ≤ first + n)
-  unfolding extentRight
-  extent-tells h =
-      let a = and-true (not (eqb size (2 ^ 64 - 1))) (leb first rsp && leb (rsp + size) (first + n)) h in
-      let b = and-true (leb first rsp) (leb (rsp + size) (first + n)) (a .1) in
-      (leb-true _ _ (b .0), leb-true _ _ (b .1))
+-- 18, 17 over the pointers
 
--- 18, 17 over the pointers, 19
-
-module _ (R : Restore) (f : Frame) (size : ℕ) (r : Record) (count : ℕ) (c : count ≡ length (pairs r)) (old : Bool) (is : old ≡ isOld (R .section)) where
+module _ (R : Restore) (f : Cursor) (size : ℕ) (r : Record) (count : ℕ) (c : count ≡ length (pairs r)) (old : Bool) (is : old ≡ isOld (R .section)) where
   abbrev pool : List ℕ
   pool = poolOf (R .section)
 
@@ -112,32 +100,21 @@ module _ (R : Restore) (f : Frame) (size : ℕ) (r : Record) (count : ℕ) (c : 
       unfolding planPairs planSlots
       pairs-on h = rw (← is, few-pairs, ← e, le-leb pointers (R .most) h) (every-passed (rightForm (f .machine) old pool) 18 r _ count wrong c w right)
 
-  module _ (out : ℕ) (o : out ≡ lowest (λ p. not (inside old pool f size (pairNumber r p))) count) where
-    pub slots-19 : out < count → planSlots R f size (pairs r) ≡ refuse 19 out
-    unfolding planSlots
-    slots-19 h = rw (← is) (every-refused (inside old pool f size) 19 r _ count out c o h)
-
-    pub slots-on : count ≤ out → (off : ℕ) → off ≡ f .sp - R .first → planSlots R f size (pairs r) ≡ window off (off + size - off) (pointersBy old pool f r)
-    unfolding planSlots
-    slots-on h off e =
-        let z : off + size - off ≡ size = omega arith in
-        rw (← is) (every-passed (inside old pool f size) 19 r _ count out c o h ∙ rw (z, e))
-
 -- in version 1 there are few pairs
-pub few-old : (old : Bool) (n : ℕ) → (not old || leb n 256) ≡ true → old ≡ true → n ≤ 256
-few-old old n h e = leb-true n 256 (rw e at h)
+pub few-old : (old : Bool) (n most : ℕ) → (not old || leb n most) ≡ true → old ≡ true → n ≤ most
+few-old old n most h e = leb-true n most (rw e at h)
 
 -- more than the most, as the code compares
-pub many-old : (n : ℕ) → not (ltb 256 n) ≡ leb n 256
-many-old n = go (leb n 256) refl
+pub many-old : (n most : ℕ) → not (ltb most n) ≡ leb n most
+many-old n most = go (leb n most) refl
   where
-    go : (b : Bool) → leb n 256 ≡ b → not (ltb 256 n) ≡ leb n 256
-    go true e = rw (e, le-ltb 256 n (leb-true n 256 e))
-    go false e = rw (e, lt-ltb 256 n (leb-false n 256 e))
+    go : (b : Bool) → leb n most ≡ b → not (ltb most n) ≡ leb n most
+    go true e = rw (e, le-ltb most n (leb-true n most e))
+    go false e = rw (e, lt-ltb most n (leb-false n most e))
 
 -- 12, 16, 17
 
-module _ (R : Restore) (n : ℕ) (f : Frame) (size : ℕ) (r : Record) where
+module _ (R : Restore) (n : ℕ) (f : Cursor) (size : ℕ) (r : Record) where
   pub record-12 : isStatepoint r ≡ false → planRecord R n f size r ≡ refuse 12 0
   unfolding planRecord
   record-12 h = rw h
@@ -158,7 +135,7 @@ module _ (R : Restore) (n : ℕ) (f : Frame) (size : ℕ) (r : Record) where
 
 -- 10, 15
 
-module _ (R : Restore) (n : ℕ) (f : Frame) where
+module _ (R : Restore) (n : ℕ) (f : Cursor) where
   abbrev s : List ℕ
   s = R .section
 
@@ -168,35 +145,67 @@ module _ (R : Restore) (n : ℕ) (f : Frame) where
   same-record size function at x q g h i b = rw (q, g, h, i, b)
 
   pub entry-plan : (r : Found) (size : ℕ) → Accepted s → Bytes s
-      → r ≡ firstOf (recordsOf s f) → r .number ≡ 0 → r .sharing ≡ 1 → size ≡ functionNumber s (r .function) .stackSize
-      → only (recordsOf s f) (planEntry R n f) ≡ planRecord R n f size (recordOf s (r .first))
+      → r ≡ firstOf (sought s (f .function) (f .address)) → r .number ≡ 0 → r .sharing ≡ 1 → size ≡ functionNumber s (r .function) .stackSize
+      → only (sought s (f .function) (f .address)) (planEntry R n f) ≡ planRecord R n f size (recordOf s (r .first))
   entry-plan r size k w e z one q =
-      let o = one-found r (planEntry R n f) (recordsOf s f) e z one in
+      let o = one-found r (planEntry R n f) (sought s (f .function) (f .address)) e z one in
       o .goes-on
       ∙ same-record size (r .function) (r .first) (o .entry) q (o .function-is) (o .first-is)
-      (size-is s f k w (o .entry) (o .alone)) (body-is s f k w (o .entry) (o .alone))
+      (size-is s (f .function) (f .address) k w (o .entry) (o .alone)) (body-is s (f .function) (f .address) k w (o .entry) (o .alone))
 
--- 1 to 9, 13, 14
+-- 1 to 9, 13, 14, 25
 
-module _ (R : Restore) (im : List ℕ) (f : Frame) where
-  pub relocates : (r : Move) (after : List ℕ) → Follows true r after noRegisters (lookUp (R .olds) (R .news)) im noRegisters (plan R (length im) f) → Relocates R im f r after
-  unfolding answer moved
-  relocates r after h = record { answer-is = h .answer; image-is = h .left }
+module _ (R : Restore) (im : List ℕ) (st : Stopped) where
+  pub relocates : (r : Move) (after rs : List ℕ) → Follows true r after rs (lookUp (R .olds) (R .news)) im (st .registers) (plan R (length im) st)
+      → Relocates R im st r after rs
+  unfolding answer moved movedRegisters
+  relocates r after rs h = record { answer-is = h .answer; image-is = h .left; registers-is = h .registers-left }
 
-  pub plan-section : (r : Found) → r ≡ searched (R .section) (f .address) → ofSection r ≡ true → plan R (length im) f ≡ refuse (r .number) (r .place)
+  pub plan-section : (r : Found) → r ≡ searched (R .section) (st .frame .address) → ofSection r ≡ true → plan R (length im) st ≡ refuse (r .number) (r .place)
   unfolding plan
-  plan-section r e h = section-refused (R .section) (f .address) r e refuse _ h
+  plan-section r e h = section-refused (R .section) (st .frame .address) r e refuse _ h
 
   module _ (k : Accepted (R .section)) where
-    pub plan-13 : imageRight (R .first) (length im) ≡ false → plan R (length im) f ≡ refuse 13 0
+    pub plan-13 : imageRight (R .first) (length im) ≡ false → plan R (length im) st ≡ refuse 13 0
     unfolding plan ask
     plan-13 h = rw (k, h)
 
     module _ (i : imageRight (R .first) (length im) ≡ true) where
-      pub plan-14 : tableRight (R .olds) (R .news) ≡ false → plan R (length im) f ≡ refuse 14 0
+      pub plan-14 : tableRight (R .olds) (R .news) ≡ false → plan R (length im) st ≡ refuse 14 0
       unfolding plan ask
       plan-14 h = rw (k, i, h)
 
-      pub plan-on : tableRight (R .olds) (R .news) ≡ true → plan R (length im) f ≡ only (recordsOf (R .section) f) (planEntry R (length im) f)
-      unfolding plan ask
-      plan-on h = rw (k, i, h)
+      module _ (t : tableRight (R .olds) (R .news) ≡ true) where
+        pub plan-25 : registersRight (st .registers) ≡ false → plan R (length im) st ≡ refuse 25 0
+        unfolding plan ask
+        plan-25 h = rw (k, i, t, h)
+
+        module _ (g : registersRight (st .registers) ≡ true) where
+          pub plan-on : plan R (length im) st ≡ only (recordsOf (R .section) (st .frame)) (planEntry R (length im) (cursor st))
+          unfolding plan ask
+          plan-on = rw (k, i, t, g)
+
+          -- by the cursor that the code works out
+          pub plan-at : (f : Cursor) → f ≡ cursor st
+              → plan R (length im) st ≡ only (sought (R .section) (f .function) (f .address)) (planEntry R (length im) f)
+          unfolding recordsOf cursor
+          plan-at f e = rw e plan-on
+
+-- what a cursor's records are
+pub records-at : (s : List ℕ) (st : Stopped) (f : Cursor) → f ≡ cursor st → sought s (f .function) (f .address) ≡ sought s (st .frame .function) (st .frame .address)
+unfolding cursor
+records-at s st f e = rw e
+
+-- 25
+pub registers-32 : (rs : List ℕ) → registersRight rs ≡ true → length rs ≡ registerCount
+unfolding registersRight
+registers-32 rs h = eqb-true _ _ h
+
+-- a machine's frame pointer and stack pointer are two of them
+pub frame-below : (m : Machine) → framePointer m < registerCount
+frame-below Amd64 = omega arith
+frame-below Aarch64 = omega arith
+
+pub stack-below : (m : Machine) → stackPointer m < registerCount
+stack-below Amd64 = omega arith
+stack-below Aarch64 = omega arith

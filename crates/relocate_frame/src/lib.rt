@@ -77,9 +77,11 @@ pub fn relocate(
         return moving::refused(found.number, found.place);
     }
     if extent::image_right(first, image.len()) {
-        if table::table_right(olds, news) {
-            if registers_right(registers) {
-                let named = find::named(section, found, frame.function);
+        let right = table::table_right(olds, news);
+        let lent = registers_right(registers);
+        let named = find::named(section, found, frame.function);
+        if right {
+            if lent {
                 let at = cursor(frame, registers);
                 return moving::move_found(
                     section,

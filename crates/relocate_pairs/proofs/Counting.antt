@@ -11,10 +11,11 @@ use lib.Seq.{getD-drop}
 use Rattle.wire.specs.Word.{Bytes}
 use Rattle.wire.proofs.Laws.{word-bound}
 use Rattle.stackmap.specs.Section.{Record, numLocations}
+use Rattle.moves.specs.Slots.{Slot}
 use Rattle.moves.specs.Pointers.{Pointer, null, slots}
 use Rattle.moves.specs.Plan.{pairOf}
-use Rattle.relocate.specs.declared.Frame.{Frame}
-use Rattle.relocate.specs.Statepoint.{Pair, pairs, isNull, pointersIn, slotAt, pointersFrom, pointersOf}
+use Rattle.relocate.specs.declared.Cursor.{Cursor}
+use Rattle.relocate.specs.Statepoint.{Pair, pairs, isNull, pointersIn, slotAt, next, pointersFrom, pointersOf}
 use Rattle.relocate.specs.Code.{pairNumber, pointersBy, countOf, totalOf}
 use Rattle.relocate.proofs.Pairing.{noPair, pair-at}
 use Rattle.relocate_pairs.proofs.Held.{append-nil}
@@ -61,11 +62,11 @@ module _ (g : Pair → ℕ) (r : Record) where
       omega (arith, s)
 
 -- the pointers of a pair are as many as are counted
-run-length : (n b d : ℕ) → length (pointersFrom n b d) ≡ n
+run-length : (n : ℕ) (b d : Slot) → length (pointersFrom n b d) ≡ n
 run-length zero b d = refl
-run-length (suc n) b d = ap suc (run-length n (b + 8) (d + 8))
+run-length (suc n) b d = ap suc (run-length n (next b) (next d))
 
-module _ (old : Bool) (pool : List ℕ) (f : Frame) where
+module _ (old : Bool) (pool : List ℕ) (f : Cursor) where
   pub pair-length : (p : Pair) → length (pointersOf old pool f p) ≡ countOf old pool p
   unfolding pointersOf countOf
   pair-length p = go (isNull pool p)
@@ -88,7 +89,7 @@ module _ (old : Bool) (pool : List ℕ) (f : Frame) where
 
 -- The pair that a pointer is of.
 
-module _ (old : Bool) (pool : List ℕ) (f : Frame) (r : Record) (pointer : ℕ) where
+module _ (old : Bool) (pool : List ℕ) (f : Cursor) (r : Record) (pointer : ℕ) where
   abbrev rest : ℕ → List (List Pointer)
   rest p = map (pointersOf old pool f) (drop p (pairs r))
 
@@ -123,7 +124,7 @@ module _ (old : Bool) (pool : List ℕ) (f : Frame) (r : Record) (pointer : ℕ)
 
 -- The pointers that the arrays hold and those that are ahead are all pointers.
 
-module _ (old : Bool) (pool : List ℕ) (f : Frame) (r : Record) where
+module _ (old : Bool) (pool : List ℕ) (f : Cursor) (r : Record) where
   pub record Filling (held : List Pointer) (p : ℕ) : Type 0 where
     pub same : held ++ flatten (map (pointersOf old pool f) (drop p (pairs r))) ≡ flatten (pointersBy old pool f r)
 

@@ -14,10 +14,10 @@ use Rattle.questions.specs.declared.LocationAnswer.{LocationAnswer}
 use Rattle.questions.specs.Questions.{thisLocation}
 use Rattle.moves.specs.Search.{lowestFrom, lowest}
 use Rattle.moves.proofs.Searches.{low-start, low-end, low-hit, low-step}
-use Rattle.relocate.specs.declared.Frame.{Frame}
+use Rattle.relocate.specs.declared.Cursor.{Cursor}
 use Rattle.relocate.specs.declared.Machine.{Machine}
-use Rattle.relocate.specs.Statepoint.{pairsAt, Pair, isZero, isNull, sameSize, rightForm, slotAt, slotsInside}
-use Rattle.relocate.specs.Code.{pairFrom, pairNumber, locationOf, zeroSaid, nullSaid, formSaid, slotIn}
+use Rattle.relocate.specs.Statepoint.{pairsAt, Pair, isZero, isNull, sameSize, rightForm, slotsInside}
+use Rattle.relocate.specs.Code.{pairFrom, pairNumber, locationOf, zeroSaid, nullSaid, formSaid, numberOf, slotIn}
 
 -- what the reader says of a location is said of the location
 module _ (a : LocationAnswer) (pool : List ℕ) (l : Location) (e : a ≡ thisLocation pool l) where
@@ -28,7 +28,7 @@ module _ (a : LocationAnswer) (pool : List ℕ) (l : Location) (e : a ≡ thisLo
   pub location-said : locationOf a ≡ l
   location-said = ap locationOf e
 
-  pub place-said : (old : Bool) (f : Frame) (n : ℕ) → slotIn old f n (locationOf a) ≡ slotIn old f n l
+  pub place-said : (old : Bool) (f : Cursor) (n : ℕ) → slotIn old f n (locationOf a) ≡ slotIn old f n l
   place-said old f n = ap (λ (x : LocationAnswer). slotIn old f n (locationOf x)) e
 
 -- and so of the two of a pair
@@ -41,14 +41,14 @@ module _ (b d : LocationAnswer) (pool : List ℕ) (p : Pair) (eb : b ≡ thisLoc
   unfolding formSaid rightForm sameSize
   form-said m old = rw (null-said, eb, ed)
 
--- a slot that is inside is where it is
-module _ (old : Bool) (f : Frame) (n : ℕ) (l : Location) where
-  pub at-inside : (x : ℕ) → some x ≡ slotIn old f n l → (true ≡ slotsInside old f n l) × (x ≡ slotAt f l)
+-- a slot that is inside has its number
+module _ (old : Bool) (f : Cursor) (n : ℕ) (l : Location) where
+  pub at-inside : (x : ℕ) → some x ≡ slotIn old f n l → (true ≡ slotsInside old f n l) × (x ≡ numberOf f l)
   unfolding slotIn
   at-inside x h = go (slotsInside old f n l) refl
     where
-      go : (b : Bool) → slotsInside old f n l ≡ b → (true ≡ slotsInside old f n l) × (x ≡ slotAt f l)
-      go true q = (sym q, let w : some x ≡ some (slotAt f l) = rw q at h in cc)
+      go : (b : Bool) → slotsInside old f n l ≡ b → (true ≡ slotsInside old f n l) × (x ≡ numberOf f l)
+      go true q = (sym q, let w : some x ≡ some (numberOf f l) = rw q at h in cc)
       go false q = absurd (let w : some x ≡ none = rw q at h in let z : _≡_ {A = ℕ} 0 1 = cc in omega arith)
 
   pub out-inside : none ≡ slotIn old f n l → false ≡ slotsInside old f n l
@@ -56,7 +56,7 @@ module _ (old : Bool) (f : Frame) (n : ℕ) (l : Location) where
   out-inside h = go (slotsInside old f n l) refl
     where
       go : (b : Bool) → slotsInside old f n l ≡ b → false ≡ slotsInside old f n l
-      go true q = absurd (let w : none ≡ some (slotAt f l) = rw q at h in let z : _≡_ {A = ℕ} 0 1 = cc in omega arith)
+      go true q = absurd (let w : none ≡ some (numberOf f l) = rw q at h in let z : _≡_ {A = ℕ} 0 1 = cc in omega arith)
       go false q = sym q
 
 -- two tests, by the first of them

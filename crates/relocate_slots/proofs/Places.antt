@@ -9,11 +9,11 @@ use borrow.Author.Tests.{lt-ltb, le-ltb, le-leb, lt-leb, eq-eqb, ne-eqb, leb-tru
 use lib.Dec.{leb}
 use Rattle.stackmap.specs.Section.{Location}
 use Rattle.moves.specs.Pointers.{orZero}
-use Rattle.relocate.specs.declared.Frame.{Frame}
+use Rattle.relocate.specs.declared.Cursor.{Cursor}
 use Rattle.relocate.specs.Limits.{framePointer}
-use Rattle.relocate.specs.Statepoint.{pointersIn, registerOf, slotAddress, wholly, slotsInside, slotAt}
+use Rattle.relocate.specs.Statepoint.{pointersIn, registerOf, slotAddress, wholly, isRegister, slotsInside}
 use Rattle.stackmap.specs.Section.{asOffset}
-use Rattle.relocate.specs.Code.{slotIn, positionIn, placeIn}
+use Rattle.relocate.specs.Code.{numberOf, slotIn, positionIn, placeIn}
 
 pub place-past : (p k n : ℕ) → n < p + 8 * k → none ≡ placeIn p k n
 unfolding placeIn
@@ -88,19 +88,24 @@ module _ (r g o k n : ℕ) where
   pub position-there : (x p : ℕ) → Excess o x → g + x + p ≡ r + o → placeIn p k n ≡ positionIn r g o k n
   position-there x p e h = there x p h ∙ sums-are x e
 
--- a location's slot, by its register
-module _ (old : Bool) (f : Frame) (n : ℕ) (l : Location) where
+-- a location's first slot: a register, or in memory by the register that it names
+module _ (old : Bool) (f : Cursor) (n : ℕ) (l : Location) where
   abbrev k : ℕ
   k = pointersIn old (l .size)
 
-  slot-position : positionIn (registerOf f l) (f .sp) (l .offset) k n ≡ slotIn old f n l
-  unfolding slotIn slotsInside slotAt slotAddress positionIn
-  slot-position = refl
+  pub slot-register : l .kind ≡ 1 → some (4294967296 + 8 * l .register) ≡ slotIn old f n l
+  unfolding slotIn slotsInside numberOf isRegister
+  slot-register e = rw (eq-eqb (l .kind) 1 e)
 
-  pub slot-frame : l .register ≡ framePointer (f .machine) → positionIn (f .fp) (f .sp) (l .offset) k n ≡ slotIn old f n l
-  unfolding registerOf
-  slot-frame e = let q : registerOf f l ≡ f .fp = rw (eq-eqb (l .register) (framePointer (f .machine)) e) in ap (λ (v : ℕ). positionIn v (f .sp) (l .offset) k n) (sym q) ∙ slot-position
+  slot-position : (l .kind ≡ 1 → ⊥) → positionIn (registerOf f l) (f .sp) (l .offset) k n ≡ slotIn old f n l
+  unfolding slotIn slotsInside numberOf isRegister slotAddress positionIn
+  slot-position h = rw (ne-eqb (l .kind) 1 h)
 
-  pub slot-stack : (l .register ≡ framePointer (f .machine) → ⊥) → positionIn (f .sp) (f .sp) (l .offset) k n ≡ slotIn old f n l
-  unfolding registerOf
-  slot-stack e = let q : registerOf f l ≡ f .sp = rw (ne-eqb (l .register) (framePointer (f .machine)) e) in ap (λ (v : ℕ). positionIn v (f .sp) (l .offset) k n) (sym q) ∙ slot-position
+  module _ (h : l .kind ≡ 1 → ⊥) where
+    pub slot-frame : l .register ≡ framePointer (f .machine) → positionIn (f .fp) (f .sp) (l .offset) k n ≡ slotIn old f n l
+    unfolding registerOf
+    slot-frame e = let q : registerOf f l ≡ f .fp = rw (eq-eqb (l .register) (framePointer (f .machine)) e) in ap (λ (v : ℕ). positionIn v (f .sp) (l .offset) k n) (sym q) ∙ slot-position h
+
+    pub slot-stack : (l .register ≡ framePointer (f .machine) → ⊥) → positionIn (f .sp) (f .sp) (l .offset) k n ≡ slotIn old f n l
+    unfolding registerOf
+    slot-stack e = let q : registerOf f l ≡ f .sp = rw (ne-eqb (l .register) (framePointer (f .machine)) e) in ap (λ (v : ℕ). positionIn v (f .sp) (l .offset) k n) (sym q) ∙ slot-position h

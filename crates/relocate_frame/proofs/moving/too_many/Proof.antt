@@ -3,10 +3,14 @@ use Rattle.relocate_frame.proofs.moving.too_many.Statement.{statement}
 use Rattle.relocate_frame.proofs.moving.too_many.Tie as tie
 
 returns : tie.Need-returns
-returns c = rw (c .if1 .taken) (many-old (c .before .args .count))
+returns c = rw (c .if1 .taken) (many-old (c .before .args .count) (c .before .args .most))
 
 returns-2 : tie.Need-returns-2
 returns-2 c = rw (c .if1 .left)
 
 pub too-many-spec : {M : Type 1} → statement M
-too-many-spec = tie.close (tie.spec returns returns-2)
+too-many-spec =
+    tie.close
+    (tie.spec
+    returns
+    returns-2)

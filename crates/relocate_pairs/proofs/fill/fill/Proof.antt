@@ -6,11 +6,12 @@ use borrow.Author.Tests.{not-false}
 use lib.ListN.{length}
 use Rattle.stackmap.proofs.Tests.{not-true}
 use Rattle.moves.specs.Arrays as arrays
+use Rattle.relocate.specs.Limits.{registerCount}
 use Rattle.relocate.specs.Statepoint.{inside, rightForm, pointersOf}
 use Rattle.relocate.specs.Code.{recordOf, poolOf, pairNumber, Room}
 use Rattle.relocate.proofs.Records.{pair-inside}
 use Rattle.relocate_pairs.proofs.Forms.{Looking, look-start, look-on, look-hit, look-end, pair-from}
-use Rattle.relocate_pairs.proofs.Held.{held-length, held-none}
+use Rattle.relocate_pairs.proofs.Held.{held-length, held-none, placed-none}
 use Rattle.relocate_pairs.proofs.Counting.{Filling, pair-length, fill-start, fill-long, fill-on, fill-end}
 use Rattle.relocate_pairs.proofs.fill.fill.Statement.{statement}
 use Rattle.relocate_pairs.proofs.fill.fill.Tie as tie
@@ -18,7 +19,7 @@ use Rattle.relocate_pairs.proofs.fill.fill.Tie as tie
 abbrev Inv-loop : tie.InvT-loop
 Inv-loop live₀ bases₀ derived₀ old s at start count frame size n₀ p₀ live bases derived n p =
     Looking (inside old (poolOf s) frame size) (recordOf s at) count p × Room live bases derived
-    × Filling old (poolOf s) frame (recordOf s at) (arrays.pointersOf n live bases derived) p
+    × Filling old (poolOf s) frame (recordOf s at) (arrays.pointersOf n live bases derived) p × arrays.AllPlaced size registerCount n live bases derived
 
 abbrev μ-loop : tie.MeasureT-loop
 μ-loop live₀ bases₀ derived₀ old s at start count frame size n₀ p₀ live bases derived n p = count - p
@@ -26,7 +27,7 @@ abbrev μ-loop : tie.MeasureT-loop
 loop-holds : tie.Need-loop-holds Inv-loop μ-loop
 loop-holds c =
     let s = c .before .before .before .before in
-    (look-start _ _ _, s .pre .0, rw (held-none (s .args .live .now) (s .args .bases .now) (s .args .derived .now)) (fill-start _ _ _ _))
+    (look-start _ _ _, s .pre .0, rw (held-none (s .args .live .now) (s .args .bases .now) (s .args .derived .now)) (fill-start _ _ _ _), placed-none _ _ _ _)
 
 mul-look : tie.Need-mul-look Inv-loop μ-loop
 mul-look c = omega (arith, pair-inside (c .before .before .before .before .before .before .pre .1) (c .before .loop .p) (omega arith))
@@ -53,7 +54,7 @@ returns : tie.Need-returns Inv-loop μ-loop
 returns c =
     let l = c .before .before .before .before in
     let s = l .before .before .before .before .before in
-    (look-hit (l .loop .inv .0) (s .pre .1 .starts) (omega arith) (sym (c .before .before .look .ensures .0) ∙ not-true _ (c .if1 .taken)), l .loop .inv .1, λ h. absurd (omega arith))
+    (look-hit (l .loop .inv .0) (s .pre .1 .starts) (omega arith) (sym (c .before .before .look .ensures .0) ∙ not-true _ (c .if1 .taken)), l .loop .inv .1, λ h. absurd (omega arith), λ h. absurd (omega arith))
 
 put-requires : tie.Need-put-requires Inv-loop μ-loop
 put-requires c κs =
@@ -68,7 +69,7 @@ put-requires c κs =
     let f = fill-long (a .old) pool (a .frame) r _ _ (l .loop .inv .2) (omega (arith, s .pre .1 .counted)) in
     let g = ap length (k .pointers-are ∙ ap (pointersOf (a .old) pool (a .frame)) e) ∙ pair-length (a .old) pool (a .frame) (pairNumber r (l .loop .p)) in
     let h = held-length (l .loop .n) (l .loop .live) (l .loop .bases) (l .loop .derived) in
-    (l .loop .inv .1, omega (arith, f, g, h, s .pre .4), k .base-fits, k .derived-fits)
+    (l .loop .inv .1, omega (arith, f, g, h, s .pre .4), s .pre .2, k .base-placed, k .derived-placed)
 
 add-p : tie.Need-add-p Inv-loop μ-loop
 add-p c = search needs
@@ -90,6 +91,7 @@ loop-again c =
       look-on (l .loop .inv .0) (s .pre .1 .starts) (omega arith) (sym (k .0) ∙ yes),
       u .put .ensures .0,
       fill-on _ _ _ _ _ _ _ (l .loop .inv .2) (omega (arith, s .pre .1 .counted)) (u .put .ensures .1 ∙ rw (k .1 yes .pointers-are, e)),
+      u .put .ensures .2 (l .loop .inv .3),
     )
 
 same-length-4 : tie.Need-same-length-4 Inv-loop μ-loop
@@ -104,14 +106,10 @@ same-length-6 c = c .before .loop .inv .1 .derived-room ∙ sym (c .before .befo
 returns-2 : tie.Need-returns-2 Inv-loop μ-loop
 returns-2 c =
     let l = c .before .loop in
-    let s = c .before .before .before .before .before .before in (
-      look-end (l .inv .0) (omega arith),
-      l .inv .1,
-      λ h.
-          let w = fill-end _ _ _ _ _ _ (l .inv .2) (omega (arith, s .pre .1 .counted)) in
-          let z = sym (ap length w) ∙ held-length (l .n) (l .live) (l .bases) (l .derived) in
-          rw z w,
-    )
+    let s = c .before .before .before .before .before .before in
+    let w = fill-end _ _ _ _ _ _ (l .inv .2) (omega (arith, s .pre .1 .counted)) in
+    let z = sym (ap length w) ∙ held-length (l .n) (l .live) (l .bases) (l .derived) in
+    (look-end (l .inv .0) (omega arith), l .inv .1, λ h. rw z w, λ h. rw z (l .inv .3))
 
 pub fill-spec : {M : Type 1} → statement M
 fill-spec =

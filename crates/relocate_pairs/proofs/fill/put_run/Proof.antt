@@ -2,20 +2,29 @@ use Prim.Native.Nat.{_-_}
 use mathlib.Core.Path.{_≡_, refl, sym, _∙_}
 use native.Mathlib.Omega.{arith}
 use borrow.Author.Needs.{needs}
-use Rattle.moves.specs.Arrays as arrays
-use Rattle.relocate_pairs.proofs.Held.{Running, run-start, run-on}
+use Rattle.relocate_pairs.proofs.Held.{Running, run-start, run-on, ahead-most}
 use Rattle.relocate_pairs.proofs.fill.put_run.Statement.{statement}
 use Rattle.relocate_pairs.proofs.fill.put_run.Tie as tie
 
 abbrev Inv-loop : tie.InvT-loop
-Inv-loop live₀ bases₀ derived₀ n k b d next₀ live bases derived next =
-    Running n k b d (arrays.pointersOf n live₀ bases₀ derived₀) live bases derived next
+Inv-loop live₀ bases₀ derived₀ n k b d size next₀ live bases derived next = Running size n k b d live₀ bases₀ derived₀ live bases derived next
 
 abbrev μ-loop : tie.MeasureT-loop
-μ-loop live₀ bases₀ derived₀ n k b d next₀ live bases derived next = k - next
+μ-loop live₀ bases₀ derived₀ n k b d size next₀ live bases derived next = k - next
+
+returns : tie.Need-returns Inv-loop μ-loop
+returns c =
+    let l = c .before .loop in
+    let e : l .next ≡ c .before .before .args .k = omega (arith, l .inv .most) in
+    rw (← e) (refl, l .inv .room, l .inv .holds, l .inv .placed)
 
 loop-holds : tie.Need-loop-holds Inv-loop μ-loop
-loop-holds c = run-start _ _ _ _ _ _ _ (c .pre .0)
+loop-holds c = run-start _ _ _ _ _ _ _ _ (c .pre .0)
+
+loop-again : tie.Need-loop-again Inv-loop μ-loop
+loop-again c =
+    let s = c .before .before in
+    run-on (c .before .loop .inv) (omega arith) (omega (arith, s .pre .1)) (omega (arith, s .pre .2)) (s .pre .3) (s .pre .4)
 
 add-i : tie.Need-add-i Inv-loop μ-loop
 add-i c = omega (arith, c .before .before .pre .1)
@@ -27,7 +36,9 @@ mul-bases : tie.Need-mul-bases Inv-loop μ-loop
 mul-bases c = omega (arith, c .before .before .pre .1)
 
 add-bases : tie.Need-add-bases Inv-loop μ-loop
-add-bases c = omega (arith, c .before .before .pre .2)
+add-bases c =
+    let s = c .before .before in
+    omega (arith, ahead-most (s .args .size) (s .args .k) (s .args .b) (omega (arith, s .pre .2)) (s .pre .3) (c .before .loop .next) (omega arith))
 
 mul-bases-2 : tie.Need-mul-bases-2 Inv-loop μ-loop
 mul-bases-2 c = omega (arith, c .before .before .pre .1)
@@ -39,7 +50,9 @@ mul-derived : tie.Need-mul-derived Inv-loop μ-loop
 mul-derived c = omega (arith, c .before .before .pre .1)
 
 add-derived : tie.Need-add-derived Inv-loop μ-loop
-add-derived c = omega (arith, c .before .before .pre .3)
+add-derived c =
+    let s = c .before .before in
+    omega (arith, ahead-most (s .args .size) (s .args .k) (s .args .d) (omega (arith, s .pre .2)) (s .pre .4) (c .before .loop .next) (omega arith))
 
 mul-derived-2 : tie.Need-mul-derived-2 Inv-loop μ-loop
 mul-derived-2 c = omega (arith, c .before .before .pre .1)
@@ -53,11 +66,6 @@ add-next c = search needs
 loop-less : tie.Need-loop-less Inv-loop μ-loop
 loop-less c = search needs
 
-loop-again : tie.Need-loop-again Inv-loop μ-loop
-loop-again c =
-    let s = c .before .before in
-    run-on (c .before .loop .inv) (omega arith) (omega (arith, s .pre .1)) (omega (arith, s .pre .2)) (omega (arith, s .pre .3))
-
 add-result : tie.Need-add-result Inv-loop μ-loop
 add-result c = omega (arith, c .before .before .pre .1, c .before .loop .inv .most)
 
@@ -69,12 +77,6 @@ same-length-2 c = c .before .loop .inv .room .bases-room ∙ sym (c .before .bef
 
 same-length-3 : tie.Need-same-length-3 Inv-loop μ-loop
 same-length-3 c = c .before .loop .inv .room .derived-room ∙ sym (c .before .before .pre .0 .derived-room)
-
-returns : tie.Need-returns Inv-loop μ-loop
-returns c =
-    let l = c .before .loop in
-    let e : l .next ≡ c .before .before .args .k = omega (arith, l .inv .most) in
-    rw (← e) (refl, l .inv .room, l .inv .holds)
 
 pub put-run-spec : {M : Type 1} → statement M
 put-run-spec =

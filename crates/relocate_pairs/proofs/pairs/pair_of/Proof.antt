@@ -2,7 +2,7 @@ use Prim.Native.Nat.{_-_, _≤_}
 use mathlib.Core.Path.{ap, _∙_}
 use native.Mathlib.Omega.{arith}
 use borrow.Author.Needs.{needs}
-use Rattle.relocate.specs.declared.Frame as frameType
+use Rattle.relocate.specs.declared.Cursor as cursorType
 use Rattle.relocate.specs.Code.{recordOf, poolOf, countOf}
 use Rattle.relocate.proofs.Records.{pair-inside}
 use Rattle.relocate_pairs.proofs.Forms.{pair-from}
@@ -12,7 +12,7 @@ use Rattle.relocate_pairs.proofs.pairs.pair_of.Tie as tie
 
 abbrev Inv-loop : tie.InvT-loop
 Inv-loop old s at start count pointer left₀ p₀ left p =
-    (p ≤ count) × ((f : frameType.Frame) → Seeking old (poolOf s) f (recordOf s at) pointer left p)
+    (p ≤ count) × ((f : cursorType.Cursor) → Seeking old (poolOf s) f (recordOf s at) pointer left p)
 
 abbrev μ-loop : tie.MeasureT-loop
 μ-loop old s at start count pointer left₀ p₀ left p = count - p

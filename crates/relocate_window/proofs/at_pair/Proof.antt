@@ -1,7 +1,7 @@
 use borrow.Author.Tests.{eq-eqb, ne-eqb}
 use borrow.Author.Needs.{needs}
-use Rattle.relocate_frame.proofs.moving.at_pair.Statement.{statement}
-use Rattle.relocate_frame.proofs.moving.at_pair.Tie as tie
+use Rattle.relocate_window.proofs.at_pair.Statement.{statement}
+use Rattle.relocate_window.proofs.at_pair.Tie as tie
 
 returns : tie.Need-returns
 returns c = λ f. rw (eq-eqb _ _ (c .if1 .taken), c .if1 .taken)
