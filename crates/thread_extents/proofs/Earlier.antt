@@ -37,10 +37,12 @@ module _ (s : List ℕ) (f : Stopped) (t : Sited s f) where
     here = rw (e, t .one)
 
     pub sited-function : (constantsAt s ≤ length s) × (r .function < numFunctions s)
-    sited-function = (functions-inside s k, rw here (owner-number s (f .frame) k w (t .entry) (t .one)))
+    unfolding recordsOf
+    sited-function = (functions-inside s k, rw here (owner-number s (f .frame .function) (f .frame .address) k w (t .entry) (t .one)))
 
     pub sited-size : functionNumber s (r .function) .stackSize ≡ stackSize (t .entry)
-    sited-size = rw here (sym (size-is s (f .frame) k w (t .entry) (t .one)))
+    unfolding recordsOf
+    sited-size = rw here (sym (size-is s (f .frame .function) (f .frame .address) k w (t .entry) (t .one)))
 
 -- The extents that were kept.
 
