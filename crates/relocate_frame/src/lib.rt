@@ -116,9 +116,11 @@ fn of_section(
     ensures { λ r. ⌜ Relocates (restore (now (section .entry)) (now (olds .entry)) (now (news .entry)) first settings) (now (image .entry)) (stopped frame (now (registers .entry))) r (now (image .exit)) (now (registers .exit)) ⌝ }
 {
     if extent::image_right(first, image.len()) {
-        if table::table_right(olds, news) {
-            if registers_right(registers) {
-                let named = find::named(section, found, frame.function);
+        let right = table::table_right(olds, news);
+        let lent = registers_right(registers);
+        let named = find::named(section, found, frame.function);
+        if right {
+            if lent {
                 let at = cursor(frame, registers);
                 return moving::move_found(
                     section,

@@ -3,9 +3,9 @@ use Prim.Native.Nat.{ℕ, suc, _+_, _-_, _≤_, _<_}
 use mathlib.Core.Path.{_≡_}
 use mathlib.Core.List.{List, [], _∷_}
 use native.Mathlib.Omega.{arith}
-use Rattle.thread.specs.Thread.{Thread, frameAt, framesFrom}
+use Rattle.thread.specs.Thread.{Thread, stoppedAt, framesFrom}
 
-pub frames-step : (ns : Thread) (n k : ℕ) → k < n → framesFrom ns (n - k) k ≡ frameAt ns k ∷ framesFrom ns (n - (k + 1)) (k + 1)
+pub frames-step : (ns : Thread) (n k : ℕ) → k < n → framesFrom ns (n - k) k ≡ stoppedAt ns k ∷ framesFrom ns (n - (k + 1)) (k + 1)
 frames-step ns n k h =
     let e : n - k ≡ suc (n - (k + 1)) = omega arith in
     let g : suc k ≡ k + 1 = omega arith in

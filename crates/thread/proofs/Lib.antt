@@ -1,4 +1,6 @@
 pub mod Frames
+pub mod Parts
 pub mod StretchesApart
 pub mod Overlaps
+pub mod Judged
 pub mod OneInstant

@@ -1,9 +1,9 @@
 -- A thread's call is one instant or none: from the definition of its answer, and from demand 3.
-use Prim.Native.Nat.{ℕ, suc}
+use Prim.Native.Nat.{ℕ, suc, _+_, _*_, _/_, _<_}
 use mathlib.Core.Path.{_≡_, refl, sym, ap, _∙_}
 use mathlib.Core.Bool.{Bool, true, false}
 use mathlib.Core.Logic.{⊎-elim}
-use mathlib.Core.List.{List, [], _∷_, map, List·Memᴰ, Memᴰ·of-map, List·Memᴰ·head, List·Memᴰ·tail, List·Memᴰ·not-nil, List·Memᴰ·cases-cons, List·Permᴰ, List·Permᴰ·nil, List·Permᴰ·cons, List·Permᴰ·swap, List·Permᴰ·trans, Permᴰ·symm}
+use mathlib.Core.List.{List, [], _∷_, map, flatten, List·Memᴰ, Memᴰ·of-map, List·Memᴰ·head, List·Memᴰ·tail, List·Memᴰ·not-nil, List·Memᴰ·cases-cons, List·Permᴰ, List·Permᴰ·nil, List·Permᴰ·cons, List·Permᴰ·swap, List·Permᴰ·trans, Permᴰ·symm}
 use native.Mathlib.Omega.{arith}
 use borrow.Author.Tests.{eqb-true, eqb-false, eq-eqb, ne-eqb}
 use lib.Dec.{eqb}
@@ -17,16 +17,19 @@ use Rattle.stackmap.proofs.Forth.{accepted-length}
 use Rattle.questions.specs.Questions.{ask}
 use Rattle.moves.specs.declared.Move.{Move}
 use Rattle.moves.specs.Table.{tableRight}
+use Rattle.moves.specs.Window.{part}
 use Rattle.moves.specs.Settle.{refusedMove, acceptedMove}
 use Rattle.moves.proofs.Searches.{perm-mem}
-use Rattle.relocate.specs.declared.Frame.{Frame}
 use Rattle.relocate.specs.Restore.{Restore}
+use Rattle.relocate.specs.Stopped.{Stopped}
 use Rattle.relocate.specs.Plan.{imageRight}
-use Rattle.relocate.specs.Relocation.{answer}
-use Rattle.relocate.specs.Lists.{final, Holds}
+use Rattle.relocate.specs.Relocation.{answer, movedRegisters}
+use Rattle.relocate.specs.Lists.{final, finalRegisters, Holds}
 use Rattle.relocate.proofs.Demand.{demand3, order-free, disjoint-perm}
-use Rattle.thread.specs.Thread.{Thread, listRight, framesOf, passes, judged, pointersIn, threadAnswer, threadImage}
-use Rattle.thread.specs.Theorems.{Movable, total, AcceptedOnly, ByFrames, FrameByFrame, OrNone, AnyOrder, OneInstant}
+use Rattle.thread.specs.Thread.{Thread, listRight, stoppedAt, framesOf, passes, judged, pointersIn, threadAnswer, threadImage, threadRegisters}
+use Rattle.thread.specs.Theorems.{Movable, total, plainRegisters, AcceptedOnly, ByFrames, FrameByFrame, OrNone, AnyOrder, OneInstant}
+use Rattle.thread.proofs.Parts.{right-tells, moved-registers, part-of}
+use Rattle.thread.proofs.Judged.{judged-tells, judged-passes}
 use Rattle.thread.proofs.Overlaps.{apart-passes, apart-tells}
 
 -- An answer with the number 0 has passed each step.
@@ -40,43 +43,17 @@ need-tells : (b : Bool) (n : ℕ) (k : Move) → need b (refusedMove (suc n) 0) 
 need-tells true n k h = (refl, h)
 need-tells false n k h = absurd (omega arith)
 
-passes-tells : (m : Move) (i : ℕ) (k : Move) → passes m i k .number ≡ 0 → (m .number ≡ 0) × (k .number ≡ 0)
-unfolding passes
-passes-tells m i k h = go (eqb (m .number) 0) refl h
-  where
-    go : (t : Bool) → eqb (m .number) 0 ≡ t → need t (refusedMove (m .number) i) k .number ≡ 0 → (m .number ≡ 0) × (k .number ≡ 0)
-    go true e z = (eqb-true _ _ e, z)
-    go false e z = absurd (eqb-false _ _ e z)
-
 module _ (R : Restore) (im : List ℕ) where
-  abbrev ans : Frame → Move
+  abbrev ans : Stopped → Move
   ans f = answer R im f
 
-  -- each of these frames is accepted by itself
-  abbrev Each : List Frame → Type 0
-  Each fs = (f : Frame) → List·Memᴰ f fs → ans f .number ≡ 0
-
-  pub judged-tells : (i : ℕ) (fs : List Frame) (k : Move) → judged R im i fs k .number ≡ 0 → Each fs × (k .number ≡ 0)
-  unfolding judged
-  judged-tells i [] k h = (λ f m. absurd (List·Memᴰ·not-nil m), h)
-  judged-tells i (f ∷ fs) k h =
-      let p = passes-tells (ans f) i (judged R im (suc i) fs k) h in
-      let r = judged-tells (suc i) fs k (p .1) in
-      (λ g m. ⊎-elim (λ e. rw e (p .0)) (λ n. r .0 g n) (List·Memᴰ·cases-cons m), r .1)
-
-  pub judged-passes : (i : ℕ) (fs : List Frame) (k : Move) → Each fs → judged R im i fs k ≡ k
-  unfolding judged passes
-  judged-passes i [] k a = refl
-  judged-passes i (f ∷ fs) k a =
-      rw (eq-eqb _ 0 (a f (List·Memᴰ·head refl))) (judged-passes (suc i) fs k (λ g m. a g (List·Memᴰ·tail m)))
-
   -- the counts of the plain answers, added; and the same sum in any order
-  total-is : (fs : List Frame) → total (map ans fs) ≡ pointersIn R im fs
+  total-is : (fs : List Stopped) → total (map ans fs) ≡ pointersIn R im fs
   unfolding pointersIn
   total-is [] = refl
   total-is (f ∷ fs) = rw (total-is fs)
 
-  pairs-perm : {fs gs : List Frame} → List·Permᴰ fs gs → pointersIn R im fs ≡ pointersIn R im gs
+  pairs-perm : {fs gs : List Stopped} → List·Permᴰ fs gs → pointersIn R im fs ≡ pointersIn R im gs
   unfolding pointersIn
   pairs-perm List·Permᴰ·nil = refl
   pairs-perm (List·Permᴰ·cons e p) = rw (e, pairs-perm p)
@@ -90,8 +67,8 @@ module _ (R : Restore) (im : List ℕ) where
         let v = ask-tells (sectionCheck (R .section)) _ (section-numbered (R .section)) h in
         let i = need-tells (imageRight (R .first) (length im)) 12 _ (v .1) in
         let t = need-tells (tableRight (R .olds) (R .news)) 13 _ (i .1) in
-        let l = need-tells (listRight (ns .list)) 24 _ (t .1) in
-        let j = judged-tells 0 (framesOf ns) _ (l .1) in
+        let l = need-tells (listRight (ns .list) (ns .registers)) 24 _ (t .1) in
+        let j = judged-tells R im 0 (framesOf ns) _ (l .1) in
         let d = apart-tells (R .section) (framesOf ns) _ (j .1) in
         record {
           section-right = v .0 .1 ∙ ap Valid (accepted-length (R .section) (v .0 .0) (v .0 .1) .0);
@@ -107,24 +84,42 @@ module _ (R : Restore) (im : List ℕ) where
       unfolding threadAnswer ask
       movable-answer =
           rw (m .section-right, m .image-right, m .table-right, m .list-right)
-          (judged-passes 0 (framesOf ns) _ (m .each) ∙ apart-passes (R .section) (framesOf ns) _ (m .disjoint))
+          (judged-passes R im 0 (framesOf ns) _ (m .each) ∙ apart-passes (R .section) (framesOf ns) _ (m .disjoint))
 
       movable-image : threadImage R im ns ≡ final R (framesOf ns) im
       unfolding threadImage
       movable-image = rw movable-answer
 
+      movable-registers : threadRegisters R im ns ≡ flatten (finalRegisters R (framesOf ns) im)
+      unfolding threadRegisters
+      movable-registers = rw movable-answer
+
       holds : Holds R im (framesOf ns)
       holds = demand3 R im (framesOf ns) (m .disjoint)
+
+      plain-registers : threadRegisters R im ns ≡ plainRegisters R im ns
+      plain-registers = movable-registers ∙ ap flatten (holds .plain-registers)
+
+      at-position : (k : ℕ) → k < length (ns .list) / 2 → part (plainRegisters R im ns) (32 * k) 32 ≡ movedRegisters R im (stoppedAt ns k)
+      unfolding framesOf
+      at-position k l =
+          let n = length (ns .list) / 2 in
+          let e = right-tells (ns .list) (ns .registers) (m .list-right) .1 in
+          let z : 0 + k ≡ k = omega arith in
+          part-of (movedRegisters R im) ns n 0 k (λ j p q. moved-registers R im ns n j e (omega arith)) l ∙ rw z
 
       by-frames : ByFrames R im ns
       by-frames =
           record {
             image-is = movable-image;
+            registers-is = movable-registers;
             each-accepted = λ r q.
                 let o = Memᴰ·of-map ans (framesOf ns) (rw (holds .plain) at q) in
                 rw (← (o .2)) (m .each (o .0) (o .1));
             answer-is = movable-answer ∙ ap acceptedMove (sym (ap total (holds .plain) ∙ total-is (framesOf ns)));
             bytes-are = holds;
+            registers-are = plain-registers;
+            registers-at = λ k l. rw plain-registers (at-position k l);
           }
 
 pub accepted-only : AcceptedOnly
@@ -134,11 +129,11 @@ pub frame-by-frame : FrameByFrame
 frame-by-frame = by-frames
 
 pub or-none : OrNone
-unfolding threadImage
-or-none R im ns h = rw (ne-eqb _ 0 h)
+unfolding threadImage threadRegisters
+or-none R im ns h = rw (ne-eqb _ 0 h) (refl, refl)
 
 -- movable frames are movable in every order
-movable-perm : (R : Restore) (im : List ℕ) (ns ns′ : Thread) → Movable R im ns → listRight (ns′ .list) ≡ true
+movable-perm : (R : Restore) (im : List ℕ) (ns ns′ : Thread) → Movable R im ns → listRight (ns′ .list) (ns′ .registers) ≡ true
     → List·Permᴰ (framesOf ns) (framesOf ns′) → Movable R im ns′
 movable-perm R im ns ns′ m l p =
     record {
@@ -162,6 +157,8 @@ any-order R im ns ns′ h l p =
           movable-image R im ns m
           ∙ order-free R im (framesOf ns) (framesOf ns′) p (m .disjoint) .same-image
           ∙ sym (movable-image R im ns′ m′);
+      registers-are = plain-registers R im ns m;
+      other-registers-are = plain-registers R im ns′ m′;
     }
 
 pub one-instant : OneInstant

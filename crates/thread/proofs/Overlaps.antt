@@ -8,7 +8,7 @@ use native.Mathlib.Omega.{arith}
 use Rattle.moves.specs.declared.Move.{Move}
 use Rattle.moves.specs.Settle.{refusedMove}
 use Rattle.moves.proofs.Searches.{or-no}
-use Rattle.relocate.specs.declared.Frame.{Frame}
+use Rattle.relocate.specs.Stopped.{Stopped}
 use Rattle.relocate.specs.Relocation.{Extent, extentOf, InExtent}
 use Rattle.relocate.specs.Lists.{Disjoint}
 use Rattle.thread.specs.Thread.{share, sharesOne, apart}
@@ -44,21 +44,21 @@ none-share a b c d n = go (share a b c d) refl
 abbrev pub In : Extent → ℕ → Type 0
 In x a = Within (x .start) (x .end) a
 
-pub in-stretch : (s : List ℕ) (f : Frame) (a : ℕ) → InExtent s f a → In (extentOf s f) a
+pub in-stretch : (s : List ℕ) (f : Stopped) (a : ℕ) → InExtent s f a → In (extentOf s f) a
 in-stretch s f a i = record { low = i .low; high = i .high }
 
-pub of-stretch : (s : List ℕ) (f : Frame) (a : ℕ) → In (extentOf s f) a → InExtent s f a
+pub of-stretch : (s : List ℕ) (f : Stopped) (a : ℕ) → In (extentOf s f) a → InExtent s f a
 of-stretch s f a i = record { low = i .low; high = i .high }
 
 module _ (s : List ℕ) where
-  abbrev pub extents : List Frame → List Extent
+  abbrev pub extents : List Stopped → List Extent
   extents fs = map (extentOf s) fs
 
   -- no byte of f's extent is in the extent of one of these
-  abbrev pub Apart : Frame → List Frame → Type 0
-  Apart f gs = (g : Frame) → List·Memᴰ g gs → (a : ℕ) → InExtent s f a → InExtent s g a → ⊥
+  abbrev pub Apart : Stopped → List Stopped → Type 0
+  Apart f gs = (g : Stopped) → List·Memᴰ g gs → (a : ℕ) → InExtent s f a → InExtent s g a → ⊥
 
-  pub shares-none : (f : Frame) (gs : List Frame) → sharesOne (extentOf s f) (extents gs) ≡ false → Apart f gs
+  pub shares-none : (f : Stopped) (gs : List Stopped) → sharesOne (extentOf s f) (extents gs) ≡ false → Apart f gs
   shares-none f [] h g m a p q = absurd (List·Memᴰ·not-nil m)
   shares-none f (x ∷ gs) h g m a p q =
       ⊎-elim
@@ -70,7 +70,7 @@ module _ (s : List ℕ) where
           × (sharesOne (extentOf s f) (extents gs) ≡ false)
       o = or-no _ _ h
 
-  pub none-shares : (f : Frame) (gs : List Frame) → Apart f gs → sharesOne (extentOf s f) (extents gs) ≡ false
+  pub none-shares : (f : Stopped) (gs : List Stopped) → Apart f gs → sharesOne (extentOf s f) (extents gs) ≡ false
   none-shares f [] n = refl
   none-shares f (x ∷ gs) n =
       rw (none-share _ _ _ _ (λ a p q. n x (List·Memᴰ·head refl) a (of-stretch s f a p) (of-stretch s x a q)))
@@ -90,19 +90,19 @@ apart-end i earlier x xs k e = rw (e, apart)
 
 module _ (s : List ℕ) where
   -- no two of fs share a byte, and none of them shares one with a frame of gs
-  pub record Clear (gs fs : List Frame) : Type 0 where
+  pub record Clear (gs fs : List Stopped) : Type 0 where
     pub disjoint : Disjoint s fs
-    pub from-earlier : (f : Frame) → List·Memᴰ f fs → Apart s f gs
+    pub from-earlier : (f : Stopped) → List·Memᴰ f fs → Apart s f gs
 
   -- one more frame, before those that are clear of it
-  clear-more : (gs : List Frame) (f : Frame) (fs : List Frame) → Apart s f gs → Clear (f ∷ gs) fs → Clear gs (f ∷ fs)
+  clear-more : (gs : List Stopped) (f : Stopped) (fs : List Stopped) → Apart s f gs → Clear (f ∷ gs) fs → Clear gs (f ∷ fs)
   clear-more gs f fs n c =
       record {
         disjoint = ((λ g m a p q. c .from-earlier g m f (List·Memᴰ·head refl) a q p), c .disjoint);
         from-earlier = λ g m. ⊎-elim (λ e. rw e n) (λ l h o. c .from-earlier g l h (List·Memᴰ·tail o)) (List·Memᴰ·cases-cons m);
       }
 
-  clear-less : (gs : List Frame) (f : Frame) (fs : List Frame) → Clear gs (f ∷ fs) → Apart s f gs × Clear (f ∷ gs) fs
+  clear-less : (gs : List Stopped) (f : Stopped) (fs : List Stopped) → Clear gs (f ∷ fs) → Apart s f gs × Clear (f ∷ gs) fs
   clear-less gs f fs c = (
     c .from-earlier f (List·Memᴰ·head refl),
     record {
@@ -113,7 +113,7 @@ module _ (s : List ℕ) where
   )
 
   -- the frames gs stand before the position i, and the frames fs from i on: the test passes clear frames
-  pub clear-passes : (i : ℕ) (gs fs : List Frame) (k : Move) → Clear gs fs → apart i (extents s gs) (extents s fs) k ≡ k
+  pub clear-passes : (i : ℕ) (gs fs : List Stopped) (k : Move) → Clear gs fs → apart i (extents s gs) (extents s fs) k ≡ k
   unfolding apart
   clear-passes i gs [] k c = refl
   clear-passes i gs (f ∷ fs) k c =
@@ -121,7 +121,7 @@ module _ (s : List ℕ) where
       apart-on i (extents s gs) (extentOf s f) (extents s fs) k (none-shares s f gs (o .0)) ∙ clear-passes (suc i) (f ∷ gs) fs k (o .1)
 
   -- and else it ends with 26
-  pub clear-or-26 : (i : ℕ) (gs fs : List Frame) (k : Move) → Clear gs fs ⊎ ((j : ℕ) × (apart i (extents s gs) (extents s fs) k ≡ refusedMove 26 j))
+  pub clear-or-26 : (i : ℕ) (gs fs : List Stopped) (k : Move) → Clear gs fs ⊎ ((j : ℕ) × (apart i (extents s gs) (extents s fs) k ≡ refusedMove 26 j))
   clear-or-26 i gs [] k = inl (record { disjoint = tt; from-earlier = λ f m. absurd (List·Memᴰ·not-nil m) })
   clear-or-26 i gs (f ∷ fs) k = go (clear-or-26 (suc i) (f ∷ gs) fs k) (sharesOne (extentOf s f) (extents s gs)) refl
     where
@@ -134,13 +134,13 @@ module _ (s : List ℕ) where
 
   -- The whole list.
 
-  all-clear : (fs : List Frame) → Disjoint s fs → Clear [] fs
+  all-clear : (fs : List Stopped) → Disjoint s fs → Clear [] fs
   all-clear fs d = record { disjoint = d; from-earlier = λ f m g n. absurd (List·Memᴰ·not-nil n) }
 
-  pub apart-passes : (fs : List Frame) (k : Move) → Disjoint s fs → apart 0 [] (extents s fs) k ≡ k
+  pub apart-passes : (fs : List Stopped) (k : Move) → Disjoint s fs → apart 0 [] (extents s fs) k ≡ k
   apart-passes fs k d = clear-passes 0 [] fs k (all-clear fs d)
 
-  pub apart-tells : (fs : List Frame) (k : Move) → apart 0 [] (extents s fs) k .number ≡ 0 → Disjoint s fs × (k .number ≡ 0)
+  pub apart-tells : (fs : List Stopped) (k : Move) → apart 0 [] (extents s fs) k .number ≡ 0 → Disjoint s fs × (k .number ≡ 0)
   apart-tells fs k h = go (clear-or-26 0 [] fs k)
     where
       go : Clear [] fs ⊎ ((j : ℕ) × (apart 0 [] (extents s fs) k ≡ refusedMove 26 j)) → Disjoint s fs × (k .number ≡ 0)

@@ -3,7 +3,7 @@
 use Prim.Native.Nat.{ℕ, _+_, _*_, _^_, _≤_, _<_}
 use mathlib.Core.Path.{_≡_}
 use mathlib.Core.Bool.{Bool, true, false, cond}
-use mathlib.Core.List.{List, [], map}
+use mathlib.Core.List.{List, [], map, flatten}
 use lib.Dec.{eqb}
 use lib.ListN.{length, getD}
 use Rattle.stackmap.specs.Layout.{stackSizeUnknown}
@@ -17,13 +17,15 @@ use Rattle.sorted.specs.Sorted.{Sorted, LowerBound, EntryOf}
 use Rattle.moves.specs.declared.Move.{Move}
 use Rattle.moves.specs.Search.{anyBelow}
 use Rattle.moves.specs.Table.{tableRight}
+use Rattle.moves.specs.Window.{splice}
 use Rattle.moves.specs.Settle.{acceptedMove}
-use Rattle.relocate.specs.declared.Frame.{Frame}
+use Rattle.relocate.specs.Limits.{registerCount}
 use Rattle.relocate.specs.Restore.{Restore}
+use Rattle.relocate.specs.Stopped.{Stopped, registersRight, cursor}
 use Rattle.relocate.specs.Plan.{imageRight, stackSize}
-use Rattle.relocate.specs.Relocation.{moved, OneRecord, extentOf}
-use Rattle.relocate.specs.Lists.{final}
-use Rattle.thread.specs.Thread.{Thread, framesMost, frameNumbers, frameAt, share, apart, judged, pointersIn, threadAnswer, threadImage}
+use Rattle.relocate.specs.Relocation.{moved, movedRegisters, OneRecord, extentOf}
+use Rattle.relocate.specs.Lists.{final, finalRegisters}
+use Rattle.thread.specs.Thread.{Thread, framesMost, frameNumbers, stoppedAt, share, apart, judged, pointersIn, threadAnswer, threadImage, threadRegisters}
 
 -- The addresses of the first n frames, in order; equal ones stand side by side.
 pub record Gathered (ns keys : List ℕ) (n : ℕ) : Type 0 where
@@ -79,22 +81,24 @@ pub record Looked (s ns : List ℕ) (count : ℕ) (keys hits : List ℕ) : Type 
   pub gathered : Gathered ns keys count
   pub found : Sought s keys count hits
 
--- All that a frame's move relies on: 13 and 14 have passed too.
-pub record Ready (R : Restore) (long : ℕ) (ns : List ℕ) (count : ℕ) (keys hits : List ℕ) : Type 0 where
+-- All that a frame's move relies on: 13, 14 and 25 have passed too, of an image of `long` bytes and `wide` registers.
+pub record Ready (R : Restore) (long wide : ℕ) (ns : List ℕ) (count : ℕ) (keys hits : List ℕ) : Type 0 where
   pub looked : Looked (R .section) ns count keys hits
   pub image-right : imageRight (R .first) long ≡ true
   pub table-right : tableRight (R .olds) (R .news) ≡ true
+  pub registers-right : wide ≡ registerCount * count
 
 -- a frame whose extent is known, and ends below 2^64
-pub record Sited (s : List ℕ) (f : Frame) : Type 0 where
+pub record Sited (s : List ℕ) (f : Stopped) : Type 0 where
+  pub right : registersRight (f .registers) ≡ true
   pub entry : Entry
-  pub one : OneRecord s f entry
+  pub one : OneRecord s (f .frame) entry
   pub known : stackSize entry ≡ stackSizeUnknown → ⊥
-  pub ends : f .sp + stackSize entry < 2 ^ 64
+  pub ends : cursor f .sp + stackSize entry < 2 ^ 64
 
 -- each of the first `count` frames has one
 pub record EachSited (s : List ℕ) (t : Thread) (count : ℕ) : Type 0 where
-  pub at : (k : ℕ) → k < count → Sited s (frameAt t k)
+  pub at : (k : ℕ) → k < count → Sited s (stoppedAt t k)
 
 -- Stretches of memory, each from its start up to its end, where it no longer is.
 
@@ -107,20 +111,34 @@ pub record Apart (starts ends : List ℕ) (n : ℕ) : Type 0 where
   pub full : (i : ℕ) → i < n → getD starts i 0 < getD ends i 0
   pub apart : (i j : ℕ) → i < j → j < n → getD ends i 0 ≤ getD starts j 0
 
--- an answer, and the image that is left, are those of the call
-pub record Threads (R : Restore) (im : List ℕ) (t : Thread) (r : Move) (after : List ℕ) : Type 0 where
+-- an answer, and the image and the registers that are left, are those of the call
+pub record Threads (R : Restore) (im : List ℕ) (t : Thread) (r : Move) (after registers : List ℕ) : Type 0 where
   pub answer-is : r ≡ threadAnswer R im t
   pub image-is : after ≡ threadImage R im t
+  pub registers-is : registers ≡ threadRegisters R im t
 
--- the image after a frame is moved, or is only judged
-abbrev pub movedIf : Bool → Restore → List ℕ → Frame → List ℕ
-movedIf true R im f = moved R im f
-movedIf false R im f = im
+-- the image and the thread's registers after the frame at the position k is moved, or is only judged
+abbrev pub movedIf : Bool → Restore → List ℕ → Thread → ℕ → List ℕ
+movedIf true R im t k = moved R im (stoppedAt t k)
+movedIf false R im t k = im
+
+abbrev pub registersIf : Bool → Restore → List ℕ → Thread → ℕ → List ℕ
+registersIf true R im t k = splice (t .registers) (registerCount * k) registerCount (movedRegisters R im (stoppedAt t k))
+registersIf false R im t k = t .registers
 
 -- what is left to do once the list is right: the frames, then 26
-unfoldable pub framesAnswer : Restore → List ℕ → List Frame → Move
+unfoldable pub framesAnswer : Restore → List ℕ → List Stopped → Move
 framesAnswer R im fs =
     judged R im 0 fs (apart 0 [] (map (extentOf (R .section)) fs) (acceptedMove (pointersIn R im fs)))
 
-unfoldable pub framesImage : Restore → List ℕ → List Frame → List ℕ
+unfoldable pub framesImage : Restore → List ℕ → List Stopped → List ℕ
 framesImage R im fs = cond (eqb (framesAnswer R im fs .number) 0) (final R fs im) im
+
+unfoldable pub framesRegisters : Restore → List ℕ → List Stopped → List ℕ → List ℕ
+framesRegisters R im fs rs = cond (eqb (framesAnswer R im fs .number) 0) (flatten (finalRegisters R fs im)) rs
+
+-- all three of them
+pub record Framed (R : Restore) (im : List ℕ) (fs : List Stopped) (rs : List ℕ) (r : Move) (after registers : List ℕ) : Type 0 where
+  pub answer-is : r ≡ framesAnswer R im fs
+  pub image-is : after ≡ framesImage R im fs
+  pub registers-is : registers ≡ framesRegisters R im fs rs

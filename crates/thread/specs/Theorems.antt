@@ -1,27 +1,29 @@
--- What is shown of a thread's call: one instant or none.
-use Prim.Native.Nat.{ℕ, _+_}
+-- What is shown of a thread's call: one instant or none, of the image and of the registers.
+use Prim.Native.Nat.{ℕ, _+_, _*_, _/_, _<_}
 use mathlib.Core.Path.{_≡_}
 use mathlib.Core.Bool.{true}
-use mathlib.Core.List.{List, [], _∷_, List·Memᴰ, List·Permᴰ}
+use mathlib.Core.List.{List, [], _∷_, map, flatten, List·Memᴰ, List·Permᴰ}
 use lib.ListN.{length}
 use Rattle.stackmap.specs.Check.{Accepted}
 use Rattle.moves.specs.declared.Move.{Move}
 use Rattle.moves.specs.Table.{tableRight}
+use Rattle.moves.specs.Window.{part}
 use Rattle.moves.specs.Settle.{acceptedMove}
-use Rattle.relocate.specs.declared.Frame.{Frame}
+use Rattle.relocate.specs.Limits.{registerCount}
 use Rattle.relocate.specs.Restore.{Restore}
+use Rattle.relocate.specs.Stopped.{Stopped}
 use Rattle.relocate.specs.Plan.{imageRight}
-use Rattle.relocate.specs.Relocation.{answer}
-use Rattle.relocate.specs.Lists.{answers, final, Disjoint, Holds}
-use Rattle.thread.specs.Thread.{Thread, listRight, framesOf, threadAnswer, threadImage}
+use Rattle.relocate.specs.Relocation.{answer, movedRegisters}
+use Rattle.relocate.specs.Lists.{answers, final, finalRegisters, Disjoint, Holds}
+use Rattle.thread.specs.Thread.{Thread, frameNumbers, listRight, stoppedAt, framesOf, threadAnswer, threadImage, threadRegisters}
 
 -- every frame is accepted by itself on the starting image, and no two extents share a byte
 pub record Movable (R : Restore) (im : List ℕ) (t : Thread) : Type 0 where
   pub section-right : Accepted (R .section)
   pub image-right : imageRight (R .first) (length im) ≡ true
   pub table-right : tableRight (R .olds) (R .news) ≡ true
-  pub list-right : listRight (t .list) ≡ true
-  pub each : (f : Frame) → List·Memᴰ f (framesOf t) → answer R im f .number ≡ 0
+  pub list-right : listRight (t .list) (t .registers) ≡ true
+  pub each : (f : Stopped) → List·Memᴰ f (framesOf t) → answer R im f .number ≡ 0
   pub disjoint : Disjoint (R .section) (framesOf t)
 
 -- the counts of these answers, added
@@ -33,31 +35,44 @@ total (m ∷ ms) = m .count + total ms
 abbrev pub AcceptedOnly : Type 0
 AcceptedOnly = (R : Restore) (im : List ℕ) (t : Thread) → threadAnswer R im t .number ≡ 0 → Movable R im t
 
--- 2. Then the image equals the one got frame by frame in list order, each of these moves is accepted, and the answer is 0 and the
+-- the registers of each frame's plain move, on the starting image and with the frame's own registers as lent
+abbrev pub plainRegisters : Restore → List ℕ → Thread → List ℕ
+plainRegisters R im t = flatten (map (movedRegisters R im) (framesOf t))
+
+-- 2. Then image and registers equal those got frame by frame in list order, each of these moves is accepted, and the answer is 0 and the
 -- sum of the pointers.
 pub record ByFrames (R : Restore) (im : List ℕ) (t : Thread) : Type 0 where
   pub image-is : threadImage R im t ≡ final R (framesOf t) im
+  pub registers-is : threadRegisters R im t ≡ flatten (finalRegisters R (framesOf t) im)
   pub each-accepted : (m : Move) → List·Memᴰ m (answers R (framesOf t) im) → m .number ≡ 0
   pub answer-is : threadAnswer R im t ≡ acceptedMove (total (answers R (framesOf t) im))
-  -- and every byte of the image is fixed by the starting image, as demand 3 says
+  -- every byte of the image and every register are fixed by the starting image and registers, as demand 3 says
   pub bytes-are : Holds R im (framesOf t)
+  pub registers-are : threadRegisters R im t ≡ plainRegisters R im t
+  -- so that the 32 numbers at a frame's position are those of its plain move
+  pub registers-at : (k : ℕ) → k < length (t .list) / frameNumbers
+      → part (threadRegisters R im t) (registerCount * k) registerCount ≡ movedRegisters R im (stoppedAt t k)
 
 abbrev pub FrameByFrame : Type 0
 FrameByFrame = (R : Restore) (im : List ℕ) (t : Thread) → Movable R im t → ByFrames R im t
 
--- 3. In every other case the image is untouched.
+-- 3. In every other case image and registers are untouched.
 abbrev pub OrNone : Type 0
-OrNone = (R : Restore) (im : List ℕ) (t : Thread) → (threadAnswer R im t .number ≡ 0 → ⊥) → threadImage R im t ≡ im
+OrNone =
+    (R : Restore) (im : List ℕ) (t : Thread) → (threadAnswer R im t .number ≡ 0 → ⊥)
+    → (threadImage R im t ≡ im) × (threadRegisters R im t ≡ t .registers)
 
--- 4. The order of the frames changes neither answer nor image of an accepted call.
+-- 4. The order of the frames changes neither answer nor image of an accepted call, and each frame's registers are its plain move's in either order.
 pub record SameCall (R : Restore) (im : List ℕ) (t t′ : Thread) : Type 0 where
   pub same-answer : threadAnswer R im t ≡ threadAnswer R im t′
   pub same-image : threadImage R im t ≡ threadImage R im t′
+  pub registers-are : threadRegisters R im t ≡ plainRegisters R im t
+  pub other-registers-are : threadRegisters R im t′ ≡ plainRegisters R im t′
 
 abbrev pub AnyOrder : Type 0
 AnyOrder =
-    (R : Restore) (im : List ℕ) (t t′ : Thread) → threadAnswer R im t .number ≡ 0 → listRight (t′ .list) ≡ true → List·Permᴰ (framesOf t) (framesOf t′)
-    → SameCall R im t t′
+    (R : Restore) (im : List ℕ) (t t′ : Thread) → threadAnswer R im t .number ≡ 0 → listRight (t′ .list) (t′ .registers) ≡ true
+    → List·Permᴰ (framesOf t) (framesOf t′) → SameCall R im t t′
 
 pub record OneInstant : Type 0 where
   pub accepted-only : AcceptedOnly

@@ -1,7 +1,7 @@
--- A whole thread in one call: document 02, requests 1, 2 and 6. All frames of the list move, or none does.
+-- A whole thread in one call: document 02, requests 1, 2, 6 and 7. All frames of the list move, with their registers, or none does.
 use Prim.Native.Nat.{ℕ, zero, suc, _+_, _*_, _/_, _%_}
 use mathlib.Core.Bool.{Bool, cond, _&&_, _||_, false}
-use mathlib.Core.List.{List, [], _∷_, map}
+use mathlib.Core.List.{List, [], _∷_, map, flatten}
 use lib.Dec.{eqb, ltb, leb}
 use lib.ListN.{length, getD}
 use Rattle.stackmap.specs.Verdict.{need}
@@ -9,50 +9,52 @@ use Rattle.stackmap.specs.Check.{sectionCheck}
 use Rattle.questions.specs.Questions.{ask}
 use Rattle.moves.specs.declared.Move.{Move}
 use Rattle.moves.specs.Table.{tableRight}
+use Rattle.moves.specs.Window.{part}
 use Rattle.moves.specs.Settle.{refusedMove, acceptedMove}
 use Rattle.relocate.specs.declared.Frame.{Frame}
 use Rattle.relocate.specs.declared.Machine.{Machine}
+use Rattle.relocate.specs.Limits.{registerCount}
 use Rattle.relocate.specs.Restore.{Restore}
+use Rattle.relocate.specs.Stopped.{Stopped, stopped}
 use Rattle.relocate.specs.Plan.{imageRight}
 use Rattle.relocate.specs.Relocation.{answer, Extent, extentOf}
-use Rattle.relocate.specs.Lists.{final}
+use Rattle.relocate.specs.Lists.{final, finalRegisters}
 
--- A thread has one machine, and a list of its frames: four numbers a frame, address, frame pointer, stack pointer and the function number. In
--- version 1 the address is the offset in that function; in version 3 the function number isn't read.
+-- A thread has one machine, a list of its frames, two numbers a frame, address and function number, and one list of their registers, 32 numbers
+-- a frame. In version 1 the address is the offset in that function; in version 3 the function number isn't read.
 pub record Thread : Type 0 where
   pub machine : Machine
   pub list : List ℕ
+  pub registers : List ℕ
 
-abbrev pub threadOf : Machine → List ℕ → Thread
-threadOf m ns = record { machine = m; list = ns }
+abbrev pub threadOf : Machine → List ℕ → List ℕ → Thread
+threadOf m ns rs = record { machine = m; list = ns; registers = rs }
 
 abbrev pub framesMost : ℕ
 framesMost = 4096
 
 abbrev pub frameNumbers : ℕ
-frameNumbers = 4
+frameNumbers = 2
 
--- 25: the list's length isn't a multiple of four, or it holds over 4,096 frames
-unfoldable pub listRight : List ℕ → Bool
-listRight ns = eqb (length ns % frameNumbers) 0 && leb (length ns / frameNumbers) framesMost
+-- 25: the first list's length is odd, it holds over 4,096 frames, or the second isn't 32 times as many
+unfoldable pub listRight : List ℕ → List ℕ → Bool
+listRight ns rs =
+    let frames = length ns / frameNumbers in
+    eqb (length ns % frameNumbers) 0 && (leb frames framesMost && eqb (length rs) (registerCount * frames))
 
--- the frame at a position, counted from 0
-unfoldable pub frameAt : Thread → ℕ → Frame
-frameAt t k =
-    record {
-      machine = t .machine;
-      address = getD (t .list) (frameNumbers * k) 0;
-      function = getD (t .list) (frameNumbers * k + 3) 0;
-      fp = getD (t .list) (frameNumbers * k + 1) 0;
-      sp = getD (t .list) (frameNumbers * k + 2) 0;
-    }
+-- the frame at a position, counted from 0, and the same with its own registers
+unfoldable pub frameAt : Machine → List ℕ → ℕ → Frame
+frameAt m ns k = record { machine = m; address = getD ns (frameNumbers * k) 0; function = getD ns (frameNumbers * k + 1) 0 }
+
+unfoldable pub stoppedAt : Thread → ℕ → Stopped
+stoppedAt t k = stopped (frameAt (t .machine) (t .list) k) (part (t .registers) (registerCount * k) registerCount)
 
 -- n frames, from the position k on
-abbrev pub framesFrom : Thread → ℕ → ℕ → List Frame
+abbrev pub framesFrom : Thread → ℕ → ℕ → List Stopped
 framesFrom t zero k = []
-framesFrom t (suc n) k = frameAt t k ∷ framesFrom t n (suc k)
+framesFrom t (suc n) k = stoppedAt t k ∷ framesFrom t n (suc k)
 
-unfoldable pub framesOf : Thread → List Frame
+unfoldable pub framesOf : Thread → List Stopped
 framesOf t = framesFrom t (length (t .list) / frameNumbers) 0
 
 -- the stretches of memory from a up to b and from c up to d share a byte: neither is empty, and each begins before the other ends
@@ -64,7 +66,7 @@ abbrev pub sharesOne : Extent → List Extent → Bool
 sharesOne x [] = false
 sharesOne x (y ∷ ys) = share (x .start) (x .end) (y .start) (y .end) || sharesOne x ys
 
--- The call. The image is the one that was lent.
+-- The call. The image and the registers are those that were lent.
 
 -- go on after an accepted frame; the number of a refused one is given with its position
 unfoldable pub passes : Move → ℕ → Move → Move
@@ -79,12 +81,12 @@ apart i earlier (x ∷ xs) k =
 
 module _ (R : Restore) (im : List ℕ) where
   -- the first refused frame's number with its position; each frame is judged by itself, and the first of these has the position i
-  unfoldable pub judged : ℕ → List Frame → Move → Move
+  unfoldable pub judged : ℕ → List Stopped → Move → Move
   judged i [] k = k
   judged i (f ∷ fs) k = passes (answer R im f) i (judged (suc i) fs k)
 
   -- the sum of the pointers, null ones included
-  unfoldable pub pointersIn : List Frame → ℕ
+  unfoldable pub pointersIn : List Stopped → ℕ
   pointersIn [] = 0
   pointersIn (f ∷ fs) = answer R im f .count + pointersIn fs
 
@@ -94,7 +96,7 @@ module _ (R : Restore) (im : List ℕ) where
       ask refusedMove
       (need (imageRight (R .first) (length im)) (refusedMove 13 0)
       (need (tableRight (R .olds) (R .news)) (refusedMove 14 0)
-      (need (listRight (t .list)) (refusedMove 25 0)
+      (need (listRight (t .list) (t .registers)) (refusedMove 25 0)
       (judged 0 (framesOf t)
       (apart 0 [] (map (extentOf (R .section)) (framesOf t))
       (acceptedMove (pointersIn (framesOf t))))))))
@@ -103,3 +105,7 @@ module _ (R : Restore) (im : List ℕ) where
   -- the image got frame by frame in list order, or the image as lent
   unfoldable pub threadImage : Thread → List ℕ
   threadImage t = cond (eqb (threadAnswer t .number) 0) (final R (framesOf t) im) im
+
+  -- and each frame's registers, in list order; or the registers as lent
+  unfoldable pub threadRegisters : Thread → List ℕ
+  threadRegisters t = cond (eqb (threadAnswer t .number) 0) (flatten (finalRegisters R (framesOf t) im)) (t .registers)

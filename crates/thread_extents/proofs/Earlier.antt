@@ -15,11 +15,11 @@ use Rattle.questions.specs.declared.Found.{Found}
 use Rattle.questions.specs.Questions.{firstOf}
 use Rattle.moves.specs.declared.Move.{Move}
 use Rattle.moves.specs.Settle.{refusedMove}
-use Rattle.relocate.specs.declared.Frame.{Frame}
+use Rattle.relocate.specs.Stopped.{Stopped, cursor}
 use Rattle.relocate.specs.Plan.{recordsOf, stackSize}
 use Rattle.relocate.specs.Relocation.{Extent, extentOf}
 use Rattle.relocate_frame.proofs.Asking.{functions-inside, owner-number, size-is}
-use Rattle.thread.specs.Thread.{Thread, frameAt, framesFrom, share, sharesOne, apart}
+use Rattle.thread.specs.Thread.{Thread, stoppedAt, framesFrom, share, sharesOne, apart}
 use Rattle.thread.specs.Code.{sharesAny, Apart, Sited}
 use Rattle.thread.proofs.StretchesApart.{share-empty-2, apart-none, none-shares}
 use Rattle.thread.proofs.Frames.{frames-step, frames-end, frames-start}
@@ -27,20 +27,22 @@ use Rattle.thread_stretches.specs.Listed.{AllApart}
 
 -- One frame's extent.
 
-module _ (s : List ℕ) (f : Frame) (t : Sited s f) where
-  pub extent-is : (extentOf s f .start ≡ f .sp) × (extentOf s f .end ≡ f .sp + stackSize (t .entry))
+module _ (s : List ℕ) (f : Stopped) (t : Sited s f) where
+  pub extent-is : (extentOf s f .start ≡ cursor f .sp) × (extentOf s f .end ≡ cursor f .sp + stackSize (t .entry))
   unfolding extentOf
-  extent-is = rw (t .one, ne-eqb _ _ (t .known)) (refl, refl)
+  extent-is = rw (t .right, t .one, ne-eqb _ _ (t .known)) (refl, refl)
 
-  module _ (k : Accepted s) (w : Bytes s) (r : Found) (e : r ≡ firstOf (recordsOf s f)) where
+  module _ (k : Accepted s) (w : Bytes s) (r : Found) (e : r ≡ firstOf (recordsOf s (f .frame))) where
     here : r .function ≡ t .entry .owner .number
     here = rw (e, t .one)
 
     pub sited-function : (constantsAt s ≤ length s) × (r .function < numFunctions s)
-    sited-function = (functions-inside s k, rw here (owner-number s f k w (t .entry) (t .one)))
+    unfolding recordsOf
+    sited-function = (functions-inside s k, rw here (owner-number s (f .frame .function) (f .frame .address) k w (t .entry) (t .one)))
 
     pub sited-size : functionNumber s (r .function) .stackSize ≡ stackSize (t .entry)
-    sited-size = rw here (sym (size-is s f k w (t .entry) (t .one)))
+    unfolding recordsOf
+    sited-size = rw here (sym (size-is s (f .frame .function) (f .frame .address) k w (t .entry) (t .one)))
 
 -- The extents that were kept.
 
@@ -48,7 +50,7 @@ module _ (s : List ℕ) (ns : Thread) where
   -- those of the first k frames, the last one first
   abbrev earlierOf : ℕ → List Extent
   earlierOf zero = []
-  earlierOf (suc k) = extentOf s (frameAt ns k) ∷ earlierOf k
+  earlierOf (suc k) = extentOf s (stoppedAt ns k) ∷ earlierOf k
 
   module _ (n : ℕ) where
     abbrev from : ℕ → Move → Move
@@ -77,8 +79,8 @@ module _ (s : List ℕ) (ns : Thread) where
 
     -- the next frame's extent
     module _ {k kept : ℕ} {starts ends : List ℕ} (g : Keeping k kept starts ends) (l : k < n) (a b : ℕ)
-        (ea : a ≡ extentOf s (frameAt ns k) .start) (eb : b ≡ extentOf s (frameAt ns k) .end) where
-      shared-is : sharesOne (extentOf s (frameAt ns k)) (earlierOf k) ≡ sharesAny starts ends kept a b
+        (ea : a ≡ extentOf s (stoppedAt ns k) .start) (eb : b ≡ extentOf s (stoppedAt ns k) .end) where
+      shared-is : sharesOne (extentOf s (stoppedAt ns k)) (earlierOf k) ≡ sharesAny starts ends kept a b
       shared-is = sym (g .shares a b ∙ rw (ea, eb))
 
       pub keeping-stop : sharesAny starts ends kept a b ≡ true → (m : Move) → whole m ≡ cond (ltb k n) (refusedMove 26 k) m
@@ -117,8 +119,8 @@ module _ (s : List ℕ) (ns : Thread) where
     keeping-end {k} g l m = g .same m ∙ rw (frames-end ns n k l, le-ltb k n l)
 
     -- Where no two share a byte, none is refused.
-    module _ (c : AllApart (λ j. extentOf s (frameAt ns j) .start) (λ j. extentOf s (frameAt ns j) .end) n) where
-      none-earlier : (k j : ℕ) → k < n → j ≤ k → sharesOne (extentOf s (frameAt ns k)) (earlierOf j) ≡ false
+    module _ (c : AllApart (λ j. extentOf s (stoppedAt ns j) .start) (λ j. extentOf s (stoppedAt ns j) .end) n) where
+      none-earlier : (k j : ℕ) → k < n → j ≤ k → sharesOne (extentOf s (stoppedAt ns k)) (earlierOf j) ≡ false
       none-earlier k zero l m = refl
       none-earlier k (suc j) l m = rw (c .apart k j l (omega arith) (λ z. omega arith)) (none-earlier k j l (omega arith))
 

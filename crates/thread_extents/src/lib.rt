@@ -4,16 +4,19 @@
 ghost use mathlib.Core.Path.{_≡_};
 ghost use mathlib.Core.Bool.{true, cond};
 ghost use mathlib.Core.List.{[], map};
-ghost use Prim.Native.Nat.{_≤_, _<_};
+ghost use Prim.Native.Nat.{_*_, _≤_, _<_};
 ghost use lib.Dec.{ltb};
+ghost use lib.ListN.{length};
 ghost use Rattle.moves.specs.declared.Move as moveType;
 ghost use Rattle.moves.specs.Settle.{refusedMove};
+ghost use Rattle.relocate.specs.Limits.{registerCount};
 ghost use Rattle.relocate.specs.Relocation.{extentOf};
-ghost use Rattle.thread.specs.Thread.{frameAt, framesFrom, apart};
+ghost use Rattle.thread.specs.Thread.{stoppedAt, framesFrom, apart};
 ghost use Rattle.thread.specs.Thread.{threadOf};
 ghost use Rattle.thread.specs.Code.{Looked, EachSited};
 ghost use Rattle.thread_stretches.specs.Listed.{AllApart};
 use relocate::Machine;
+use relocate::REGISTERS;
 use stackmap_tables::tables;
 use thread::FRAMES_MOST;
 use thread_search::list;
@@ -27,25 +30,28 @@ pub struct Stretch {
     pub end: u64,
 }
 
-// The extent of the frame at the position k.
+// The extent of the frame at the position k: it begins at the stack pointer in the frame's own registers.
 fn extent(
     machine: Machine,
     s: &[u8],
     frames: &[u64],
+    registers: &[u64],
     count: usize,
     keys: &[u64; FRAMES_MOST],
     hits: &[usize; HITS_LENGTH],
     k: usize,
 ) -> Stretch
-    requires { ⌜ Looked (now s) (now frames) count (now keys) (now hits) × EachSited (now s) (threadOf machine (now frames)) count × (k < count) ⌝ }
-    ensures { λ r. ⌜ (r .start ≡ extentOf (now (s .entry)) (frameAt (threadOf machine (now (frames .entry))) k) .start) × (r .end ≡ extentOf (now (s .entry)) (frameAt (threadOf machine (now (frames .entry))) k) .end) ⌝ }
+    requires { ⌜ Looked (now s) (now frames) count (now keys) (now hits) × (length (now registers) ≡ registerCount * count) × EachSited (now s) (threadOf machine (now frames) (now registers)) count × (k < count) ⌝ }
+    ensures { λ r. ⌜ (r .start ≡ extentOf (now (s .entry)) (stoppedAt (threadOf machine (now (frames .entry)) (now (registers .entry))) k) .start) × (r .end ≡ extentOf (now (s .entry)) (stoppedAt (threadOf machine (now (frames .entry)) (now (registers .entry))) k) .end) ⌝ }
 {
     let frame = list::frame_at(machine, frames, k);
     let found = search::of_frame(s, keys, count, hits, frame);
     let size = tables::stack_size(s, found.function);
+    let p = REGISTERS * k;
+    let at = relocate_frame::cursor(frame, &registers[p..p + REGISTERS]);
     Stretch {
-        start: frame.sp,
-        end: frame.sp + size,
+        start: at.sp,
+        end: at.sp + size,
     }
 }
 
@@ -54,20 +60,21 @@ fn all_apart(
     machine: Machine,
     s: &[u8],
     frames: &[u64],
+    registers: &[u64],
     count: usize,
     keys: &[u64; FRAMES_MOST],
     hits: &[usize; HITS_LENGTH],
 ) -> bool
-    requires { ⌜ Looked (now s) (now frames) count (now keys) (now hits) × EachSited (now s) (threadOf machine (now frames)) count ⌝ }
-    ensures { λ r. ⌜ (r ≡ true → AllApart (λ j. extentOf (now (s .entry)) (frameAt (threadOf machine (now (frames .entry))) j) .start)
-        (λ j. extentOf (now (s .entry)) (frameAt (threadOf machine (now (frames .entry))) j) .end) count) ⌝ }
+    requires { ⌜ Looked (now s) (now frames) count (now keys) (now hits) × (length (now registers) ≡ registerCount * count) × EachSited (now s) (threadOf machine (now frames) (now registers)) count ⌝ }
+    ensures { λ r. ⌜ (r ≡ true → AllApart (λ j. extentOf (now (s .entry)) (stoppedAt (threadOf machine (now (frames .entry)) (now (registers .entry))) j) .start)
+        (λ j. extentOf (now (s .entry)) (stoppedAt (threadOf machine (now (frames .entry)) (now (registers .entry))) j) .end) count) ⌝ }
 {
     let mut pairs = [0u64; PAIRS_LENGTH];
     let mut ends = [0u64; FRAMES_MOST];
     let mut kept: usize = 0;
     let mut k: usize = 0;
     while k < count {
-        let x = extent(machine, s, frames, count, keys, hits, k);
+        let x = extent(machine, s, frames, registers, count, keys, hits, k);
         kept = thread_stretches::put(&mut pairs, &mut ends, kept, k, x.start, x.end);
         k += 1;
     }
@@ -79,19 +86,20 @@ fn first_of(
     machine: Machine,
     s: &[u8],
     frames: &[u64],
+    registers: &[u64],
     count: usize,
     keys: &[u64; FRAMES_MOST],
     hits: &[usize; HITS_LENGTH],
 ) -> usize
-    requires { ⌜ Looked (now s) (now frames) count (now keys) (now hits) × EachSited (now s) (threadOf machine (now frames)) count ⌝ }
-    ensures { λ r. ⌜ (r ≤ count) × ((m : moveType.Move) → apart 0 [] (map (extentOf (now (s .entry))) (framesFrom (threadOf machine (now (frames .entry))) count 0)) m ≡ cond (ltb r count) (refusedMove 26 r) m) ⌝ }
+    requires { ⌜ Looked (now s) (now frames) count (now keys) (now hits) × (length (now registers) ≡ registerCount * count) × EachSited (now s) (threadOf machine (now frames) (now registers)) count ⌝ }
+    ensures { λ r. ⌜ (r ≤ count) × ((m : moveType.Move) → apart 0 [] (map (extentOf (now (s .entry))) (framesFrom (threadOf machine (now (frames .entry)) (now (registers .entry))) count 0)) m ≡ cond (ltb r count) (refusedMove 26 r) m) ⌝ }
 {
     let mut starts = [0u64; FRAMES_MOST];
     let mut ends = [0u64; FRAMES_MOST];
     let mut kept: usize = 0;
     let mut k: usize = 0;
     while k < count {
-        let x = extent(machine, s, frames, count, keys, hits, k);
+        let x = extent(machine, s, frames, registers, count, keys, hits, k);
         let start = x.start;
         let end = x.end;
         if thread_disjoint::shares(&starts, &ends, kept, start, end) {
@@ -111,16 +119,17 @@ pub fn first_shared(
     machine: Machine,
     s: &[u8],
     frames: &[u64],
+    registers: &[u64],
     count: usize,
     keys: &[u64; FRAMES_MOST],
     hits: &[usize; HITS_LENGTH],
 ) -> usize
-    requires { ⌜ Looked (now s) (now frames) count (now keys) (now hits) × EachSited (now s) (threadOf machine (now frames)) count ⌝ }
-    ensures { λ r. ⌜ (r ≤ count) × ((m : moveType.Move) → apart 0 [] (map (extentOf (now (s .entry))) (framesFrom (threadOf machine (now (frames .entry))) count 0)) m
+    requires { ⌜ Looked (now s) (now frames) count (now keys) (now hits) × (length (now registers) ≡ registerCount * count) × EachSited (now s) (threadOf machine (now frames) (now registers)) count ⌝ }
+    ensures { λ r. ⌜ (r ≤ count) × ((m : moveType.Move) → apart 0 [] (map (extentOf (now (s .entry))) (framesFrom (threadOf machine (now (frames .entry)) (now (registers .entry))) count 0)) m
         ≡ cond (ltb r count) (refusedMove 26 r) m) ⌝ }
 {
-    if all_apart(machine, s, frames, count, keys, hits) {
+    if all_apart(machine, s, frames, registers, count, keys, hits) {
         return count;
     }
-    first_of(machine, s, frames, count, keys, hits)
+    first_of(machine, s, frames, registers, count, keys, hits)
 }

@@ -2,7 +2,7 @@ use Prim.Native.Nat.{_-_, _≤_}
 use mathlib.Core.Path.{_≡_}
 use native.Mathlib.Omega.{arith}
 use Rattle.relocate.specs.Relocation.{extentOf}
-use Rattle.thread.specs.Thread.{frameAt}
+use Rattle.thread.specs.Thread.{stoppedAt}
 use Rattle.thread_stretches.specs.Listed.{Listed}
 use Rattle.thread_stretches.proofs.Laws.{listed-none}
 use Rattle.thread.specs.Thread.{threadOf}
@@ -11,21 +11,21 @@ use Rattle.thread_extents.proofs.all_apart.Statement.{statement}
 use Rattle.thread_extents.proofs.all_apart.Tie as tie
 
 abbrev Inv-loop : tie.InvT-loop
-Inv-loop machine s frames count keys hits pairs₀ ends₀ kept₀ k₀ pairs ends kept k =
-    Listed (λ j. extentOf s (frameAt (threadOf machine frames) j) .start) (λ j. extentOf s (frameAt (threadOf machine frames) j) .end) k kept pairs ends × (k ≤ count) × (kept ≤ k)
+Inv-loop machine s frames registers count keys hits pairs₀ ends₀ kept₀ k₀ pairs ends kept k =
+    Listed (λ j. extentOf s (stoppedAt (threadOf machine frames registers) j) .start) (λ j. extentOf s (stoppedAt (threadOf machine frames registers) j) .end) k kept pairs ends × (k ≤ count) × (kept ≤ k)
 
 abbrev μ-loop : tie.MeasureT-loop
-μ-loop machine s frames count keys hits pairs₀ ends₀ kept₀ k₀ pairs ends kept k = count - k
+μ-loop machine s frames registers count keys hits pairs₀ ends₀ kept₀ k₀ pairs ends kept k = count - k
 
 loop-holds : tie.Need-loop-holds Inv-loop μ-loop
 loop-holds c = (listed-none _ _ _ _, omega arith, omega arith)
 
 extent-requires : tie.Need-extent-requires Inv-loop μ-loop
-extent-requires c κs = let q = c .before .before .before .before in (q .pre .0, q .pre .1, c .loop-test .taken)
+extent-requires c κs = let q = c .before .before .before .before .before in (q .pre .0, q .pre .1, q .pre .2, c .loop-test .taken)
 
 put-requires : tie.Need-put-requires Inv-loop μ-loop
 put-requires c κs =
-    let q = c .before .before .before .before .before .before .before in
+    let q = c .before .before .before .before .before .before .before .before in
     let l = c .before .before .before .before .loop in
     (omega (arith, l .inv .2), omega (arith, q .pre .0 .most))
 
@@ -42,13 +42,13 @@ loop-again c =
 
 all-apart-requires : tie.Need-all-apart-requires Inv-loop μ-loop
 all-apart-requires c κs =
-    let q = c .before .before .before .before .before .before in
+    let q = c .before .before .before .before .before .before .before in
     let l = c .before .before .before .loop in
     omega (arith, l .inv .1, l .inv .2, q .pre .0 .most)
 
 returns : tie.Need-returns Inv-loop μ-loop
 returns c =
-    let q = c .before .before .before .before .before .before .before in
+    let q = c .before .before .before .before .before .before .before .before in
     let l = c .before .before .before .before .loop in
     let z : l .k ≡ q .args .count = omega (arith, l .inv .1) in
     λ h. rw z at (c .all-apart .ensures h _ _ _ (omega (arith, l .inv .1, q .pre .0 .most)) (l .inv .0))

@@ -9,23 +9,23 @@ use Rattle.thread_extents.proofs.first_of.Statement.{statement}
 use Rattle.thread_extents.proofs.first_of.Tie as tie
 
 abbrev Inv-loop : tie.InvT-loop
-Inv-loop machine s frames count keys hits starts₀ ends₀ kept₀ k₀ starts ends kept k = Keeping s (threadOf machine frames) count k kept starts ends
+Inv-loop machine s frames registers count keys hits starts₀ ends₀ kept₀ k₀ starts ends kept k = Keeping s (threadOf machine frames registers) count k kept starts ends
 
 abbrev μ-loop : tie.MeasureT-loop
-μ-loop machine s frames count keys hits starts₀ ends₀ kept₀ k₀ starts ends kept k = count - k
+μ-loop machine s frames registers count keys hits starts₀ ends₀ kept₀ k₀ starts ends kept k = count - k
 
 loop-holds : tie.Need-loop-holds Inv-loop μ-loop
 loop-holds c =
-    let q = c .before .before in
+    let q = c .before .before .before in
     let a = q .args in
-    keeping-start (a .s .now) (threadOf (a .machine) (a .frames .now)) (a .count) _ _
+    keeping-start (a .s .now) (threadOf (a .machine) (a .frames .now) (a .registers .now)) (a .count) _ _
 
 extent-requires : tie.Need-extent-requires Inv-loop μ-loop
-extent-requires c κs = let q = c .before .before .before .before in (q .pre .0, q .pre .1, c .loop-test .taken)
+extent-requires c κs = let q = c .before .before .before .before .before in (q .pre .0, q .pre .1, q .pre .2, c .loop-test .taken)
 
 shares-requires : tie.Need-shares-requires Inv-loop μ-loop
 shares-requires c κs =
-    let q = c .before .before .before .before .before .before .before
+    let q = c .before .before .before .before .before .before .before .before
     in (
       c .before .before .before .before .loop .inv .in-order,
       omega (
@@ -38,10 +38,10 @@ shares-requires c κs =
 
 returns : tie.Need-returns Inv-loop μ-loop
 returns c =
-    let q = c .before .before .before .before .before .before .before .before .before in
+    let q = c .before .before .before .before .before .before .before .before .before .before in
     let a = q .args in (
       omega (arith, c .before .before .before .before .before .before .loop .inv .most),
-      keeping-stop (a .s .now) (threadOf (a .machine) (a .frames .now)) (a .count)
+      keeping-stop (a .s .now) (threadOf (a .machine) (a .frames .now) (a .registers .now)) (a .count)
           (c .before .before .before .before .before .before .loop .inv) (c .before .before .before .before .before .loop-test .taken)
           (c .before .before .before .before .extent .result .start) (c .before .before .before .before .extent .result .end)
           (c .before .before .before .before .extent .ensures .0) (c .before .before .before .before .extent .ensures .1)
@@ -50,7 +50,7 @@ returns c =
 
 keep-requires : tie.Need-keep-requires Inv-loop μ-loop
 keep-requires c κs =
-    let q = c .before .before .before .before .before .before .before .before .before .before .before .before in
+    let q = c .before .before .before .before .before .before .before .before .before .before .before .before .before in
     let a = q .args in (
       c .before .before .before .before .before .before .before .before .before .loop .inv .in-order,
       omega (arith, c .before .before .before .before .before .before .before .before .before .loop .inv .fewer, q .pre .0 .most),
@@ -60,13 +60,13 @@ keep-requires c κs =
 
 add-kept : tie.Need-add-kept Inv-loop μ-loop
 add-kept c =
-    let q = c .before .before .before .before .before .before .before .before .before .before .before .before .before in
+    let q = c .before .before .before .before .before .before .before .before .before .before .before .before .before .before in
     let a = q .args in
     omega (arith, c .before .before .before .before .before .before .before .before .before .before .loop .inv .fewer, c .before .before .before .before .before .before .before .before .before .before .loop .inv .most, q .pre .0 .most)
 
 add-k : tie.Need-add-k Inv-loop μ-loop
 add-k c =
-    let q = c .before .before .before .before .before .before .before .before .before .before in
+    let q = c .before .before .before .before .before .before .before .before .before .before .before in
     let a = q .args in
     omega (arith, c .before .before .before .before .before .before .before .loop .inv .most, q .pre .0 .most)
 
@@ -75,16 +75,16 @@ loop-less c = search needs
 
 loop-again : tie.Need-loop-again Inv-loop μ-loop
 loop-again c =
-    let q = c .before .before .before .before .before .before .before .before .before .before in
+    let q = c .before .before .before .before .before .before .before .before .before .before .before in
     let a = q .args in
     let no = sym (c .before .before .shares .ensures) ∙ c .before .if1 .left in
     ⊎-elim
-    (λ w. rw (w .4, w .5, w .6) (keeping-kept (a .s .now) (threadOf (a .machine) (a .frames .now)) (a .count)
+    (λ w. rw (w .4, w .5, w .6) (keeping-kept (a .s .now) (threadOf (a .machine) (a .frames .now) (a .registers .now)) (a .count)
     (c .before .before .before .before .before .before .before .loop .inv) (c .before .before .before .before .before .before .loop-test .taken)
     (c .before .before .before .before .before .extent .result .start) (c .before .before .before .before .before .extent .result .end)
     (c .before .before .before .before .before .extent .ensures .0) (c .before .before .before .before .before .extent .ensures .1) _ _ no
     (w .3 .ensures .0) (w .3 .ensures .1)))
-    (λ w. rw (w .1, w .2, w .3) (keeping-empty (a .s .now) (threadOf (a .machine) (a .frames .now)) (a .count)
+    (λ w. rw (w .1, w .2, w .3) (keeping-empty (a .s .now) (threadOf (a .machine) (a .frames .now) (a .registers .now)) (a .count)
     (c .before .before .before .before .before .before .before .loop .inv) (c .before .before .before .before .before .before .loop-test .taken)
     (c .before .before .before .before .before .extent .result .start) (c .before .before .before .before .before .extent .result .end)
     (c .before .before .before .before .before .extent .ensures .0) (c .before .before .before .before .before .extent .ensures .1) no
@@ -93,9 +93,9 @@ loop-again c =
 
 returns-2 : tie.Need-returns-2 Inv-loop μ-loop
 returns-2 c =
-    let q = c .before .before .before .before in
+    let q = c .before .before .before .before .before in
     let a = q .args in
-    (omega (arith, c .before .loop .inv .most), keeping-end (a .s .now) (threadOf (a .machine) (a .frames .now)) (a .count) (c .before .loop .inv) (c .loop-test .left))
+    (omega (arith, c .before .loop .inv .most), keeping-end (a .s .now) (threadOf (a .machine) (a .frames .now) (a .registers .now)) (a .count) (c .before .loop .inv) (c .loop-test .left))
 
 pub first-of-spec : {M : Type 1} → statement M
 first-of-spec =

@@ -10,8 +10,8 @@ all-apart-requires c κs = search needs
 
 returns : tie.Need-returns
 returns c =
-    let a = c .before .before .before .before .args in
-    (omega arith, none-shared (a .s .now) (threadOf (a .machine) (a .frames .now)) (a .count) (c .before .all-apart .ensures (c .if1 .taken)))
+    let a = c .before .before .before .before .before .args in
+    (omega arith, none-shared (a .s .now) (threadOf (a .machine) (a .frames .now) (a .registers .now)) (a .count) (c .before .all-apart .ensures (c .if1 .taken)))
 
 first-of-requires : tie.Need-first-of-requires
 first-of-requires c κs = search needs

@@ -1,7 +1,7 @@
 use mathlib.Core.Path.{refl, sym, _∙_}
 use mathlib.Core.Bool.{true≢false}
 use native.Mathlib.Omega.{arith}
-use Rattle.thread_search.proofs.Gathering.{right-most}
+use Rattle.thread.proofs.Parts.{right-tells}
 use borrow.Author.Needs.{needs}
 use Rattle.thread_search.proofs.list.count.Statement.{statement}
 use Rattle.thread_search.proofs.list.count.Tie as tie
@@ -11,7 +11,7 @@ list-right-requires c κs = search needs
 
 returns : tie.Need-returns
 returns c =
-    let m = right-most (c .before .before .before .args .frames .now) (sym (c .before .list-right .ensures) ∙ c .if1 .taken) in (omega arith, m, λ z. refl)
+    let a = c .before .before .before .before .args in let m = right-tells (a .frames .now) (a .registers .now) (sym (c .before .list-right .ensures) ∙ c .if1 .taken) in (omega arith, m .0, λ z. refl)
 
 returns-2 : tie.Need-returns-2
 returns-2 c =

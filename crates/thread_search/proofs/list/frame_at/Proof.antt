@@ -22,24 +22,6 @@ mul-t9 c = search needs
 shared-slice-read-t11 : tie.Need-shared-slice-read-t11
 shared-slice-read-t11 c = search needs
 
-add-t12 : tie.Need-add-t12
-add-t12 c = search needs
-
-mul-t13 : tie.Need-mul-t13
-mul-t13 c = search needs
-
-shared-slice-read-t15 : tie.Need-shared-slice-read-t15
-shared-slice-read-t15 c = search needs
-
-add-t16 : tie.Need-add-t16
-add-t16 c = search needs
-
-mul-t17 : tie.Need-mul-t17
-mul-t17 c = search needs
-
-shared-slice-read-t19 : tie.Need-shared-slice-read-t19
-shared-slice-read-t19 c = search needs
-
 returns : tie.Need-returns
 unfolding frameAt
 returns c = refl
@@ -47,17 +29,4 @@ returns c = refl
 pub frame-at-spec : {M : Type 1} → statement M
 frame-at-spec =
     tie.close
-    (tie.spec
-    mul-p
-    mul-t5
-    shared-slice-read-t7
-    add-t8
-    mul-t9
-    shared-slice-read-t11
-    add-t12
-    mul-t13
-    shared-slice-read-t15
-    add-t16
-    mul-t17
-    shared-slice-read-t19
-    returns)
+    (tie.spec mul-p mul-t5 shared-slice-read-t7 add-t8 mul-t9 shared-slice-read-t11 returns)

@@ -13,6 +13,9 @@ returns-2 : tie.Need-returns-2
 unfolding listRight
 returns-2 c = rw (eq-eqb _ _ (c .before .if1 .left), lt-leb _ _ (c .if2 .taken))
 
+mul-result : tie.Need-mul-result
+mul-result c = search needs
+
 returns-3 : tie.Need-returns-3
 unfolding listRight
 returns-3 c = rw (eq-eqb _ _ (c .before .if1 .left), le-leb _ _ (c .if2 .left))
@@ -23,4 +26,5 @@ list-right-spec =
     (tie.spec
     returns
     returns-2
+    mul-result
     returns-3)
