@@ -20,7 +20,7 @@ use Rattle.moves.specs.Table.{tableRight}
 use Rattle.moves.specs.Window.{part}
 use Rattle.moves.specs.Settle.{refusedMove, acceptedMove}
 use Rattle.moves.proofs.Searches.{perm-mem}
-use Rattle.relocate.specs.Restore.{Restore}
+use Rattle.relocate.specs.Restore.{Restore, allowed}
 use Rattle.relocate.specs.Stopped.{Stopped}
 use Rattle.relocate.specs.Plan.{imageRight}
 use Rattle.relocate.specs.Relocation.{answer, movedRegisters}
@@ -65,13 +65,15 @@ module _ (R : Restore) (im : List ℕ) where
     unfolding threadAnswer
     accepted-tells h =
         let v = ask-tells (sectionCheck (R .section)) _ (section-numbered (R .section)) h in
-        let i = need-tells (imageRight (R .first) (length im)) 12 _ (v .1) in
+        let w = need-tells (allowed R (ns .machine)) 32 _ (v .1) in
+        let i = need-tells (imageRight (R .first) (length im)) 12 _ (w .1) in
         let t = need-tells (tableRight (R .olds) (R .news)) 13 _ (i .1) in
         let l = need-tells (listRight (ns .list) (ns .registers)) 24 _ (t .1) in
         let j = judged-tells R im 0 (framesOf ns) _ (l .1) in
         let d = apart-tells (R .section) (framesOf ns) _ (j .1) in
         record {
           section-right = v .0 .1 ∙ ap Valid (accepted-length (R .section) (v .0 .0) (v .0 .1) .0);
+          allowed-right = w .0;
           image-right = i .0;
           table-right = t .0;
           list-right = l .0;
@@ -83,7 +85,7 @@ module _ (R : Restore) (im : List ℕ) where
       movable-answer : threadAnswer R im ns ≡ acceptedMove (pointersIn R im (framesOf ns))
       unfolding threadAnswer ask
       movable-answer =
-          rw (m .section-right, m .image-right, m .table-right, m .list-right)
+          rw (m .section-right, m .allowed-right, m .image-right, m .table-right, m .list-right)
           (judged-passes R im 0 (framesOf ns) _ (m .each) ∙ apart-passes (R .section) (framesOf ns) _ (m .disjoint))
 
       movable-image : threadImage R im ns ≡ final R (framesOf ns) im
@@ -133,11 +135,12 @@ unfolding threadImage threadRegisters
 or-none R im ns h = rw (ne-eqb _ 0 h) (refl, refl)
 
 -- movable frames are movable in every order
-movable-perm : (R : Restore) (im : List ℕ) (ns ns′ : Thread) → Movable R im ns → listRight (ns′ .list) (ns′ .registers) ≡ true
+movable-perm : (R : Restore) (im : List ℕ) (ns ns′ : Thread) → Movable R im ns → ns′ .machine ≡ ns .machine → listRight (ns′ .list) (ns′ .registers) ≡ true
     → List·Permᴰ (framesOf ns) (framesOf ns′) → Movable R im ns′
-movable-perm R im ns ns′ m l p =
+movable-perm R im ns ns′ m e l p =
     record {
       section-right = m .section-right;
+      allowed-right = ap (allowed R) e ∙ m .allowed-right;
       image-right = m .image-right;
       table-right = m .table-right;
       list-right = l;
@@ -146,9 +149,9 @@ movable-perm R im ns ns′ m l p =
     }
 
 pub any-order : AnyOrder
-any-order R im ns ns′ h l p =
+any-order R im ns ns′ h e l p =
     let m = accepted-tells R im ns h in
-    let m′ = movable-perm R im ns ns′ m l p in
+    let m′ = movable-perm R im ns ns′ m e l p in
     record {
       same-answer =
           movable-answer R im ns m ∙ ap acceptedMove (pairs-perm R im p)

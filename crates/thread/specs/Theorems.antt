@@ -10,7 +10,7 @@ use Rattle.moves.specs.Table.{tableRight}
 use Rattle.moves.specs.Window.{part}
 use Rattle.moves.specs.Settle.{acceptedMove}
 use Rattle.relocate.specs.Limits.{registerCount}
-use Rattle.relocate.specs.Restore.{Restore}
+use Rattle.relocate.specs.Restore.{Restore, allowed}
 use Rattle.relocate.specs.Stopped.{Stopped}
 use Rattle.relocate.specs.Plan.{imageRight}
 use Rattle.relocate.specs.Relocation.{answer, movedRegisters}
@@ -20,6 +20,7 @@ use Rattle.thread.specs.Thread.{Thread, frameNumbers, listRight, stopped
 -- every frame is accepted by itself on the starting image, and no two extents share a byte
 pub record Movable (R : Restore) (im : List ℕ) (t : Thread) : Type 0 where
   pub section-right : Accepted (R .section)
+  pub allowed-right : allowed R (t .machine) ≡ true
   pub image-right : imageRight (R .first) (length im) ≡ true
   pub table-right : tableRight (R .olds) (R .news) ≡ true
   pub list-right : listRight (t .list) (t .registers) ≡ true
@@ -71,7 +72,7 @@ pub record SameCall (R : Restore) (im : List ℕ) (t t′ : Thread) : Type 0 whe
 
 abbrev pub AnyOrder : Type 0
 AnyOrder =
-    (R : Restore) (im : List ℕ) (t t′ : Thread) → threadAnswer R im t .number ≡ 0 → listRight (t′ .list) (t′ .registers) ≡ true
+    (R : Restore) (im : List ℕ) (t t′ : Thread) → threadAnswer R im t .number ≡ 0 → t′ .machine ≡ t .machine → listRight (t′ .list) (t′ .registers) ≡ true
     → List·Permᴰ (framesOf t) (framesOf t′) → SameCall R im t t′
 
 pub record OneInstant : Type 0 where

@@ -14,7 +14,7 @@ use Rattle.moves.specs.Settle.{refusedMove, acceptedMove}
 use Rattle.relocate.specs.declared.Frame.{Frame}
 use Rattle.relocate.specs.declared.Machine.{Machine}
 use Rattle.relocate.specs.Limits.{registerCount}
-use Rattle.relocate.specs.Restore.{Restore}
+use Rattle.relocate.specs.Restore.{Restore, allowed}
 use Rattle.relocate.specs.Stopped.{Stopped, stopped}
 use Rattle.relocate.specs.Plan.{imageRight}
 use Rattle.relocate.specs.Relocation.{answer, Extent, extentOf}
@@ -90,16 +90,17 @@ module _ (R : Restore) (im : List ℕ) where
   pointersIn [] = 0
   pointersIn (f ∷ fs) = answer R im f .count + pointersIn fs
 
-  -- 1 to 9, 13, 14, 25, then the frames, then 26
+  -- 1 to 9, 33, 13, 14, 25, then the frames, then 26
   unfoldable pub threadAnswer : Thread → Move
   threadAnswer t =
       ask refusedMove
+      (need (allowed R (t .machine)) (refusedMove 33 0)
       (need (imageRight (R .first) (length im)) (refusedMove 13 0)
       (need (tableRight (R .olds) (R .news)) (refusedMove 14 0)
       (need (listRight (t .list) (t .registers)) (refusedMove 25 0)
       (judged 0 (framesOf t)
       (apart 0 [] (map (extentOf (R .section)) (framesOf t))
-      (acceptedMove (pointersIn (framesOf t))))))))
+      (acceptedMove (pointersIn (framesOf t)))))))))
       (sectionCheck (R .section))
 
   -- the image got frame by frame in list order, or the image as lent
