@@ -8,6 +8,9 @@ use Rattle.listing.proofs.RoundTrip
 use Rattle.relocate.proofs.Demand
 use Rattle.relocate.proofs.Reorder
 use Rattle.relocate.proofs.Consequences
+use Rattle.relocate_twice.proofs.Twice
+use Rattle.relocate_twice.proofs.Without
+use Rattle.explain.proofs.Laws
 use Rattle.thread.proofs.OneInstant
 use Rattle.promises.specs.Promises.{Promises}
 use Rattle.promises.proofs.Worked
@@ -31,6 +34,11 @@ promises =
       one-instant = OneInstant.one-instant;
       index-ordered = Ordered.index-ordered;
       index-answers = Same.index-answers;
+      joined-tables = Twice.joined-tables;
+      two-moves = Twice.two-moves;
+      without-self-pair = Without.without-self-pair;
+      explains = Laws.explains;
+      keeps-cursor = Consequences.keeps-cursor;
       keeps-distance = Consequences.keeps-distance;
       only-slots-count = Consequences.only-slots-count;
       worked = Worked.worked;

@@ -22,10 +22,12 @@ use Rattle.moves.specs.Slots
 use Rattle.moves.specs.Pointers
 use Rattle.moves.specs.Settle.{atLowest, first20, first21, settled, settle}
 use Rattle.moves.specs.Plan.{pairOf}
-use Rattle.relocate.specs.Statepoint.{deoptCount, constantHead, pairedRest, isStatepoint, pairUp, pairs, isZero, isNull, sizeRight, pointersIn, isSlot, sameSize, rightForm}
-use Rattle.relocate.specs.Statepoint.{registerOf, slotAddress, slotsInside, slotAt, inside, pointersOf}
+use Rattle.relocate.specs.Statepoint.{deoptCount, constantHead, pairedRest, isStatepoint, pairUp, pairs, isZero, isNull, sizeRight, pointersIn, isFrameOrStack, isMemorySlot, isRegisterSlot, isSlot, sameSize, rightForm}
+use Rattle.relocate.specs.Statepoint.{registerOf, slotAddress, isRegister, slotsInside, slotAt, inside, pointersOf}
 use Rattle.stackmap.specs.Section.{asOffset}
 use Rattle.relocate.specs.Plan.{recordsOf, only, every, imageRight, extentRight, planPairs, planRecord, plan}
+use Rattle.relocate.specs.Restore.{sameMachine, allowed}
+use Rattle.relocate.specs.Stopped.{registersRight, cursor}
 use Rattle.relocate.specs.Relocation.{answer, moved}
 use Rattle.promises.specs.Worked.{got, headerWith, sectionH, listingH, sectionOldH, listingOldH, image, table, WorkedTable}
 
@@ -39,7 +41,7 @@ unfolding word bytes must chain bind pick shift bytesOf size all many functionFi
     noCounts smallSizes allSmallSizes oldRight itemsCheck listingCheck toListing toSection result address entriesFrom entriesOf entries ask
     withAddress atOffset ofFunction sought constantOf splice lowest rising noZero tableRight lookUp Slots.same Slots.overlap Pointers.anyOverlap
     Pointers.slotsClash Pointers.clash Pointers.newDerived Pointers.newContent atLowest first20 first21 settled settle
-    deoptCount constantHead pairedRest isStatepoint pairUp pairs isZero isNull sizeRight pointersIn isSlot sameSize rightForm registerOf asOffset
-    slotAddress slotsInside slotAt inside flatten pointersOf pairOf recordsOf only every imageRight extentRight planPairs planRecord plan answer moved got
+    deoptCount constantHead pairedRest isStatepoint pairUp pairs isZero isNull sizeRight pointersIn isFrameOrStack isMemorySlot isRegisterSlot isSlot sameSize rightForm registerOf asOffset
+    slotAddress isRegister slotsInside slotAt inside flatten pointersOf pairOf recordsOf only every imageRight extentRight planPairs planRecord sameMachine allowed registersRight cursor plan answer moved got
     headerWith sectionH listingH sectionOldH listingOldH image table
 worked = refl

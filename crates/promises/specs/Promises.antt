@@ -5,12 +5,15 @@ use Rattle.listing.specs.Bound.{BoundSuffices}
 use Rattle.listing.specs.RoundTrip.{ListingOneToOne, RoundTrips, OutputKept}
 use Rattle.relocate.specs.Lists.{Demand3, OrderFree}
 use Rattle.relocate.specs.Reorder.{PairOrder}
-use Rattle.relocate.specs.Consequences.{Untouched, Counts, KeepsDistance, OnlySlotsCount}
+use Rattle.relocate.specs.Consequences.{Untouched, KeepsCursor, Counts, KeepsDistance, OnlySlotsCount}
+use Rattle.relocate_twice.specs.Twice.{TwoMoves, JoinedTables}
+use Rattle.relocate_twice.specs.Without.{WithoutSelfPair}
+use Rattle.explain.specs.Laws.{Explains}
 use Rattle.thread.specs.Theorems.{OneInstant}
 use Rattle.promises.specs.Worked.{WorkedTable}
 
 pub record Promises : Type 0 where
-  -- 1: a refused call changes no byte of the image or of an output
+  -- 1: a refused call changes no byte of the image, no register, and no byte of an output
   pub image-untouched : Untouched
   pub output-kept : OutputKept
   -- 2: accepted sections and listings are their data, both round trips give the same bytes, and a move counts its pairs
@@ -31,7 +34,14 @@ pub record Promises : Type 0 where
   -- an address index is the one order of a section's rows, and with it a lookup gives what the plain walk gives
   pub index-ordered : IndexOrdered
   pub index-answers : IndexAnswers
-  -- the two consequences that are wanted, and the worked table
+  -- two moves in a row are one with the joined table, and why the self pair is asked for
+  pub joined-tables : JoinedTables
+  pub two-moves : TwoMoves
+  pub without-self-pair : WithoutSelfPair
+  -- what the lab is told of a slot is what the move does to it
+  pub explains : Explains
+  -- the consequences that are wanted, that no move changes frame and stack pointer, and the worked table
+  pub keeps-cursor : KeepsCursor
   pub keeps-distance : KeepsDistance
   pub only-slots-count : OnlySlotsCount
   pub worked : WorkedTable

@@ -1,7 +1,7 @@
 -- Document 01's worked table, with document 02's change of row D and some rows of version 1: what is asked, and what is answered.
 use Prim.Native.Nat.{ℕ, zero, suc}
 use mathlib.Core.Path.{_≡_}
-use mathlib.Core.Bool.{Bool, true, false}
+use mathlib.Core.Bool.{Bool, true, false, not}
 use mathlib.Core.List.{List, [], _∷_, _++_, map}
 use lib.ListN.{replicate}
 use Rattle.wire.specs.Word.{bytes}
@@ -14,7 +14,9 @@ use Rattle.listing.specs.RoundTrip.{result}
 use Rattle.moves.specs.declared.Move.{Move}
 use Rattle.relocate.specs.declared.Frame.{Frame}
 use Rattle.relocate.specs.declared.Machine.the-variants.{Amd64}
+use Rattle.relocate.specs.declared.Settings.{Settings}
 use Rattle.relocate.specs.Restore.{restore}
+use Rattle.relocate.specs.Stopped.{Stopped}
 use Rattle.relocate.specs.Relocation.{answer, moved}
 
 -- what is asked: the check of a section, a section's listing, a listing's section, or a move of a frame at 0x1020 (in version 1: at the
@@ -45,9 +47,17 @@ abbrev pub shifted : ℕ → Move → List ℕ → Got
 shifted zero a im = gives (a .count) im
 shifted (suc n) a im = leaves (suc n) (a .place) im
 
-abbrev pub frame : Bool → Frame
-frame true = record { machine = Amd64; address = 0x20; function = 0; fp = 0; sp = 0x7000 }
-frame false = record { machine = Amd64; address = 0x1020; function = 0; fp = 0; sp = 0x7000 }
+-- its registers are 0 but RSP, which is number 7
+abbrev pub registers : List ℕ
+registers = replicate 7 0 ++ (0x7000 ∷ replicate 24 0)
+
+abbrev pub frame : Bool → Stopped
+frame true = record { frame = record { machine = Amd64; address = 0x20; function = 0 }; registers = registers }
+frame false = record { frame = record { machine = Amd64; address = 0x1020; function = 0 }; registers = registers }
+
+-- document 02: the worked moves name an edition with 256, AMD64 and version 3; those in version 1 one that allows it
+abbrev pub edition : Bool → Settings
+edition old = record { most = 256; machine = Amd64; version1 = old; version3 = not old }
 
 -- an output with room enough
 abbrev pub room : List ℕ
@@ -58,7 +68,7 @@ got (check s) = checked (sectionCheck s)
 got (listingOf s) = let c = toListing s room in converted (c .number) c
 got (sectionOf l) = let c = toSection l room in converted (c .number) c
 got (moveIn s old new im) =
-    let R = restore s (old ∷ []) (new ∷ []) 0x7000 in
+    let R = restore s (old ∷ []) (new ∷ []) 0x7000 (edition (isOld s)) in
     let a = answer R im (frame (isOld s)) in
     shifted (a .number) a (moved R im (frame (isOld s)))
 
