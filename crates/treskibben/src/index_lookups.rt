@@ -1,11 +1,11 @@
 // The exported functions that are handed an address index, for C and Rust, and nothing else.
 ghost use mathlib.Core.Path.{_≡_};
 ghost use Rattle.index.specs.Index.{byIndex, allByIndex};
-ghost use Rattle.relocate.specs.Restore.{restore};
-ghost use Rattle.thread_index.specs.ByIndex.{threadByIndexAnswer, threadByIndexImage};
+ghost use Rattle.relocate.specs.Restore.{restore, everything};
+ghost use Rattle.thread_index.specs.ByIndex.{threadByIndexAnswer, threadByIndexImage, threadByIndexRegisters};
 ghost use Rattle.thread.specs.Thread.{threadOf};
 ghost use Rattle.treskibben_answers.specs.Answer.{findAnswerOf, moveAnswer};
-ghost use Rattle.treskibben_answers.specs.Machine.{machineOf, ofMachine, imageOf};
+ghost use Rattle.treskibben_answers.specs.Machine.{machineOf, ofMachine, leftOf};
 ghost use Rattle.treskibben.specs.AddressIndex.{listed};
 use crate::LAST_MACHINE;
 
@@ -51,12 +51,15 @@ pub extern "C" fn treskibben_thread_by_index(
     news: &[u64],
     machine: u64,
     frames: &[u64],
+    registers: &mut [u64],
     index: &[u64],
 ) -> treskibben_answers::Answer
-    ensures { λ r. ⌜ (r ≡ moveAnswer (ofMachine machine (now (section .entry)) (threadByIndexAnswer (restore (now (section .entry)) (now (olds .entry)) (now (news .entry)) first)
-        (now (image .entry)) (now (index .entry)) (threadOf (machineOf machine) (now (frames .entry))))))
-        × (now (image .exit) ≡ imageOf machine (now (image .entry)) (threadByIndexImage (restore (now (section .entry)) (now (olds .entry)) (now (news .entry)) first)
-        (now (image .entry)) (now (index .entry)) (threadOf (machineOf machine) (now (frames .entry))))) ⌝ }
+    ensures { λ r. ⌜ (r ≡ moveAnswer (ofMachine machine (now (section .entry)) (threadByIndexAnswer (restore (now (section .entry)) (now (olds .entry)) (now (news .entry)) first (everything (machineOf machine)))
+        (now (image .entry)) (now (index .entry)) (threadOf (machineOf machine) (now (frames .entry)) (now (registers .entry))))))
+        × (now (image .exit) ≡ leftOf machine (now (image .entry)) (threadByIndexImage (restore (now (section .entry)) (now (olds .entry)) (now (news .entry)) first (everything (machineOf machine)))
+        (now (image .entry)) (now (index .entry)) (threadOf (machineOf machine) (now (frames .entry)) (now (registers .entry)))))
+        × (now (registers .exit) ≡ leftOf machine (now (registers .entry)) (threadByIndexRegisters (restore (now (section .entry)) (now (olds .entry)) (now (news .entry)) first (everything (machineOf machine)))
+        (now (image .entry)) (now (index .entry)) (threadOf (machineOf machine) (now (frames .entry)) (now (registers .entry))))) ⌝ }
 {
     if machine > LAST_MACHINE {
         return treskibben_answers::unknown_machine(stackmap_check::check(section));
@@ -70,6 +73,8 @@ pub extern "C" fn treskibben_thread_by_index(
         news,
         known,
         frames,
+        registers,
         index,
+        treskibben_answers::everything(known),
     ))
 }

@@ -3,11 +3,12 @@ ghost use mathlib.Core.Path.{_≡_};
 ghost use Rattle.stackmap.specs.Check.{sectionCheck};
 ghost use Rattle.questions.specs.Questions.{byAddress, byFunction, recordPlace, locationAnswer, liveOutAnswer};
 ghost use Rattle.listing.specs.Listing.{toListing, toSection};
-ghost use Rattle.relocate.specs.Restore.{restore};
+ghost use Rattle.relocate.specs.Restore.{restore, everything};
+ghost use Rattle.relocate.specs.Stopped.{stopped};
 ghost use Rattle.relocate.specs.Relocation;
-ghost use Rattle.thread.specs.Thread.{threadAnswer, threadImage};
+ghost use Rattle.thread.specs.Thread.{threadAnswer, threadImage, threadRegisters};
 ghost use Rattle.thread.specs.Thread.{threadOf};
-ghost use Rattle.treskibben_answers.specs.Machine.{machineOf, ofMachine, imageOf};
+ghost use Rattle.treskibben_answers.specs.Machine.{machineOf, ofMachine, leftOf};
 ghost use Rattle.treskibben_answers.specs.Answer.{answer, converted, moveAnswer, frameOf, findAnswerOf, recordPlaceOf, locationOf, liveOutOf};
 ghost use Rattle.treskibben_answers.specs.Version.{version};
 use treskibben_answers as answers;
@@ -31,7 +32,7 @@ pub extern "C" fn treskibben_version() -> u32
 
 // The same. Its name is of this version alone, so that a program that refers to it can't be linked with a library of another.
 #[no_mangle]
-pub extern "C" fn treskibben_version_2() -> u32
+pub extern "C" fn treskibben_version_3() -> u32
     ensures { λ r. ⌜ r ≡ version ⌝ }
 {
     answers::version()
@@ -116,8 +117,8 @@ pub extern "C" fn treskibben_to_section(listing: &[u8], output: &mut [u8]) -> an
 }
 
 // The move of one frame in the stack image that starts at the address `first`, by the move table of old and new starts: a refusal,
-// with the image as it was; or accepted with the number of pointers, and each derived slot moved. The machine is 0 for AMD64 and 1 for
-// AArch64; any other number is 33 after the section's own refusals.
+// with the image and the registers as they were; or accepted with the number of pointers, and each derived slot moved. The machine is 0 for
+// AMD64 and 1 for AArch64; any other number is 33 after the section's own refusals.
 #[no_mangle]
 pub extern "C" fn treskibben_relocate(
     section: &[u8],
@@ -127,11 +128,14 @@ pub extern "C" fn treskibben_relocate(
     news: &[u64],
     machine: u64,
     frame: answers::Frame,
+    registers: &mut [u64],
 ) -> answers::Answer
     ensures { λ r. ⌜ (r ≡ moveAnswer (ofMachine machine (now (section .entry))
-        (Relocation.answer (restore (now (section .entry)) (now (olds .entry)) (now (news .entry)) first) (now (image .entry)) (frameOf (machineOf machine) frame))))
-        × (now (image .exit) ≡ imageOf machine (now (image .entry))
-        (Relocation.moved (restore (now (section .entry)) (now (olds .entry)) (now (news .entry)) first) (now (image .entry)) (frameOf (machineOf machine) frame))) ⌝ }
+        (Relocation.answer (restore (now (section .entry)) (now (olds .entry)) (now (news .entry)) first (everything (machineOf machine))) (now (image .entry)) (stopped (frameOf (machineOf machine) frame) (now (registers .entry))))))
+        × (now (image .exit) ≡ leftOf machine (now (image .entry))
+        (Relocation.moved (restore (now (section .entry)) (now (olds .entry)) (now (news .entry)) first (everything (machineOf machine))) (now (image .entry)) (stopped (frameOf (machineOf machine) frame) (now (registers .entry)))))
+        × (now (registers .exit) ≡ leftOf machine (now (registers .entry))
+        (Relocation.movedRegisters (restore (now (section .entry)) (now (olds .entry)) (now (news .entry)) first (everything (machineOf machine))) (now (image .entry)) (stopped (frameOf (machineOf machine) frame) (now (registers .entry))))) ⌝ }
 {
     if machine > LAST_MACHINE {
         return answers::unknown_machine(stackmap_check::check(section));
@@ -144,11 +148,14 @@ pub extern "C" fn treskibben_relocate(
         olds,
         news,
         answers::frame_of(known, frame),
+        registers,
+        answers::everything(known),
     ))
 }
 
-// The move of a whole thread: the frames of a list, four numbers each, address, frame pointer, stack pointer and function, at most 4,096
-// frames. A refusal, with the image as it was; or accepted with the sum of the pointers, and each derived slot of each frame moved.
+// The move of a whole thread: the frames of a list, two numbers each, address and function, at most 4,096 frames, beside a list of 32 registers
+// each. A refusal, with the image and the registers as they were; or accepted with the sum of the pointers, and each derived slot of each
+// frame moved.
 #[no_mangle]
 pub extern "C" fn treskibben_thread(
     section: &[u8],
@@ -158,11 +165,14 @@ pub extern "C" fn treskibben_thread(
     news: &[u64],
     machine: u64,
     frames: &[u64],
+    registers: &mut [u64],
 ) -> answers::Answer
-    ensures { λ r. ⌜ (r ≡ moveAnswer (ofMachine machine (now (section .entry)) (threadAnswer (restore (now (section .entry)) (now (olds .entry)) (now (news .entry)) first)
-        (now (image .entry)) (threadOf (machineOf machine) (now (frames .entry))))))
-        × (now (image .exit) ≡ imageOf machine (now (image .entry)) (threadImage (restore (now (section .entry)) (now (olds .entry)) (now (news .entry)) first)
-        (now (image .entry)) (threadOf (machineOf machine) (now (frames .entry))))) ⌝ }
+    ensures { λ r. ⌜ (r ≡ moveAnswer (ofMachine machine (now (section .entry)) (threadAnswer (restore (now (section .entry)) (now (olds .entry)) (now (news .entry)) first (everything (machineOf machine)))
+        (now (image .entry)) (threadOf (machineOf machine) (now (frames .entry)) (now (registers .entry))))))
+        × (now (image .exit) ≡ leftOf machine (now (image .entry)) (threadImage (restore (now (section .entry)) (now (olds .entry)) (now (news .entry)) first (everything (machineOf machine)))
+        (now (image .entry)) (threadOf (machineOf machine) (now (frames .entry)) (now (registers .entry)))))
+        × (now (registers .exit) ≡ leftOf machine (now (registers .entry)) (threadRegisters (restore (now (section .entry)) (now (olds .entry)) (now (news .entry)) first (everything (machineOf machine)))
+        (now (image .entry)) (threadOf (machineOf machine) (now (frames .entry)) (now (registers .entry))))) ⌝ }
 {
     if machine > LAST_MACHINE {
         return answers::unknown_machine(stackmap_check::check(section));
@@ -176,5 +186,7 @@ pub extern "C" fn treskibben_thread(
         news,
         known,
         frames,
+        registers,
+        answers::everything(known),
     ))
 }

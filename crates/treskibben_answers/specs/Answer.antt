@@ -34,7 +34,7 @@ moveAnswer m = record { number = m .number; place = m .place; value = m .count }
 
 -- a frame of a machine
 abbrev pub frameOf : Machine → Frame.Frame → Frame
-frameOf m f = record { machine = m; address = f .address; function = f .function; fp = f .fp; sp = f .sp }
+frameOf m f = record { machine = m; address = f .address; function = f .function }
 
 -- The answers of the questions, field by field.
 

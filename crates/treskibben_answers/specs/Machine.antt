@@ -22,6 +22,6 @@ machineOf n = cond (eqb n 0) Amd64 Aarch64
 abbrev pub ofMachine : ℕ → List ℕ → Move → Move
 ofMachine n s m = need (machineKnown n) (ask refusedMove (refusedMove 33 0) (sectionCheck s)) m
 
--- and leaves the image as lent
-abbrev pub imageOf : ℕ → List ℕ → List ℕ → List ℕ
-imageOf n im moved = cond (machineKnown n) moved im
+-- and leaves the image and the registers as lent
+abbrev pub leftOf : ℕ → List ℕ → List ℕ → List ℕ
+leftOf n lent moved = cond (machineKnown n) moved lent

@@ -5,13 +5,16 @@ ghost use Rattle.questions.specs.Questions.{signed, ask};
 ghost use Rattle.moves.specs.Settle.{refusedMove};
 ghost use Rattle.treskibben_answers.specs.Machine.{machineOf};
 ghost use Rattle.treskibben_answers.specs.Version.{version};
+ghost use Prim.Native.Nat.{_≤_};
+ghost use Rattle.moves.specs.Limits.{pairsMost};
+ghost use Rattle.relocate.specs.Restore as spec;
 use stackmap::Verdict;
 
 // The number of the interface.
 pub fn version() -> u32
     ensures { λ r. ⌜ r ≡ version ⌝ }
 {
-    2
+    3
 }
 
 // A refusal's number and place, or 0 and 0 and the value that the call is for.
@@ -182,13 +185,10 @@ pub fn unknown_machine(v: Verdict) -> Answer
     }
 }
 
-// A frame: an address, and what the frame pointer and the stack pointer hold. For version 1 the address is the offset in the function with the
-// number `function`, which is not read for version 3.
+// A frame: an address. For version 1 it is the offset in the function with the number `function`, which is not read for version 3.
 #[repr(C)]
 pub struct Frame {
     pub address: u64,
-    pub fp: u64,
-    pub sp: u64,
     pub function: u64,
 }
 
@@ -199,8 +199,18 @@ pub fn frame_of(machine: relocate::Machine, f: Frame) -> relocate::Frame
         machine,
         address: f.address,
         function: f.function,
-        fp: f.fp,
-        sp: f.sp,
+    }
+}
+
+// Settings that allow everything to a frame of this machine.
+pub fn everything(machine: relocate::Machine) -> relocate::Settings
+    ensures { λ r. ⌜ (r ≡ spec.everything machine) × (r .most ≤ pairsMost) ⌝ }
+{
+    relocate::Settings {
+        most: moves::PAIRS_MOST,
+        machine,
+        version1: true,
+        version3: true,
     }
 }
 
