@@ -1,4 +1,5 @@
-use mathlib.Core.Path.{sym, _∙_}
+use mathlib.Core.Path.{sym, ap, _∙_}
+use mathlib.Core.Bool.{not}
 use native.Mathlib.Omega.{arith}
 use borrow.Author.Tests.{eq-eqb, ne-eqb, lt-ltb, le-ltb}
 use borrow.Author.Needs.{needs}
@@ -50,8 +51,7 @@ returns-4 c =
       sym (b .before .register-size .ensures) ∙ b .if2 .taken,
       eq-eqb (a .l .offset) 0 (omega arith),
       lt-ltb (a .l .register) (generalRegisters (a .machine)) (omega (arith, g .general-registers .ensures)),
-      ← c .is-frame-or-stack .ensures,
-    )
+    ) (ap not (c .is-frame-or-stack .ensures))
 
 returns-5 : tie.Need-returns-5
 unfolding isRegisterSlot
