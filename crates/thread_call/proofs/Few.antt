@@ -19,11 +19,12 @@ use Rattle.moves.specs.Table.{tableRight, lookUp}
 use Rattle.moves.specs.Window.{part}
 use Rattle.moves.specs.Plan.{Plan, refuse, window, says}
 use Rattle.moves.proofs.Order.{settled-most}
-use Rattle.relocate.specs.declared.Frame.{Frame}
+use Rattle.relocate.specs.declared.Cursor.{Cursor}
 use Rattle.relocate.specs.Restore.{Restore}
+use Rattle.relocate.specs.Stopped.{Stopped, registersRight, cursor}
 use Rattle.relocate.specs.Statepoint.{isStatepoint, Pair, pairs, pointersOf}
 use Rattle.relocate.specs.Plan.{recordsOf, only, every, imageRight, extentRight, stackSize, planPairs, planRecord, plan}
-use Rattle.relocate.specs.Relocation.{noRegisters, answer}
+use Rattle.relocate.specs.Relocation.{answer}
 
 module _ (R : Restore) where
   -- a plan with so few pointers
@@ -55,7 +56,7 @@ module _ (R : Restore) where
   ask-few (Valid e) k h = h
   ask-few (Refused n p) k h = tt
 
-  pairs-few : (f : Frame) (size : ℕ) (ps : List Pair) → Few (planPairs R f size ps)
+  pairs-few : (f : Cursor) (size : ℕ) (ps : List Pair) → Few (planPairs R f size ps)
   unfolding planPairs
   pairs-few f size ps =
       let old = isOld (R .section) in
@@ -63,22 +64,23 @@ module _ (R : Restore) where
       need-few (not old || leb (length ps) (R .most)) 17 _ (λ a. every-few _ 18 0 ps _
       (need-few (leb (length (flatten pss)) (R .most)) 17 _ (λ b. every-few _ 19 0 ps _ (leb-true (length (flatten pss)) (R .most) b))))
 
-  record-few : (n : ℕ) (f : Frame) (size : ℕ) (r : Record) → Few (planRecord R n f size r)
+  record-few : (n : ℕ) (f : Cursor) (size : ℕ) (r : Record) → Few (planRecord R n f size r)
   unfolding planRecord
   record-few n f size r =
       need-few (isStatepoint r) 12 _ (λ a. need-few (extentRight (R .first) n (f .sp) size) 16 _ (λ b. pairs-few f size (pairs r)))
 
-  plan-few : (n : ℕ) (f : Frame) → Few (plan R n f)
+  plan-few : (n : ℕ) (f : Stopped) → Few (plan R n f)
   unfolding plan
   plan-few n f =
       ask-few (sectionCheck (R .section)) _
       (need-few (imageRight (R .first) n) 13 _ (λ a. need-few (tableRight (R .olds) (R .news)) 14 _ (λ b.
-      only-few (recordsOf (R .section) f) _ (λ e. record-few n f (stackSize e) (e .body)))))
+      need-few (registersRight (f .registers)) 25 _ (λ d.
+      only-few (recordsOf (R .section) (f .frame)) _ (λ e. record-few n (cursor f) (stackSize e) (e .body))))))
 
   says-few : (table : ℕ → Option ℕ) (im rs : List ℕ) (p : Plan) → Few p → says table im rs p .count ≤ R .most
   says-few table im rs (refuse n q) h = omega arith
   says-few table im rs (window off size pss) h = omega (arith, settled-most table (flatten pss) (state (part im off size) rs))
 
-  pub answer-few : (im : List ℕ) (f : Frame) → answer R im f .count ≤ R .most
+  pub answer-few : (im : List ℕ) (f : Stopped) → answer R im f .count ≤ R .most
   unfolding answer
-  answer-few im f = says-few (lookUp (R .olds) (R .news)) im noRegisters (plan R (length im) f) (plan-few (length im) f)
+  answer-few im f = says-few (lookUp (R .olds) (R .news)) im (f .registers) (plan R (length im) f) (plan-few (length im) f)

@@ -2,7 +2,7 @@
 use Prim.Native.Nat.{ℕ, zero, suc, _+_, _*_, _/_, _≤_, _<_}
 use mathlib.Core.Path.{_≡_, refl, sym, ap, _∙_}
 use mathlib.Core.Bool.{Bool, true, false, cond}
-use mathlib.Core.List.{List, [], _∷_, map, List·Memᴰ, List·Memᴰ·head, List·Memᴰ·tail}
+use mathlib.Core.List.{List, [], _∷_, map, flatten, List·Memᴰ, List·Memᴰ·head, List·Memᴰ·tail}
 use native.Mathlib.Omega.{arith}
 use native.Mathlib.Decide.{ℕ-discrete}
 use borrow.Author.Tests.{ne-eqb, lt-ltb, le-ltb}
@@ -18,29 +18,29 @@ use Rattle.questions.specs.Questions.{ask}
 use Rattle.moves.specs.declared.Move.{Move}
 use Rattle.moves.specs.Table.{tableRight}
 use Rattle.moves.specs.Settle.{refusedMove, acceptedMove}
-use Rattle.relocate.specs.declared.Frame.{Frame}
 use Rattle.relocate.specs.Restore.{Restore}
+use Rattle.relocate.specs.Stopped.{Stopped}
 use Rattle.relocate.specs.Plan.{imageRight}
 use Rattle.relocate.specs.Relocation.{answer, extentOf}
-use Rattle.relocate.specs.Lists.{final}
-use Rattle.thread.specs.Thread.{Thread, listRight, frameAt, framesFrom, framesOf, passes, apart, judged, pointersIn, threadAnswer, threadImage}
-use Rattle.thread.specs.Code.{Holding, Counted, EachSited, Threads, framesAnswer, framesImage}
-use Rattle.thread.proofs.OneInstant.{judged-tells, judged-passes}
+use Rattle.relocate.specs.Lists.{final, finalRegisters}
+use Rattle.thread.specs.Thread.{Thread, listRight, stoppedAt, framesFrom, framesOf, passes, apart, judged, pointersIn, threadAnswer, threadImage, threadRegisters}
+use Rattle.thread.specs.Code.{Holding, Counted, EachSited, Threads, framesAnswer, framesImage, framesRegisters, Framed}
+use Rattle.thread.proofs.Judged.{judged-tells, judged-passes}
 use Rattle.thread_call.proofs.Sited.{accepted-sited}
 
 -- a frame of the list, by its position
-frame-in : (ns : Thread) (n i k : ℕ) → i ≤ k → k < i + n → List·Memᴰ (frameAt ns k) (framesFrom ns n i)
+frame-in : (ns : Thread) (n i k : ℕ) → i ≤ k → k < i + n → List·Memᴰ (stoppedAt ns k) (framesFrom ns n i)
 frame-in ns zero i k a b = absurd (omega arith)
 frame-in ns (suc n) i k a b = go (frame-in ns n (suc i) k) (ℕ-discrete i k)
   where
-    go : (suc i ≤ k → k < suc i + n → List·Memᴰ (frameAt ns k) (framesFrom ns n (suc i))) → Dec (i ≡ k)
-        → List·Memᴰ (frameAt ns k) (framesFrom ns (suc n) i)
-    go rest (yes e) = let g : frameAt ns k ≡ frameAt ns i = ap (frameAt ns) (sym e) in List·Memᴰ·head g
+    go : (suc i ≤ k → k < suc i + n → List·Memᴰ (stoppedAt ns k) (framesFrom ns n (suc i))) → Dec (i ≡ k)
+        → List·Memᴰ (stoppedAt ns k) (framesFrom ns (suc n) i)
+    go rest (yes e) = let g : stoppedAt ns k ≡ stoppedAt ns i = ap (stoppedAt ns) (sym e) in List·Memᴰ·head g
     go rest (no d) = List·Memᴰ·tail (rest (omega arith) (omega arith))
 
 module _ (R : Restore) (im : List ℕ) where
   -- a refused frame ends the call, whatever would follow
-  judged-ends : (i : ℕ) (fs : List Frame) (k k′ : Move) → k .number ≡ 0 → (judged R im i fs k .number ≡ 0 → ⊥)
+  judged-ends : (i : ℕ) (fs : List Stopped) (k k′ : Move) → k .number ≡ 0 → (judged R im i fs k .number ≡ 0 → ⊥)
       → judged R im i fs k ≡ judged R im i fs k′
   unfolding judged passes
   judged-ends i [] k k′ z h = absurd (h z)
@@ -54,16 +54,18 @@ module _ (R : Restore) (im : List ℕ) where
       go rest true e g = rest g
       go rest false e g = refl
 
-  module _ (fs : List Frame) (r : Move) (e : r ≡ judged R im 0 fs (acceptedMove (pointersIn R im fs))) where
-    pub frames-refused : (r .number ≡ 0 → ⊥) → (r ≡ framesAnswer R im fs) × (im ≡ framesImage R im fs)
-    unfolding framesAnswer framesImage
-    frames-refused h =
-        let a : r ≡ judged R im 0 fs (apart 0 [] (map (extentOf (R .section)) fs) (acceptedMove (pointersIn R im fs))) =
-        e ∙ judged-ends 0 fs _ _ refl (rw e at h) in
-        (a, rw (← a, ne-eqb (r .number) 0 h))
+  module _ (fs : List Stopped) (rs : List ℕ) (r : Move) (e : r ≡ judged R im 0 fs (acceptedMove (pointersIn R im fs))) where
+    -- a refusal leaves image and registers as lent
+    refused-framed : (q : Move) {after after-rs : List ℕ} → (q .number ≡ 0 → ⊥) → q ≡ framesAnswer R im fs → after ≡ im → after-rs ≡ rs → Framed R im fs rs q after after-rs
+    unfolding framesImage framesRegisters
+    refused-framed q h a x y = record { answer-is = a; image-is = x ∙ rw (← a, ne-eqb (q .number) 0 h); registers-is = y ∙ rw (← a, ne-eqb (q .number) 0 h) }
+
+    pub frames-refused : {after after-rs : List ℕ} → (r .number ≡ 0 → ⊥) → after ≡ im → after-rs ≡ rs → Framed R im fs rs r after after-rs
+    unfolding framesAnswer
+    frames-refused h x y = refused-framed r h (e ∙ judged-ends 0 fs _ _ refl (rw e at h)) x y
 
     module _ (z : r .number ≡ 0) where
-      each : (f : Frame) → List·Memᴰ f fs → answer R im f .number ≡ 0
+      each : (f : Stopped) → List·Memᴰ f fs → answer R im f .number ≡ 0
       each = judged-tells R im 0 fs _ (rw e at z) .0
 
       pub r-is : r ≡ acceptedMove (pointersIn R im fs)
@@ -74,57 +76,59 @@ module _ (R : Restore) (im : List ℕ) where
       answer-is = judged-passes R im 0 fs _ each
 
       module _ (n : ℕ) (p : ℕ) (q : (m : Move) → apart 0 [] (map (extentOf (R .section)) fs) m ≡ cond (ltb p n) (refusedMove 26 p) m) where
-        pub frames-26 : p < n → (refusedMove 26 p ≡ framesAnswer R im fs) × (im ≡ framesImage R im fs)
-        unfolding framesImage
-        frames-26 l =
+        pub frames-26 : {after after-rs : List ℕ} → p < n → after ≡ im → after-rs ≡ rs → Framed R im fs rs (refusedMove 26 p) after after-rs
+        frames-26 l x y =
             let a : framesAnswer R im fs ≡ refusedMove 26 p = answer-is ∙ q _ ∙ rw (lt-ltb p n l) in
-            (sym a, rw a)
+            refused-framed (refusedMove 26 p) (λ z. omega arith) (sym a) x y
 
-        pub frames-moved : n ≤ p → (r ≡ framesAnswer R im fs) × (final R fs im ≡ framesImage R im fs)
-        unfolding framesImage
-        frames-moved l =
+        pub frames-moved : {after after-rs : List ℕ} → n ≤ p → after ≡ final R fs im → after-rs ≡ flatten (finalRegisters R fs im) → Framed R im fs rs r after after-rs
+        unfolding framesImage framesRegisters
+        frames-moved l x y =
             let a : framesAnswer R im fs ≡ acceptedMove (pointersIn R im fs) = answer-is ∙ q _ ∙ rw (le-ltb p n l) in
-            (r-is ∙ sym a, rw a)
+            record { answer-is = r-is ∙ sym a; image-is = x ∙ rw a; registers-is = y ∙ rw a }
 
   pub each-sited : Accepted (R .section) → imageRight (R .first) (length im) ≡ true → (ns : Thread) (n : ℕ) (r : Move)
       → r ≡ judged R im 0 (framesFrom ns n 0) (acceptedMove (pointersIn R im (framesFrom ns n 0))) → r .number ≡ 0 → EachSited (R .section) ns n
   each-sited k i ns n r e z =
-      record { at = λ j l. accepted-sited R im (frameAt ns j) k i (each (framesFrom ns n 0) r e z _ (frame-in ns n 0 j (omega arith) (omega arith))) }
+      record { at = λ j l. accepted-sited R im (stoppedAt ns j) k i (each (framesFrom ns n 0) (ns .registers) r e z _ (frame-in ns n 0 j (omega arith) (omega arith))) }
 
   -- The stages before the frames.
 
   module _ (ns : Thread) where
-    refused-threads : (n p : ℕ) → (n ≡ 0 → ⊥) → threadAnswer R im ns ≡ refusedMove n p → Threads R im ns (refusedMove n p) im
-    unfolding threadImage
-    refused-threads n p h e = record { answer-is = sym e; image-is = rw (e, ne-eqb n 0 h) }
+    refused-threads : (n p : ℕ) → (n ≡ 0 → ⊥) → threadAnswer R im ns ≡ refusedMove n p → Threads R im ns (refusedMove n p) im (ns .registers)
+    unfolding threadImage threadRegisters
+    refused-threads n p h e = record { answer-is = sym e; image-is = rw (e, ne-eqb n 0 h); registers-is = rw (e, ne-eqb n 0 h) }
 
-    pub thread-section : (n p : ℕ) → sectionCheck (R .section) ≡ Refused n p → Threads R im ns (refusedMove n p) im
+    pub thread-section : (n p : ℕ) → sectionCheck (R .section) ≡ Refused n p → Threads R im ns (refusedMove n p) im (ns .registers)
     unfolding threadAnswer ask
     thread-section n p h =
         let a = (rw h at (section-numbered (R .section))) .above in
         refused-threads n p (λ z. omega arith) (rw h)
 
     module _ (k : Accepted (R .section)) where
-      pub thread-13 : imageRight (R .first) (length im) ≡ false → Threads R im ns (refusedMove 13 0) im
+      pub thread-13 : imageRight (R .first) (length im) ≡ false → Threads R im ns (refusedMove 13 0) im (ns .registers)
       unfolding threadAnswer ask
       thread-13 h = refused-threads 13 0 (λ z. omega arith) (rw (k, h))
 
       module _ (i : imageRight (R .first) (length im) ≡ true) where
-        pub thread-14 : tableRight (R .olds) (R .news) ≡ false → Threads R im ns (refusedMove 14 0) im
+        pub thread-14 : tableRight (R .olds) (R .news) ≡ false → Threads R im ns (refusedMove 14 0) im (ns .registers)
         unfolding threadAnswer ask
         thread-14 h = refused-threads 14 0 (λ z. omega arith) (rw (k, i, h))
 
         module _ (t : tableRight (R .olds) (R .news) ≡ true) where
-          pub thread-25 : listRight (ns .list) ≡ false → Threads R im ns (refusedMove 25 0) im
+          pub thread-25 : listRight (ns .list) (ns .registers) ≡ false → Threads R im ns (refusedMove 25 0) im (ns .registers)
           unfolding threadAnswer ask
           thread-25 h = refused-threads 25 0 (λ z. omega arith) (rw (k, i, t, h))
 
-          pub thread-frames : (n : ℕ) (r : Move) (after : List ℕ) → listRight (ns .list) ≡ true → n ≡ length (ns .list) / 4
-              → (r ≡ framesAnswer R im (framesFrom ns n 0)) × (after ≡ framesImage R im (framesFrom ns n 0))
-              → Threads R im ns r after
-          unfolding threadAnswer threadImage framesAnswer framesImage framesOf ask
-          thread-frames n r after h e q =
-              record { answer-is = q .0 ∙ rw (k, i, t, h, ← e); image-is = q .1 ∙ rw (k, i, t, h, ← e) }
+          pub thread-frames : (n : ℕ) (r : Move) (after after-rs : List ℕ) → listRight (ns .list) (ns .registers) ≡ true → n ≡ length (ns .list) / 2
+              → Framed R im (framesFrom ns n 0) (ns .registers) r after after-rs → Threads R im ns r after after-rs
+          unfolding threadAnswer threadImage threadRegisters framesAnswer framesImage framesRegisters framesOf ask
+          thread-frames n r after after-rs h e q =
+              record {
+                answer-is = q .answer-is ∙ rw (k, i, t, h, ← e);
+                image-is = q .image-is ∙ rw (k, i, t, h, ← e);
+                registers-is = q .registers-is ∙ rw (k, i, t, h, ← e);
+              }
 
 -- The section is accepted where its check is valid.
 pub valid-accepted : (s : List ℕ) (e : ℕ) → Valid e ≡ sectionCheck s → Accepted s

@@ -1,27 +1,31 @@
 // The frames of the list, one after another: all are judged before any is moved.
-// No entry point: it requires that 1 to 9, 13 and 14 have passed and the frames' records are found.
+// No entry point: it requires that 1 to 9, 13, 14 and 25 have passed and the frames' records are found.
 ghost use mathlib.Core.Path.{_≡_};
+ghost use mathlib.Core.List.{flatten};
 ghost use Prim.Native.Nat.{_<_};
 ghost use lib.ListN.{length};
 ghost use Rattle.moves.specs.Settle.{acceptedMove};
-ghost use Rattle.relocate.specs.Restore.{restore};
+ghost use Rattle.relocate.specs.Restore.{restoreAll};
 ghost use Rattle.relocate.specs.Relocation.{answer};
-ghost use Rattle.relocate.specs.Lists.{final};
-ghost use Rattle.thread.specs.Thread.{frameAt, framesFrom, judged, pointersIn};
+ghost use Rattle.relocate.specs.Lists.{final, finalRegisters};
+ghost use Rattle.thread.specs.Thread.{stoppedAt, framesFrom, judged, pointersIn};
 ghost use Rattle.thread.specs.Thread.{threadOf};
-ghost use Rattle.thread.specs.Code.{Ready, movedIf};
+ghost use Rattle.thread.specs.Code.{Ready, movedIf, registersIf};
 use moves::Move;
+use moves::PAIRS_MOST;
 use relocate::Machine;
+use relocate::REGISTERS;
 use relocate_frame::moving;
 use thread::FRAMES_MOST;
 use thread_search::list;
 use thread_search::search;
 use thread_search::search::HITS_LENGTH;
 
-// The frame at the position k: moved, or only judged.
+// The frame at the position k, with its own registers: moved, or only judged.
 fn settle_frame(
     s: &[u8],
     image: &mut [u8],
+    registers: &mut [u64],
     first: u64,
     olds: &[u64],
     news: &[u64],
@@ -33,19 +37,34 @@ fn settle_frame(
     k: usize,
     write: bool,
 ) -> Move
-    requires { ⌜ Ready (restore (now s) (now olds) (now news) first) (length (now image)) (now frames) count (now keys) (now hits) × (k < count) ⌝ }
-    ensures { λ r. ⌜ (r ≡ answer (restore (now (s .entry)) (now (olds .entry)) (now (news .entry)) first) (now (image .entry)) (frameAt (threadOf machine (now (frames .entry))) k))
-        × (now (image .exit) ≡ movedIf write (restore (now (s .entry)) (now (olds .entry)) (now (news .entry)) first) (now (image .entry)) (frameAt (threadOf machine (now (frames .entry))) k)) ⌝ }
+    requires { ⌜ Ready (restoreAll (now s) (now olds) (now news) first) (length (now image)) (length (now registers)) (now frames) count (now keys) (now hits) × (k < count) ⌝ }
+    ensures { λ r. ⌜ (r ≡ answer (restoreAll (now (s .entry)) (now (olds .entry)) (now (news .entry)) first) (now (image .entry)) (stoppedAt (threadOf machine (now (frames .entry)) (now (registers .entry))) k))
+        × (now (image .exit) ≡ movedIf write (restoreAll (now (s .entry)) (now (olds .entry)) (now (news .entry)) first) (now (image .entry)) (threadOf machine (now (frames .entry)) (now (registers .entry))) k)
+        × (now (registers .exit) ≡ registersIf write (restoreAll (now (s .entry)) (now (olds .entry)) (now (news .entry)) first) (now (image .entry)) (threadOf machine (now (frames .entry)) (now (registers .entry))) k) ⌝ }
 {
     let frame = list::frame_at(machine, frames, k);
     let found = search::of_frame(s, keys, count, hits, frame);
-    moving::move_found(s, found, image, first, olds, news, frame, write)
+    let p = REGISTERS * k;
+    let at = relocate_frame::cursor(frame, &registers[p..p + REGISTERS]);
+    moving::move_found(
+        s,
+        found,
+        image,
+        &mut registers[p..p + REGISTERS],
+        first,
+        olds,
+        news,
+        at,
+        write,
+        PAIRS_MOST,
+    )
 }
 
 // The first refused frame's number with its position, or the sum of the pointers.
 pub fn judge(
     s: &[u8],
     image: &mut [u8],
+    registers: &mut [u64],
     first: u64,
     olds: &[u64],
     news: &[u64],
@@ -55,9 +74,9 @@ pub fn judge(
     keys: &[u64; FRAMES_MOST],
     hits: &[usize; HITS_LENGTH],
 ) -> Move
-    requires { ⌜ Ready (restore (now s) (now olds) (now news) first) (length (now image)) (now frames) count (now keys) (now hits) ⌝ }
-    ensures { λ r. ⌜ (r ≡ judged (restore (now (s .entry)) (now (olds .entry)) (now (news .entry)) first) (now (image .entry)) 0 (framesFrom (threadOf machine (now (frames .entry))) count 0) (acceptedMove (pointersIn (restore (now (s .entry)) (now (olds .entry)) (now (news .entry)) first) (now (image .entry)) (framesFrom (threadOf machine (now (frames .entry))) count 0))))
-        × (now (image .exit) ≡ now (image .entry)) ⌝ }
+    requires { ⌜ Ready (restoreAll (now s) (now olds) (now news) first) (length (now image)) (length (now registers)) (now frames) count (now keys) (now hits) ⌝ }
+    ensures { λ r. ⌜ (r ≡ judged (restoreAll (now (s .entry)) (now (olds .entry)) (now (news .entry)) first) (now (image .entry)) 0 (framesFrom (threadOf machine (now (frames .entry)) (now (registers .entry))) count 0) (acceptedMove (pointersIn (restoreAll (now (s .entry)) (now (olds .entry)) (now (news .entry)) first) (now (image .entry)) (framesFrom (threadOf machine (now (frames .entry)) (now (registers .entry))) count 0))))
+        × (now (image .exit) ≡ now (image .entry)) × (now (registers .exit) ≡ now (registers .entry)) ⌝ }
 {
     let mut sum: usize = 0;
     let mut k: usize = 0;
@@ -65,6 +84,7 @@ pub fn judge(
         let m = settle_frame(
             s,
             image,
+            registers,
             first,
             olds,
             news,
@@ -89,10 +109,11 @@ pub fn judge(
     }
 }
 
-// Moves one frame after another, in the list's order.
+// Moves one frame after another, in the list's order, each in its own registers.
 pub fn move_all(
     s: &[u8],
     image: &mut [u8],
+    registers: &mut [u64],
     first: u64,
     olds: &[u64],
     news: &[u64],
@@ -102,14 +123,16 @@ pub fn move_all(
     keys: &[u64; FRAMES_MOST],
     hits: &[usize; HITS_LENGTH],
 )
-    requires { ⌜ Ready (restore (now s) (now olds) (now news) first) (length (now image)) (now frames) count (now keys) (now hits) ⌝ }
-    ensures { λ r. ⌜ now (image .exit) ≡ final (restore (now (s .entry)) (now (olds .entry)) (now (news .entry)) first) (framesFrom (threadOf machine (now (frames .entry))) count 0) (now (image .entry)) ⌝ }
+    requires { ⌜ Ready (restoreAll (now s) (now olds) (now news) first) (length (now image)) (length (now registers)) (now frames) count (now keys) (now hits) ⌝ }
+    ensures { λ r. ⌜ (now (image .exit) ≡ final (restoreAll (now (s .entry)) (now (olds .entry)) (now (news .entry)) first) (framesFrom (threadOf machine (now (frames .entry)) (now (registers .entry))) count 0) (now (image .entry)))
+        × (now (registers .exit) ≡ flatten (finalRegisters (restoreAll (now (s .entry)) (now (olds .entry)) (now (news .entry)) first) (framesFrom (threadOf machine (now (frames .entry)) (now (registers .entry))) count 0) (now (image .entry)))) ⌝ }
 {
     let mut next: usize = 0;
     while next < count {
         settle_frame(
             s,
             image,
+            registers,
             first,
             olds,
             news,

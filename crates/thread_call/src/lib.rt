@@ -1,12 +1,12 @@
-// A whole thread in one call: all frames move, or none does.
+// A whole thread in one call: all frames move, with their registers, or none does.
 ghost use mathlib.Core.Path.{_≡_};
 ghost use mathlib.Core.Bool.{true};
 ghost use Prim.Native.Nat.{_/_};
 ghost use lib.ListN.{length};
-ghost use Rattle.relocate.specs.Restore.{restore};
+ghost use Rattle.relocate.specs.Restore.{restoreAll};
 ghost use Rattle.thread.specs.Thread.{frameNumbers, listRight, framesFrom};
 ghost use Rattle.thread.specs.Thread.{threadOf};
-ghost use Rattle.thread.specs.Code.{Looked, Ready, Threads, framesAnswer, framesImage};
+ghost use Rattle.thread.specs.Code.{Looked, Ready, Threads, Framed};
 use moves::Move;
 use moves_table::table;
 use relocate::Machine;
@@ -24,6 +24,7 @@ mod frames;
 fn move_frames(
     s: &[u8],
     image: &mut [u8],
+    registers: &mut [u64],
     first: u64,
     olds: &[u64],
     news: &[u64],
@@ -33,13 +34,13 @@ fn move_frames(
     keys: &[u64; FRAMES_MOST],
     hits: &[usize; search::HITS_LENGTH],
 ) -> Move
-    requires { ⌜ Ready (restore (now s) (now olds) (now news) first) (length (now image)) (now list) count (now keys) (now hits) ⌝ }
-    ensures { λ r. ⌜ (r ≡ framesAnswer (restore (now (s .entry)) (now (olds .entry)) (now (news .entry)) first) (now (image .entry)) (framesFrom (threadOf machine (now (list .entry))) count 0))
-        × (now (image .exit) ≡ framesImage (restore (now (s .entry)) (now (olds .entry)) (now (news .entry)) first) (now (image .entry)) (framesFrom (threadOf machine (now (list .entry))) count 0)) ⌝ }
+    requires { ⌜ Ready (restoreAll (now s) (now olds) (now news) first) (length (now image)) (length (now registers)) (now list) count (now keys) (now hits) ⌝ }
+    ensures { λ r. ⌜ Framed (restoreAll (now (s .entry)) (now (olds .entry)) (now (news .entry)) first) (now (image .entry)) (framesFrom (threadOf machine (now (list .entry)) (now (registers .entry))) count 0) (now (registers .entry)) r (now (image .exit)) (now (registers .exit)) ⌝ }
 {
     let judged = frames::judge(
         s,
         image,
+        registers,
         first,
         olds,
         news,
@@ -52,13 +53,14 @@ fn move_frames(
     if judged.number != 0 {
         return judged;
     }
-    let shared = thread_extents::first_shared(machine, s, list, count, keys, hits);
+    let shared = thread_extents::first_shared(machine, s, list, registers, count, keys, hits);
     if shared < count {
         return moving::refused(26, shared);
     }
     frames::move_all(
         s,
         image,
+        registers,
         first,
         olds,
         news,
@@ -75,6 +77,7 @@ fn move_frames(
 fn of_section(
     s: &[u8],
     image: &mut [u8],
+    registers: &mut [u64],
     first: u64,
     olds: &[u64],
     news: &[u64],
@@ -84,15 +87,16 @@ fn of_section(
     keys: &[u64; FRAMES_MOST],
     hits: &[usize; search::HITS_LENGTH],
 ) -> Move
-    requires { ⌜ Looked (now s) (now list) count (now keys) (now hits) × (listRight (now list) ≡ true → count ≡ length (now list) / frameNumbers) ⌝ }
-    ensures { λ r. ⌜ Threads (restore (now (s .entry)) (now (olds .entry)) (now (news .entry)) first) (now (image .entry)) (threadOf machine (now (list .entry))) r (now (image .exit)) ⌝ }
+    requires { ⌜ Looked (now s) (now list) count (now keys) (now hits) × (listRight (now list) (now registers) ≡ true → count ≡ length (now list) / frameNumbers) ⌝ }
+    ensures { λ r. ⌜ Threads (restoreAll (now (s .entry)) (now (olds .entry)) (now (news .entry)) first) (now (image .entry)) (threadOf machine (now (list .entry)) (now (registers .entry))) r (now (image .exit)) (now (registers .exit)) ⌝ }
 {
     if extent::image_right(first, image.len()) {
         if table::table_right(olds, news) {
-            if list::list_right(list) {
+            if list::list_right(list, registers) {
                 return move_frames(
                     s,
                     image,
+                    registers,
                     first,
                     olds,
                     news,
@@ -110,8 +114,9 @@ fn of_section(
     moving::refused(13, 0)
 }
 
-// Relocates the frames of a list, four numbers each, of this machine, in the stack image that starts at the address `first`: a refusal's number and
-// place, with the image as it was; or 0, 0 and the sum of the pointers, with each derived slot moved.
+// Relocates the frames of a list, two numbers each, of this machine, in the stack image that starts at the address `first` and in the list of
+// their registers, 32 numbers each: a refusal's number and place, with image and registers as they were; or 0, 0 and the sum of the pointers,
+// with each derived slot moved.
 pub fn relocate_thread(
     section: &[u8],
     image: &mut [u8],
@@ -120,10 +125,11 @@ pub fn relocate_thread(
     news: &[u64],
     machine: Machine,
     list: &[u64],
+    registers: &mut [u64],
 ) -> Move
-    ensures { λ r. ⌜ Threads (restore (now (section .entry)) (now (olds .entry)) (now (news .entry)) first) (now (image .entry)) (threadOf machine (now (list .entry))) r (now (image .exit)) ⌝ }
+    ensures { λ r. ⌜ Threads (restoreAll (now (section .entry)) (now (olds .entry)) (now (news .entry)) first) (now (image .entry)) (threadOf machine (now (list .entry)) (now (registers .entry))) r (now (image .exit)) (now (registers .exit)) ⌝ }
 {
-    let count = list::count(list);
+    let count = list::count(list, registers);
     let mut keys = [0u64; FRAMES_MOST];
     addresses::gather(list, count, &mut keys);
     let mut hits = [0usize; search::HITS_LENGTH];
@@ -132,6 +138,7 @@ pub fn relocate_thread(
         Verdict::Valid(_) => of_section(
             section,
             image,
+            registers,
             first,
             olds,
             news,

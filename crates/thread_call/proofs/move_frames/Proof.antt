@@ -1,59 +1,64 @@
-use mathlib.Core.Path.{sym, _∙_}
-use native.Mathlib.Omega.{arith}
-use Rattle.thread.specs.Thread.{framesFrom}
-use Rattle.relocate.specs.Restore.{restore}
-use Rattle.thread_call.proofs.Whole.{frames-refused, frames-26, frames-moved, each-sited}
-use Rattle.thread.specs.Thread.{threadOf}
 use borrow.Author.Needs.{needs}
 use Rattle.thread_call.proofs.move_frames.Statement.{statement}
 use Rattle.thread_call.proofs.move_frames.Tie as tie
+use Rattle.thread_call.proofs.move_frames.Reads as reads
+use Rattle.thread_call.proofs.move_frames.Lts as lts
+use Rattle.relocate_frame.proofs.moving.refused.Reads as refused-reads
+use Rattle.thread_call.proofs.frames.judge.Reads as judge-reads
+use Rattle.thread_call.proofs.frames.move_all.Reads as move-all-reads
+use Rattle.thread_extents.proofs.first_shared.Reads as first-shared-reads
 
+-- src/lib.rt:40:9
 judge-requires : tie.Need-judge-requires
 judge-requires c κs = search needs
 
+-- src/lib.rt:54:9
 same-length : tie.Need-same-length
-same-length c = rw (c .before .before .before .before .judge .ensures .1)
+same-length c = search needs
 
+-- src/lib.rt:54:9
+same-length-2 : tie.Need-same-length-2
+same-length-2 c = search needs
+
+-- src/lib.rt:54:9
 returns : tie.Need-returns
-returns c =
-    let q = c .before .before .before .before .before .before .before .before .before .before .before in
-    let a = q .args in
-    let o = frames-refused (restore (a .s .now) (a .olds .now) (a .news .now) (a .first)) (a .image .now) (framesFrom (threadOf (a .machine) (a .list .now)) (a .count) 0) (c .before .before .before .before .judge .result) (c .before .before .before .before .judge .ensures .0) (c .if1 .taken) in
-    (o .0, c .before .before .before .before .judge .ensures .1 ∙ o .1)
+returns c = ?
 
+-- src/lib.rt:56:9
 first-shared-requires : tie.Need-first-shared-requires
-first-shared-requires c κs =
-    let q = c .before .before .before .before .before .before .before .before .before .before .before in
-    let a = q .args in
-    (q .pre .looked, each-sited (restore (a .s .now) (a .olds .now) (a .news .now) (a .first)) (a .image .now) (q .pre .looked .section-right) (q .pre .image-right) (threadOf (a .machine) (a .list .now)) (a .count) (c .before .before .before .before .judge .result) (c .before .before .before .before .judge .ensures .0) (c .if1 .left))
+first-shared-requires c κs = ?
 
+-- src/lib.rt:58:9
 refused-requires : tie.Need-refused-requires
 refused-requires c κs = search needs
 
-same-length-2 : tie.Need-same-length-2
-same-length-2 c = rw (c .before .before .before .before .before .before .before .judge .ensures .1)
-
-returns-2 : tie.Need-returns-2
-returns-2 c =
-    let q = c .before .before .before .before .before .before .before .before .before .before .before .before .before .before in
-    let a = q .args in
-    let o = frames-26 (restore (a .s .now) (a .olds .now) (a .news .now) (a .first)) (a .image .now) (framesFrom (threadOf (a .machine) (a .list .now)) (a .count) 0) (c .before .before .before .before .before .before .before .judge .result) (c .before .before .before .before .before .before .before .judge .ensures .0) (c .before .before .before .if1 .left) (a .count) _ (c .before .before .first-shared .ensures .1) (c .before .if2 .taken) in
-    (c .refused .ensures ∙ o .0, c .before .before .before .before .before .before .before .judge .ensures .1 ∙ o .1)
-
-move-all-requires : tie.Need-move-all-requires
-move-all-requires c κs =
-    rw (c .before .before .before .before .before .before .before .judge .ensures .1) (c .before .before .before .before .before .before .before .before .before .before .before .before .before .before .pre)
-
+-- src/lib.rt:58:9
 same-length-3 : tie.Need-same-length-3
-same-length-3 c =
-    c .before .before .move-all .kept .1 .0 ∙ rw (c .before .before .before .before .before .before .before .before .before .before .judge .ensures .1)
+same-length-3 c = search needs
 
+-- src/lib.rt:58:9
+same-length-4 : tie.Need-same-length-4
+same-length-4 c = search needs
+
+-- src/lib.rt:58:9
+returns-2 : tie.Need-returns-2
+returns-2 c = ?
+
+-- src/lib.rt:60:5
+move-all-requires : tie.Need-move-all-requires
+move-all-requires c κs = ?
+
+-- src/lib.rt:24:1
+same-length-5 : tie.Need-same-length-5
+same-length-5 c = search needs
+
+-- src/lib.rt:24:1
+same-length-6 : tie.Need-same-length-6
+same-length-6 c = search needs
+
+-- src/lib.rt:24:1
 returns-3 : tie.Need-returns-3
-returns-3 c =
-    let q = c .before .before .before .before .before .before .before .before .before .before .before .before .before .before .before .before .before in
-    let a = q .args in
-    let o = frames-moved (restore (a .s .now) (a .olds .now) (a .news .now) (a .first)) (a .image .now) (framesFrom (threadOf (a .machine) (a .list .now)) (a .count) 0) (c .before .before .before .before .before .before .before .before .before .before .judge .result) (c .before .before .before .before .before .before .before .before .before .before .judge .ensures .0) (c .before .before .before .before .before .before .if1 .left) (a .count) _ (c .before .before .before .before .before .first-shared .ensures .1) (c .before .before .before .before .if2 .left) in
-    (o .0, c .before .before .move-all .ensures ∙ rw (c .before .before .before .before .before .before .before .before .before .before .judge .ensures .1) (o .1))
+returns-3 c = ?
 
 pub move-frames-spec : {M : Type 1} → statement M
 move-frames-spec =
@@ -61,11 +66,14 @@ move-frames-spec =
     (tie.spec
     judge-requires
     same-length
+    same-length-2
     returns
     first-shared-requires
     refused-requires
-    same-length-2
+    same-length-3
+    same-length-4
     returns-2
     move-all-requires
-    same-length-3
+    same-length-5
+    same-length-6
     returns-3)

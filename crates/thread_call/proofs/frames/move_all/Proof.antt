@@ -1,52 +1,55 @@
 use Prim.Native.Nat.{_-_}
 use native.Mathlib.Omega.{arith}
-use Rattle.relocate.specs.Restore.{restore}
-use Rattle.thread_call.proofs.Judging.{Moving, moving-start, moving-on, moving-end}
-use Rattle.thread.specs.Thread.{threadOf}
+use Rattle.relocate.specs.Restore.{restoreAll}
+use Rattle.thread_call.proofs.Moving.{Moving, moving-start, moving-on, moving-end}
 use borrow.Author.Needs.{needs}
 use Rattle.thread_call.proofs.frames.move_all.Statement.{statement}
 use Rattle.thread_call.proofs.frames.move_all.Tie as tie
 
 abbrev Inv-loop : tie.InvT-loop
-Inv-loop s image₀ first olds news machine frames count keys hits next₀ image next = Moving (restore s olds news first) image₀ (threadOf machine frames) count next image
+Inv-loop s image₀ registers₀ first olds news machine frames count keys hits next₀ image registers next =
+    Moving (restoreAll s olds news first) image₀ machine frames registers₀ count next image registers
 
 abbrev μ-loop : tie.MeasureT-loop
-μ-loop s image₀ first olds news machine frames count keys hits next₀ image next = count - next
+μ-loop s image₀ registers₀ first olds news machine frames count keys hits next₀ image registers next = count - next
 
 loop-holds : tie.Need-loop-holds Inv-loop μ-loop
 loop-holds c =
-    let q = c .before .before .before .before .before in
+    let q = c .before .before .before .before .before .before in
     let a = q .args in
-    moving-start (restore (a .s .now) (a .olds .now) (a .news .now) (a .first)) (a .image .now) (threadOf (a .machine) (a .frames .now)) (a .count)
+    moving-start (restoreAll (a .s .now) (a .olds .now) (a .news .now) (a .first)) (a .image .now) (a .machine) (a .frames .now) (a .registers .now) (a .count)
 
 settle-frame-requires : tie.Need-settle-frame-requires Inv-loop μ-loop
 settle-frame-requires c κs =
-    let q = c .before .before .before .before .before .before .before .before in
-    (rw (c .before .before .loop .inv .long) (q .pre), c .before .loop-test .taken)
+    let q = c .before .before .before .before .before .before .before .before .before .before in
+    let inv = c .before .before .before .loop .inv in
+    (rw (inv .long, inv .wide) (q .pre), c .before .before .loop-test .taken)
+
+loop-again : tie.Need-loop-again Inv-loop μ-loop
+loop-again c =
+    let q = c .before .before .before .before .before .before .before .before .before .before .before .before .before .before .before in
+    let a = q .args in
+    let m = c .before .before .before .before .settle-frame in
+    moving-on (restoreAll (a .s .now) (a .olds .now) (a .news .now) (a .first)) (a .image .now) (a .machine) (a .frames .now) (a .registers .now) (a .count) (q .pre .registers-right) (c .before .before .before .before .before .before .before .before .loop .inv) (c .before .before .before .before .before .before .before .loop-test .taken) (m .ensures .1) (m .ensures .2)
+    (m .kept .1 .0) (m .kept .1 .1 .0)
 
 add-next : tie.Need-add-next Inv-loop μ-loop
-add-next c =
-    let q = c .before .before .before .before .before .before .before .before .before .before .before in
-    let a = q .args in
-    omega (arith, c .before .before .before .before .before .loop .inv .most, q .pre .looked .most)
+add-next c = let q = c .before .before .before .before .before .before .before .before .before .before .before .before .before .before .before in omega (arith, c .before .before .before .before .before .before .before .before .loop .inv .most, q .pre .looked .most)
 
 loop-less : tie.Need-loop-less Inv-loop μ-loop
 loop-less c = search needs
 
-loop-again : tie.Need-loop-again Inv-loop μ-loop
-loop-again c =
-    let q = c .before .before .before .before .before .before .before .before .before .before .before in
-    let a = q .args in
-    moving-on (restore (a .s .now) (a .olds .now) (a .news .now) (a .first)) (a .image .now) (threadOf (a .machine) (a .frames .now)) (a .count) (c .before .before .before .before .before .loop .inv) (c .before .before .before .before .loop-test .taken) (c .before .before .settle-frame .ensures .1) (c .before .before .settle-frame .kept .1 .0)
-
 same-length : tie.Need-same-length Inv-loop μ-loop
 same-length c = c .before .loop .inv .long
 
+same-length-2 : tie.Need-same-length-2 Inv-loop μ-loop
+same-length-2 c = c .before .loop .inv .wide
+
 returns : tie.Need-returns Inv-loop μ-loop
 returns c =
-    let q = c .before .before .before .before .before .before .before in
+    let q = c .before .before .before .before .before .before .before .before in
     let a = q .args in
-    moving-end (restore (a .s .now) (a .olds .now) (a .news .now) (a .first)) (a .image .now) (threadOf (a .machine) (a .frames .now)) (a .count) (c .before .loop .inv) (c .loop-test .left)
+    moving-end (restoreAll (a .s .now) (a .olds .now) (a .news .now) (a .first)) (a .image .now) (a .machine) (a .frames .now) (a .registers .now) (a .count) (q .pre .registers-right) (c .before .loop .inv) (c .loop-test .left)
 
 pub move-all-spec : {M : Type 1} → statement M
 move-all-spec =
@@ -60,4 +63,5 @@ move-all-spec =
     loop-less
     loop-again
     same-length
+    same-length-2
     returns)
