@@ -1,64 +1,80 @@
+use native.Mathlib.Omega.{arith}
+use Rattle.relocate.specs.Restore.{restoreAll}
+use Rattle.thread.specs.Thread.{threadOf, framesFrom}
+use Rattle.thread_call.proofs.Whole.{frames-refused, frames-26, frames-moved, each-sited}
 use borrow.Author.Needs.{needs}
 use Rattle.thread_call.proofs.move_frames.Statement.{statement}
 use Rattle.thread_call.proofs.move_frames.Tie as tie
-use Rattle.thread_call.proofs.move_frames.Reads as reads
-use Rattle.thread_call.proofs.move_frames.Lts as lts
-use Rattle.relocate_frame.proofs.moving.refused.Reads as refused-reads
-use Rattle.thread_call.proofs.frames.judge.Reads as judge-reads
-use Rattle.thread_call.proofs.frames.move_all.Reads as move-all-reads
-use Rattle.thread_extents.proofs.first_shared.Reads as first-shared-reads
 
--- src/lib.rt:40:9
 judge-requires : tie.Need-judge-requires
 judge-requires c κs = search needs
 
--- src/lib.rt:54:9
 same-length : tie.Need-same-length
 same-length c = search needs
 
--- src/lib.rt:54:9
 same-length-2 : tie.Need-same-length-2
 same-length-2 c = search needs
 
--- src/lib.rt:54:9
 returns : tie.Need-returns
-returns c = ?
+returns c =
+    let q = c .before .before .before .before .before .before .before .before .before .before .before .before .before .before .before in
+    let a = q .args in
+    let R = restoreAll (a .s .now) (a .olds .now) (a .news .now) (a .first) in
+    let th = threadOf (a .machine) (a .list .now) (a .registers .now) in
+    let j = c .before .before .before .before .before .before .judge in
+    frames-refused R (a .image .now) (framesFrom th (a .count) 0) (a .registers .now) (j .result) (j .ensures .0) (c .if1 .taken) (j .ensures .1) (j .ensures .2)
 
--- src/lib.rt:56:9
 first-shared-requires : tie.Need-first-shared-requires
-first-shared-requires c κs = ?
+first-shared-requires c κs =
+    let q = c .before .before .before .before .before .before .before .before .before .before .before .before .before .before .before .before in
+    let a = q .args in
+    let R = restoreAll (a .s .now) (a .olds .now) (a .news .now) (a .first) in
+    let th = threadOf (a .machine) (a .list .now) (a .registers .now) in
+    let j = c .before .before .before .before .before .before .before .judge in
+    let e = each-sited R (a .image .now) (q .pre .looked .section-right) (q .pre .image-right) th (a .count) (j .result) (j .ensures .0) (c .before .if1 .left) in
+    (q .pre .looked, rw (j .ensures .2) (q .pre .registers-right), rw (j .ensures .2) e)
 
--- src/lib.rt:58:9
 refused-requires : tie.Need-refused-requires
 refused-requires c κs = search needs
 
--- src/lib.rt:58:9
 same-length-3 : tie.Need-same-length-3
 same-length-3 c = search needs
 
--- src/lib.rt:58:9
 same-length-4 : tie.Need-same-length-4
 same-length-4 c = search needs
 
--- src/lib.rt:58:9
 returns-2 : tie.Need-returns-2
-returns-2 c = ?
+returns-2 c =
+    let q = c .before .before .before .before .before .before .before .before .before .before .before .before .before .before .before .before .before .before .before in
+    let a = q .args in
+    let R = restoreAll (a .s .now) (a .olds .now) (a .news .now) (a .first) in
+    let th = threadOf (a .machine) (a .list .now) (a .registers .now) in
+    let j = c .before .before .before .before .before .before .before .before .before .before .judge in
+    let p = rw (j .ensures .2) at (c .before .before .first-shared .ensures .1) in
+    rw (c .refused .ensures)
+    (frames-26 R (a .image .now) (framesFrom th (a .count) 0) (a .registers .now) (j .result) (j .ensures .0) (c .before .before .before .before .if1 .left) (a .count) _ p (c .before .if2 .taken)
+    (j .ensures .1) (j .ensures .2))
 
--- src/lib.rt:60:5
 move-all-requires : tie.Need-move-all-requires
-move-all-requires c κs = ?
+move-all-requires c κs = let j = c .before .before .before .before .before .before .before .before .before .before .before .judge in rw (j .ensures .1, j .ensures .2) (c .before .before .before .before .before .before .before .before .before .before .before .before .before .before .before .before .before .before .before .before .pre)
 
--- src/lib.rt:24:1
 same-length-5 : tie.Need-same-length-5
 same-length-5 c = search needs
 
--- src/lib.rt:24:1
 same-length-6 : tie.Need-same-length-6
 same-length-6 c = search needs
 
--- src/lib.rt:24:1
 returns-3 : tie.Need-returns-3
-returns-3 c = ?
+returns-3 c =
+    let q = c .before .before .before .before .before .before .before .before .before .before .before .before .before .before .before .before .before .before .before .before .before .before .before .before .before in
+    let a = q .args in
+    let R = restoreAll (a .s .now) (a .olds .now) (a .news .now) (a .first) in
+    let th = threadOf (a .machine) (a .list .now) (a .registers .now) in
+    let j = c .before .before .before .before .before .before .before .before .before .before .before .before .before .before .before .before .judge in
+    let p = rw (j .ensures .2) at (c .before .before .before .before .before .before .before .before .first-shared .ensures .1) in
+    let m = rw (j .ensures .1, j .ensures .2) at (c .before .before .before .before .move-all .ensures) in
+    frames-moved R (a .image .now) (framesFrom th (a .count) 0) (a .registers .now) (j .result) (j .ensures .0) (c .before .before .before .before .before .before .before .before .before .before .if1 .left) (a .count) _ p (c .before .before .before .before .before .before .before .if2 .left)
+    (m .0) (m .1)
 
 pub move-frames-spec : {M : Type 1} → statement M
 move-frames-spec =

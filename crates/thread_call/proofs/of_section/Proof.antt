@@ -1,69 +1,87 @@
+use mathlib.Core.Path.{sym, _∙_}
+use Rattle.relocate.specs.Restore.{restoreAll}
+use Rattle.thread.specs.Thread.{threadOf}
+use Rattle.thread.proofs.Parts.{right-tells}
+use Rattle.thread_call.proofs.Whole.{thread-13, thread-14, thread-25, thread-frames}
 use borrow.Author.Needs.{needs}
 use Rattle.thread_call.proofs.of_section.Statement.{statement}
 use Rattle.thread_call.proofs.of_section.Tie as tie
-use Rattle.thread_call.proofs.of_section.Reads as reads
-use Rattle.thread_call.proofs.of_section.Lts as lts
-use Rattle.moves_table.proofs.table.table_right.Reads as table-right-reads
-use Rattle.relocate_frame.proofs.extent.image_right.Reads as image-right-reads
-use Rattle.relocate_frame.proofs.moving.refused.Reads as refused-reads
-use Rattle.thread_call.proofs.move_frames.Reads as move-frames-reads
-use Rattle.thread_search.proofs.list.list_right.Reads as list-right-reads
 
--- src/lib.rt:93:8
 image-right-requires : tie.Need-image-right-requires
 image-right-requires c κs = search needs
 
--- src/lib.rt:94:12
 table-right-requires : tie.Need-table-right-requires
 table-right-requires c κs = search needs
 
--- src/lib.rt:95:16
 list-right-requires : tie.Need-list-right-requires
 list-right-requires c κs = search needs
 
--- src/lib.rt:96:17
 move-frames-requires : tie.Need-move-frames-requires
-move-frames-requires c κs = ?
+move-frames-requires c κs =
+    let q = c .before .before .before .before .before .before .before .before .before .before .before .before .before .before .before in
+    let a = q .args in
+    let l = (sym (c .before .before .before .list-right .ensures) ∙ c .before .before .if3 .taken) in
+    record {
+      looked = q .pre .0;
+      image-right = (sym (c .before .before .before .before .before .before .before .before .image-right .ensures) ∙ c .before .before .before .before .before .before .before .if1 .taken);
+      table-right = (sym (c .before .before .before .before .before .before .table-right .ensures) ∙ c .before .before .before .before .before .if2 .taken);
+      registers-right = rw (q .pre .1 l) (right-tells (a .list .now) (a .registers .now) l .1);
+    }
 
--- src/lib.rt:96:17
 same-length : tie.Need-same-length
 same-length c = search needs
 
--- src/lib.rt:96:17
 same-length-2 : tie.Need-same-length-2
 same-length-2 c = search needs
 
--- src/lib.rt:96:17
 returns : tie.Need-returns
-returns c = ?
+returns c =
+    let q = c .before .before .before .before .before .before .before .before .before .before .before .before .before .before .before .before .before .before .before .before in
+    let a = q .args in
+    let R = restoreAll (a .s .now) (a .olds .now) (a .news .now) (a .first) in
+    let th = threadOf (a .machine) (a .list .now) (a .registers .now) in
+    let l = (sym (c .before .before .before .before .before .before .before .before .list-right .ensures) ∙ c .before .before .before .before .before .before .before .if3 .taken) in
+    thread-frames R (a .image .now) th (q .pre .0 .section-right) (sym (c .before .before .before .before .before .before .before .before .before .before .before .before .before .image-right .ensures) ∙ c .before .before .before .before .before .before .before .before .before .before .before .before .if1 .taken)
+    (sym (c .before .before .before .before .before .before .before .before .before .before .before .table-right .ensures) ∙ c .before .before .before .before .before .before .before .before .before .before .if2 .taken) (a .count) _ _ _ l (q .pre .1 l) (c .before .before .before .before .move-frames .ensures)
 
--- src/lib.rt:110:13
 refused-requires : tie.Need-refused-requires
 refused-requires c κs = search needs
 
--- src/lib.rt:110:13
 same-length-3 : tie.Need-same-length-3
 same-length-3 c = search needs
 
--- src/lib.rt:110:13
 returns-2 : tie.Need-returns-2
-returns-2 c = ?
+returns-2 c =
+    let q = c .before .before .before .before .before .before .before .before .before .before .before .before .before .before in
+    let a = q .args in
+    let R = restoreAll (a .s .now) (a .olds .now) (a .news .now) (a .first) in
+    let th = threadOf (a .machine) (a .list .now) (a .registers .now) in
+    rw (c .refused .ensures)
+    (thread-25 R (a .image .now) th (q .pre .0 .section-right) (sym (c .before .before .before .before .before .before .before .image-right .ensures) ∙ c .before .before .before .before .before .before .if1 .taken)
+    (sym (c .before .before .before .before .before .table-right .ensures) ∙ c .before .before .before .before .if2 .taken) (sym (c .before .before .list-right .ensures) ∙ c .before .if3 .left))
 
--- src/lib.rt:112:9
 refused-requires-2 : tie.Need-refused-requires-2
 refused-requires-2 c κs = search needs
 
--- src/lib.rt:112:9
 returns-3 : tie.Need-returns-3
-returns-3 c = ?
+returns-3 c =
+    let q = c .before .before .before .before .before .before .before .before .before .before .before in
+    let a = q .args in
+    let R = restoreAll (a .s .now) (a .olds .now) (a .news .now) (a .first) in
+    let th = threadOf (a .machine) (a .list .now) (a .registers .now) in
+    rw (c .refused2 .ensures)
+    (thread-14 R (a .image .now) th (q .pre .0 .section-right) (sym (c .before .before .before .before .image-right .ensures) ∙ c .before .before .before .if1 .taken) (sym (c .before .before .table-right .ensures) ∙ c .before .if2 .left))
 
--- src/lib.rt:114:5
 refused-requires-3 : tie.Need-refused-requires-3
 refused-requires-3 c κs = search needs
 
--- src/lib.rt:77:1
 returns-4 : tie.Need-returns-4
-returns-4 c = ?
+returns-4 c =
+    let q = c .before .before .before .before .before .before .before .before .before in
+    let a = q .args in
+    let R = restoreAll (a .s .now) (a .olds .now) (a .news .now) (a .first) in
+    let th = threadOf (a .machine) (a .list .now) (a .registers .now) in
+    rw (c .refused3 .ensures) (thread-13 R (a .image .now) th (q .pre .0 .section-right) (sym (c .before .before .image-right .ensures) ∙ c .before .if1 .left))
 
 pub of-section-spec : {M : Type 1} → statement M
 of-section-spec =

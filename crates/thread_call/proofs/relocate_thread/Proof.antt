@@ -1,59 +1,64 @@
+use mathlib.Core.Path.{sym, _∙_}
+use Rattle.relocate.specs.Restore.{restoreAll}
+use Rattle.thread.specs.Thread.{threadOf}
+use Rattle.thread_call.proofs.Whole.{thread-section, valid-accepted, blank-holds, blank-counted}
 use borrow.Author.Needs.{needs}
 use Rattle.thread_call.proofs.relocate_thread.Statement.{statement}
 use Rattle.thread_call.proofs.relocate_thread.Tie as tie
-use Rattle.thread_call.proofs.relocate_thread.Reads as reads
-use Rattle.thread_call.proofs.relocate_thread.Lts as lts
-use Rattle.relocate_frame.proofs.moving.refused.Reads as refused-reads
-use Rattle.thread_call.proofs.of_section.Reads as of-section-reads
-use Rattle.thread_search.proofs.addresses.gather.Reads as gather-reads
-use Rattle.thread_search.proofs.list.count.Reads as count-reads
-use Rattle.thread_search.proofs.search.find_all.Reads as find-all-reads
 
--- src/lib.rt:132:9
 count-requires : tie.Need-count-requires
 count-requires c κs = search needs
 
--- src/lib.rt:134:5
 gather-requires : tie.Need-gather-requires
 gather-requires c κs = search needs
 
--- src/lib.rt:136:11
 find-all-requires : tie.Need-find-all-requires
-find-all-requires c κs = ?
+find-all-requires c κs =
+    (c .before .before .before .before .count .ensures .1, c .before .before .gather .ensures .sorted, blank-holds _ _ 16384, blank-counted 16384)
 
--- src/lib.rt:137:26
 enum-known-n : tie.Need-enum-known-n
 enum-known-n c = search needs
 
--- src/lib.rt:137:35
 refused-requires : tie.Need-refused-requires
 refused-requires c κs = search needs
 
--- src/lib.rt:140:13
 enum-told : tie.Need-enum-told
 enum-told c = search needs
 
--- src/lib.rt:138:30
 of-section-requires : tie.Need-of-section-requires
-of-section-requires c κs = ?
+of-section-requires c κs =
+    let q = c .before .before .before .before .before .before .before .before .before .before .before .before .before .before .before .before .before .before .before in
+    let a = q .args in
+    let v = c .before .before .before .before .enum-told .given .1 in
+    let f = c .before .before .before .before .before .before .find-all .ensures in
+    let n = c .before .before .before .before .before .before .before .before .before .before .before .count .ensures in (
+      record {
+        section-right = valid-accepted (a .section .now) _ (sym v ∙ f .0);
+        room = n .0;
+        most = n .1;
+        gathered = c .before .before .before .before .before .before .before .before .before .gather .ensures;
+        found = f .1 _ v;
+      },
+      n .2,
+    )
 
--- src/lib.rt:120:1
 same-length : tie.Need-same-length
 same-length c = search needs
 
--- src/lib.rt:120:1
 returns : tie.Need-returns
-returns c = ?
+returns c =
+    let q = c .before .before .before .before .before .before .before .before .before .before .before .before .before .before .before .before .before in
+    let a = q .args in
+    rw (c .refused .ensures)
+    (thread-section (restoreAll (a .section .now) (a .olds .now) (a .news .now) (a .first)) (a .image .now) (threadOf (a .machine) (a .list .now) (a .registers .now)) _ _
+    (sym (c .before .before .before .before .find-all .ensures .0) ∙ c .before .before .n .given .1))
 
--- src/lib.rt:120:1
 same-length-2 : tie.Need-same-length-2
 same-length-2 c = search needs
 
--- src/lib.rt:120:1
 same-length-3 : tie.Need-same-length-3
 same-length-3 c = search needs
 
--- src/lib.rt:120:1
 returns-2 : tie.Need-returns-2
 returns-2 c = search needs
 
