@@ -16,11 +16,13 @@ use Rattle.questions.specs.Questions.{withAddress, notFound, firstOf}
 use Rattle.sorted.specs.Sorted.{Sorted, LowerBound, EntryOf}
 use Rattle.moves.specs.declared.Move.{Move}
 use Rattle.moves.specs.Search.{anyBelow}
+use Rattle.moves.specs.Limits.{pairsMost}
 use Rattle.moves.specs.Table.{tableRight}
 use Rattle.moves.specs.Window.{splice}
 use Rattle.moves.specs.Settle.{acceptedMove}
 use Rattle.relocate.specs.Limits.{registerCount}
-use Rattle.relocate.specs.Restore.{Restore}
+use Rattle.relocate.specs.declared.Machine.{Machine}
+use Rattle.relocate.specs.Restore.{Restore, allowed}
 use Rattle.relocate.specs.Stopped.{Stopped, registersRight, cursor}
 use Rattle.relocate.specs.Plan.{imageRight, stackSize}
 use Rattle.relocate.specs.Relocation.{moved, movedRegisters, OneRecord, extentOf}
@@ -82,8 +84,10 @@ pub record Looked (s ns : List ℕ) (count : ℕ) (keys hits : List ℕ) : Type 
   pub found : Sought s keys count hits
 
 -- All that a frame's move relies on: 13, 14 and 25 have passed too, of an image of `long` bytes and `wide` registers.
-pub record Ready (R : Restore) (long wide : ℕ) (ns : List ℕ) (count : ℕ) (keys hits : List ℕ) : Type 0 where
+pub record Ready (R : Restore) (machine : Machine) (long wide : ℕ) (ns : List ℕ) (count : ℕ) (keys hits : List ℕ) : Type 0 where
   pub looked : Looked (R .section) ns count keys hits
+  pub allowed-right : allowed R machine ≡ true
+  pub most-right : R .settings .most ≤ pairsMost
   pub image-right : imageRight (R .first) long ≡ true
   pub table-right : tableRight (R .olds) (R .news) ≡ true
   pub registers-right : wide ≡ registerCount * count

@@ -20,7 +20,7 @@ use Rattle.moves.specs.Window.{part}
 use Rattle.moves.specs.Plan.{Plan, refuse, window, says}
 use Rattle.moves.proofs.Order.{settled-most}
 use Rattle.relocate.specs.declared.Cursor.{Cursor}
-use Rattle.relocate.specs.Restore.{Restore}
+use Rattle.relocate.specs.Restore.{Restore, allowed}
 use Rattle.relocate.specs.Stopped.{Stopped, registersRight, cursor}
 use Rattle.relocate.specs.Statepoint.{isStatepoint, Pair, pairs, pointersOf}
 use Rattle.relocate.specs.Plan.{recordsOf, only, every, imageRight, extentRight, stackSize, planPairs, planRecord, plan}
@@ -30,7 +30,7 @@ module _ (R : Restore) where
   -- a plan with so few pointers
   abbrev Few : Plan → Type 0
   Few (refuse n p) = Unit {0}
-  Few (window off size pss) = length (flatten pss) ≤ R .most
+  Few (window off size pss) = length (flatten pss) ≤ R .settings .most
 
   need-few : (b : Bool) (n : ℕ) (k : Plan) → (b ≡ true → Few k) → Few (need b (refuse n 0) k)
   need-few true n k h = h refl
@@ -61,8 +61,8 @@ module _ (R : Restore) where
   pairs-few f size ps =
       let old = isOld (R .section) in
       let pss = map (pointersOf old (readSection (R .section) .constants) f) ps in
-      need-few (not old || leb (length ps) (R .most)) 17 _ (λ a. every-few _ 18 0 ps _
-      (need-few (leb (length (flatten pss)) (R .most)) 17 _ (λ b. every-few _ 19 0 ps _ (leb-true (length (flatten pss)) (R .most) b))))
+      need-few (not old || leb (length ps) (R .settings .most)) 17 _ (λ a. every-few _ 18 0 ps _
+      (need-few (leb (length (flatten pss)) (R .settings .most)) 17 _ (λ b. every-few _ 19 0 ps _ (leb-true (length (flatten pss)) (R .settings .most) b))))
 
   record-few : (n : ℕ) (f : Cursor) (size : ℕ) (r : Record) → Few (planRecord R n f size r)
   unfolding planRecord
@@ -73,14 +73,14 @@ module _ (R : Restore) where
   unfolding plan
   plan-few n f =
       ask-few (sectionCheck (R .section)) _
-      (need-few (imageRight (R .first) n) 13 _ (λ a. need-few (tableRight (R .olds) (R .news)) 14 _ (λ b.
+      (need-few (allowed R (f .frame .machine)) 33 _ (λ x. need-few (imageRight (R .first) n) 13 _ (λ a. need-few (tableRight (R .olds) (R .news)) 14 _ (λ b.
       need-few (registersRight (f .registers)) 25 _ (λ d.
-      only-few (recordsOf (R .section) (f .frame)) _ (λ e. record-few n (cursor f) (stackSize e) (e .body))))))
+      only-few (recordsOf (R .section) (f .frame)) _ (λ e. record-few n (cursor f) (stackSize e) (e .body)))))))
 
-  says-few : (table : ℕ → Option ℕ) (im rs : List ℕ) (p : Plan) → Few p → says table im rs p .count ≤ R .most
+  says-few : (table : ℕ → Option ℕ) (im rs : List ℕ) (p : Plan) → Few p → says table im rs p .count ≤ R .settings .most
   says-few table im rs (refuse n q) h = omega arith
   says-few table im rs (window off size pss) h = omega (arith, settled-most table (flatten pss) (state (part im off size) rs))
 
-  pub answer-few : (im : List ℕ) (f : Stopped) → answer R im f .count ≤ R .most
+  pub answer-few : (im : List ℕ) (f : Stopped) → answer R im f .count ≤ R .settings .most
   unfolding answer
   answer-few im f = says-few (lookUp (R .olds) (R .news)) im (f .registers) (plan R (length im) f) (plan-few (length im) f)

@@ -27,22 +27,22 @@ module _ (R : Restore) (im : List ℕ) (ns : Thread) (n : ℕ) (K : Move) where
   pub record Judging (k sum : ℕ) : Type 0 where
     pub same : judged R im 0 (framesFrom ns n 0) K ≡ judged R im k (framesFrom ns (n - k) k) K
     pub added : pointersIn R im (framesFrom ns n 0) ≡ sum + pointersIn R im (framesFrom ns (n - k) k)
-    pub few : sum ≤ R .most * k
+    pub few : sum ≤ 256 * k
     pub most : k ≤ n
 
   pub judging-start : Judging 0 0
   judging-start = record { same = rw (frames-start ns n); added = rw (frames-start ns n) (omega arith); few = omega arith; most = omega arith }
 
   module _ {k sum : ℕ} (j : Judging k sum) (l : k < n) (m : Move) (e : m ≡ answer R im (stoppedAt ns k)) where
-    pub judging-few : m .count ≤ R .most
+    pub judging-few : m .count ≤ R .settings .most
     judging-few = rw e (answer-few R im (stoppedAt ns k))
 
-    pub judging-on : m .number ≡ 0 → Judging (k + 1) (sum + m .count)
-    judging-on z =
+    pub judging-on : R .settings .most ≤ 256 → m .number ≡ 0 → Judging (k + 1) (sum + m .count)
+    judging-on lim z =
         record {
           same = j .same ∙ rw (frames-step ns n k l) (judge-one R im (stoppedAt ns k) m e _ k K z);
           added = j .added ∙ rw (frames-step ns n k l) (count-one R im (stoppedAt ns k) m e _ sum);
-          few = omega (arith, j .few, judging-few);
+          few = omega (arith, j .few, judging-few, lim);
           most = omega arith;
         }
 

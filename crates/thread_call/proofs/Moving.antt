@@ -16,14 +16,14 @@ use Rattle.moves.specs.Code.{Follows}
 use Rattle.moves.proofs.Splice.{splice-mid, splice-same}
 use Rattle.relocate.specs.declared.Cursor.{Cursor}
 use Rattle.relocate.specs.declared.Machine.{Machine}
-use Rattle.relocate.specs.Restore.{Restore}
+use Rattle.relocate.specs.Restore.{Restore, restore, allowed}
 use Rattle.relocate.specs.Stopped.{Stopped, registersRight, cursor}
 use Rattle.relocate.specs.Plan.{imageRight, only}
-use Rattle.relocate.specs.Code.{planEntry}
+use Rattle.relocate.specs.Code.{limited, planEntry}
 use Rattle.relocate.specs.Relocation.{answer, moved, movedRegisters}
 use Rattle.relocate.specs.Lists.{final, finalRegisters}
-use Rattle.relocate_frame.proofs.Stages.{plan-at}
-use Rattle.thread.specs.Thread.{Thread, threadOf, stoppedAt, framesFrom}
+use Rattle.relocate_frame.proofs.Stages.{plan-at, limited-entry}
+use Rattle.thread.specs.Thread.{Thread, threadOf, frameAt, stoppedAt, framesFrom}
 use Rattle.thread.specs.Code.{movedIf, registersIf}
 use Rattle.thread.proofs.Frames.{frames-step, frames-end, frames-start}
 use Rattle.thread.proofs.Parts.{own-registers, moved-registers}
@@ -39,27 +39,33 @@ ownIf true R im f = movedRegisters R im f
 ownIf false R im f = f .registers
 
 module _ (R : Restore) (im : List ℕ) (k : Accepted (R .section)) (i : imageRight (R .first) (length im) ≡ true) (t : tableRight (R .olds) (R .news) ≡ true) where
+  abbrev Q : Restore
+  Q = restore (R .section) (R .olds) (R .news) (R .first) (limited (R .settings .most))
+
   abbrev Followed : Bool → Move → List ℕ → List ℕ → List ℕ → Cursor → Type 0
   Followed write r after v rs f =
-      Follows write r after v (lookUp (R .olds) (R .news)) im rs (only (sought (R .section) (f .function) (f .address)) (planEntry R (length im) f))
+      Follows write r after v (lookUp (R .olds) (R .news)) im rs (only (sought (R .section) (f .function) (f .address)) (planEntry Q (length im) f))
 
-  one-left : (f : Stopped) → registersRight (f .registers) ≡ true → (at : Cursor) → at ≡ cursor f → (write : Bool) (r : Move) (after v : List ℕ)
+  same-entry : (f : Cursor) → only (sought (R .section) (f .function) (f .address)) (planEntry Q (length im) f) ≡ only (sought (R .section) (f .function) (f .address)) (planEntry R (length im) f)
+  same-entry f = limited-entry (R .section) (R .olds) (R .news) (R .first) (R .settings) (length im) f (sought (R .section) (f .function) (f .address))
+
+  one-left : (f : Stopped) → allowed R (f .frame .machine) ≡ true → registersRight (f .registers) ≡ true → (at : Cursor) → at ≡ cursor f → (write : Bool) (r : Move) (after v : List ℕ)
       → Followed write r after v (f .registers) at → (r ≡ answer R im f) × (after ≡ leftIf write R im f) × (v ≡ ownIf write R im f)
   unfolding answer moved movedRegisters
-  one-left f g at e true r after v h = rw (plan-at R im f k i t g at e) (h .answer, h .left, h .registers-left)
-  one-left f g at e false r after v h = rw (plan-at R im f k i t g at e) (h .answer, h .left, h .registers-left)
+  one-left f l g at e true r after v h = rw (plan-at R im f k l i t g at e, ← same-entry at) (h .answer, h .left, h .registers-left)
+  one-left f l g at e false r after v h = rw (plan-at R im f k l i t g at e, ← same-entry at) (h .answer, h .left, h .registers-left)
 
   -- the frame at the position p of a thread of n frames, whose 32 registers are lent
-  pub one-moved : (th : Thread) (n p : ℕ) → length (th .registers) ≡ 32 * n → p < n → (at : Cursor) → at ≡ cursor (stoppedAt th p)
+  pub one-moved : (th : Thread) → allowed R (th .machine) ≡ true → (n p : ℕ) → length (th .registers) ≡ 32 * n → p < n → (at : Cursor) → at ≡ cursor (stoppedAt th p)
       → (write : Bool) (r : Move) (after v : List ℕ) (m : ℕ) → m ≡ 32 → Followed write r after v (take m (drop (32 * p) (th .registers))) at
       → (r ≡ answer R im (stoppedAt th p)) × (after ≡ movedIf write R im th p)
       × (take (32 * p) (th .registers) ++ (v ++ drop m (drop (32 * p) (th .registers))) ≡ registersIf write R im th p)
-  unfolding stoppedAt registersRight
-  one-moved th n p w l at e true r after v m z h =
-      let o = one-left (stoppedAt th p) (eq-eqb _ 32 (own-registers th n p w l)) at e true r after v (rw z at h) in
+  unfolding stoppedAt frameAt registersRight
+  one-moved th y n p w l at e true r after v m z h =
+      let o = one-left (stoppedAt th p) y (eq-eqb _ 32 (own-registers th n p w l)) at e true r after v (rw z at h) in
       (o .0, o .1, rw z (splice-mid (th .registers) (32 * p) 32 v _ (o .2)))
-  one-moved th n p w l at e false r after v m z h =
-      let o = one-left (stoppedAt th p) (eq-eqb _ 32 (own-registers th n p w l)) at e false r after v (rw z at h) in
+  one-moved th y n p w l at e false r after v m z h =
+      let o = one-left (stoppedAt th p) y (eq-eqb _ 32 (own-registers th n p w l)) at e false r after v (rw z at h) in
       (o .0, o .1, rw z (splice-mid (th .registers) (32 * p) 32 v _ (o .2) ∙ splice-same (th .registers) (32 * p) 32))
 
 -- A list with one part replaced: up to its end, and from there on.
@@ -137,6 +143,7 @@ module _ (R : Restore) (im : List ℕ) (m : Machine) (ns lent : List ℕ) (n : �
     pub moving-end : n ≤ k
         → (now ≡ final R (framesFrom th n 0) im) × (rs ≡ flatten (finalRegisters R (framesFrom th n 0) im))
     unfolding flatten
-    moving-end l =
-        (sym (g .same ∙ rw (frames-end th n k l)),
-        sym (g .done ∙ rw (frames-end th n k l, take-all (32 * k) rs (omega (arith, g .wide))) (append-nil rs)))
+    moving-end l = (
+      sym (g .same ∙ rw (frames-end th n k l)),
+      sym (g .done ∙ rw (frames-end th n k l, take-all (32 * k) rs (omega (arith, g .wide))) (append-nil rs)),
+    )

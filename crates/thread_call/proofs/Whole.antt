@@ -18,7 +18,7 @@ use Rattle.questions.specs.Questions.{ask}
 use Rattle.moves.specs.declared.Move.{Move}
 use Rattle.moves.specs.Table.{tableRight}
 use Rattle.moves.specs.Settle.{refusedMove, acceptedMove}
-use Rattle.relocate.specs.Restore.{Restore}
+use Rattle.relocate.specs.Restore.{Restore, allowed}
 use Rattle.relocate.specs.Stopped.{Stopped}
 use Rattle.relocate.specs.Plan.{imageRight}
 use Rattle.relocate.specs.Relocation.{answer, extentOf}
@@ -106,29 +106,34 @@ module _ (R : Restore) (im : List ℕ) where
         refused-threads n p (λ z. omega arith) (rw h)
 
     module _ (k : Accepted (R .section)) where
-      pub thread-13 : imageRight (R .first) (length im) ≡ false → Threads R im ns (refusedMove 13 0) im (ns .registers)
+      pub thread-33 : allowed R (ns .machine) ≡ false → Threads R im ns (refusedMove 33 0) im (ns .registers)
       unfolding threadAnswer ask
-      thread-13 h = refused-threads 13 0 (λ z. omega arith) (rw (k, h))
+      thread-33 h = refused-threads 33 0 (λ z. omega arith) (rw (k, h))
 
-      module _ (i : imageRight (R .first) (length im) ≡ true) where
-        pub thread-14 : tableRight (R .olds) (R .news) ≡ false → Threads R im ns (refusedMove 14 0) im (ns .registers)
+      module _ (w : allowed R (ns .machine) ≡ true) where
+        pub thread-13 : imageRight (R .first) (length im) ≡ false → Threads R im ns (refusedMove 13 0) im (ns .registers)
         unfolding threadAnswer ask
-        thread-14 h = refused-threads 14 0 (λ z. omega arith) (rw (k, i, h))
+        thread-13 h = refused-threads 13 0 (λ z. omega arith) (rw (k, w, h))
 
-        module _ (t : tableRight (R .olds) (R .news) ≡ true) where
-          pub thread-25 : listRight (ns .list) (ns .registers) ≡ false → Threads R im ns (refusedMove 25 0) im (ns .registers)
+        module _ (i : imageRight (R .first) (length im) ≡ true) where
+          pub thread-14 : tableRight (R .olds) (R .news) ≡ false → Threads R im ns (refusedMove 14 0) im (ns .registers)
           unfolding threadAnswer ask
-          thread-25 h = refused-threads 25 0 (λ z. omega arith) (rw (k, i, t, h))
+          thread-14 h = refused-threads 14 0 (λ z. omega arith) (rw (k, w, i, h))
 
-          pub thread-frames : (n : ℕ) (r : Move) (after after-rs : List ℕ) → listRight (ns .list) (ns .registers) ≡ true → n ≡ length (ns .list) / 2
-              → Framed R im (framesFrom ns n 0) (ns .registers) r after after-rs → Threads R im ns r after after-rs
-          unfolding threadAnswer threadImage threadRegisters framesAnswer framesImage framesRegisters framesOf ask
-          thread-frames n r after after-rs h e q =
-              record {
-                answer-is = q .answer-is ∙ rw (k, i, t, h, ← e);
-                image-is = q .image-is ∙ rw (k, i, t, h, ← e);
-                registers-is = q .registers-is ∙ rw (k, i, t, h, ← e);
-              }
+          module _ (t : tableRight (R .olds) (R .news) ≡ true) where
+            pub thread-25 : listRight (ns .list) (ns .registers) ≡ false → Threads R im ns (refusedMove 25 0) im (ns .registers)
+            unfolding threadAnswer ask
+            thread-25 h = refused-threads 25 0 (λ z. omega arith) (rw (k, w, i, t, h))
+
+            pub thread-frames : (n : ℕ) (r : Move) (after after-rs : List ℕ) → listRight (ns .list) (ns .registers) ≡ true → n ≡ length (ns .list) / 2
+                → Framed R im (framesFrom ns n 0) (ns .registers) r after after-rs → Threads R im ns r after after-rs
+            unfolding threadAnswer threadImage threadRegisters framesAnswer framesImage framesRegisters framesOf ask
+            thread-frames n r after after-rs h e q =
+                record {
+                  answer-is = q .answer-is ∙ rw (k, w, i, t, h, ← e);
+                  image-is = q .image-is ∙ rw (k, w, i, t, h, ← e);
+                  registers-is = q .registers-is ∙ rw (k, w, i, t, h, ← e);
+                }
 
 -- The section is accepted where its check is valid.
 pub valid-accepted : (s : List ℕ) (e : ℕ) → Valid e ≡ sectionCheck s → Accepted s

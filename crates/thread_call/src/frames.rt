@@ -5,16 +5,16 @@ ghost use mathlib.Core.List.{flatten};
 ghost use Prim.Native.Nat.{_<_};
 ghost use lib.ListN.{length};
 ghost use Rattle.moves.specs.Settle.{acceptedMove};
-ghost use Rattle.relocate.specs.Restore.{restoreAll};
+ghost use Rattle.relocate.specs.Restore.{restore};
 ghost use Rattle.relocate.specs.Relocation.{answer};
 ghost use Rattle.relocate.specs.Lists.{final, finalRegisters};
 ghost use Rattle.thread.specs.Thread.{stoppedAt, framesFrom, judged, pointersIn};
 ghost use Rattle.thread.specs.Thread.{threadOf};
 ghost use Rattle.thread.specs.Code.{Ready, movedIf, registersIf};
 use moves::Move;
-use moves::PAIRS_MOST;
 use relocate::Machine;
 use relocate::REGISTERS;
+use relocate::Settings;
 use relocate_frame::moving;
 use thread::FRAMES_MOST;
 use thread_search::list;
@@ -36,11 +36,12 @@ fn settle_frame(
     hits: &[usize; HITS_LENGTH],
     k: usize,
     write: bool,
+    settings: Settings,
 ) -> Move
-    requires { ⌜ Ready (restoreAll (now s) (now olds) (now news) first) (length (now image)) (length (now registers)) (now frames) count (now keys) (now hits) × (k < count) ⌝ }
-    ensures { λ r. ⌜ (r ≡ answer (restoreAll (now (s .entry)) (now (olds .entry)) (now (news .entry)) first) (now (image .entry)) (stoppedAt (threadOf machine (now (frames .entry)) (now (registers .entry))) k))
-        × (now (image .exit) ≡ movedIf write (restoreAll (now (s .entry)) (now (olds .entry)) (now (news .entry)) first) (now (image .entry)) (threadOf machine (now (frames .entry)) (now (registers .entry))) k)
-        × (now (registers .exit) ≡ registersIf write (restoreAll (now (s .entry)) (now (olds .entry)) (now (news .entry)) first) (now (image .entry)) (threadOf machine (now (frames .entry)) (now (registers .entry))) k) ⌝ }
+    requires { ⌜ Ready (restore (now s) (now olds) (now news) first settings) machine (length (now image)) (length (now registers)) (now frames) count (now keys) (now hits) × (k < count) ⌝ }
+    ensures { λ r. ⌜ (r ≡ answer (restore (now (s .entry)) (now (olds .entry)) (now (news .entry)) first settings) (now (image .entry)) (stoppedAt (threadOf machine (now (frames .entry)) (now (registers .entry))) k))
+        × (now (image .exit) ≡ movedIf write (restore (now (s .entry)) (now (olds .entry)) (now (news .entry)) first settings) (now (image .entry)) (threadOf machine (now (frames .entry)) (now (registers .entry))) k)
+        × (now (registers .exit) ≡ registersIf write (restore (now (s .entry)) (now (olds .entry)) (now (news .entry)) first settings) (now (image .entry)) (threadOf machine (now (frames .entry)) (now (registers .entry))) k) ⌝ }
 {
     let frame = list::frame_at(machine, frames, k);
     let found = search::of_frame(s, keys, count, hits, frame);
@@ -56,7 +57,7 @@ fn settle_frame(
         news,
         at,
         write,
-        PAIRS_MOST,
+        settings.most,
     )
 }
 
@@ -73,9 +74,10 @@ pub fn judge(
     count: usize,
     keys: &[u64; FRAMES_MOST],
     hits: &[usize; HITS_LENGTH],
+    settings: Settings,
 ) -> Move
-    requires { ⌜ Ready (restoreAll (now s) (now olds) (now news) first) (length (now image)) (length (now registers)) (now frames) count (now keys) (now hits) ⌝ }
-    ensures { λ r. ⌜ (r ≡ judged (restoreAll (now (s .entry)) (now (olds .entry)) (now (news .entry)) first) (now (image .entry)) 0 (framesFrom (threadOf machine (now (frames .entry)) (now (registers .entry))) count 0) (acceptedMove (pointersIn (restoreAll (now (s .entry)) (now (olds .entry)) (now (news .entry)) first) (now (image .entry)) (framesFrom (threadOf machine (now (frames .entry)) (now (registers .entry))) count 0))))
+    requires { ⌜ Ready (restore (now s) (now olds) (now news) first settings) machine (length (now image)) (length (now registers)) (now frames) count (now keys) (now hits) ⌝ }
+    ensures { λ r. ⌜ (r ≡ judged (restore (now (s .entry)) (now (olds .entry)) (now (news .entry)) first settings) (now (image .entry)) 0 (framesFrom (threadOf machine (now (frames .entry)) (now (registers .entry))) count 0) (acceptedMove (pointersIn (restore (now (s .entry)) (now (olds .entry)) (now (news .entry)) first settings) (now (image .entry)) (framesFrom (threadOf machine (now (frames .entry)) (now (registers .entry))) count 0))))
         × (now (image .exit) ≡ now (image .entry)) × (now (registers .exit) ≡ now (registers .entry)) ⌝ }
 {
     let mut sum: usize = 0;
@@ -95,6 +97,7 @@ pub fn judge(
             hits,
             k,
             false,
+            settings,
         );
         if m.number != 0 {
             return moving::refused(m.number, k);
@@ -122,10 +125,11 @@ pub fn move_all(
     count: usize,
     keys: &[u64; FRAMES_MOST],
     hits: &[usize; HITS_LENGTH],
+    settings: Settings,
 )
-    requires { ⌜ Ready (restoreAll (now s) (now olds) (now news) first) (length (now image)) (length (now registers)) (now frames) count (now keys) (now hits) ⌝ }
-    ensures { λ r. ⌜ (now (image .exit) ≡ final (restoreAll (now (s .entry)) (now (olds .entry)) (now (news .entry)) first) (framesFrom (threadOf machine (now (frames .entry)) (now (registers .entry))) count 0) (now (image .entry)))
-        × (now (registers .exit) ≡ flatten (finalRegisters (restoreAll (now (s .entry)) (now (olds .entry)) (now (news .entry)) first) (framesFrom (threadOf machine (now (frames .entry)) (now (registers .entry))) count 0) (now (image .entry)))) ⌝ }
+    requires { ⌜ Ready (restore (now s) (now olds) (now news) first settings) machine (length (now image)) (length (now registers)) (now frames) count (now keys) (now hits) ⌝ }
+    ensures { λ r. ⌜ (now (image .exit) ≡ final (restore (now (s .entry)) (now (olds .entry)) (now (news .entry)) first settings) (framesFrom (threadOf machine (now (frames .entry)) (now (registers .entry))) count 0) (now (image .entry)))
+        × (now (registers .exit) ≡ flatten (finalRegisters (restore (now (s .entry)) (now (olds .entry)) (now (news .entry)) first settings) (framesFrom (threadOf machine (now (frames .entry)) (now (registers .entry))) count 0) (now (image .entry)))) ⌝ }
 {
     let mut next: usize = 0;
     while next < count {
@@ -143,6 +147,7 @@ pub fn move_all(
             hits,
             next,
             true,
+            settings,
         );
         next += 1;
     }

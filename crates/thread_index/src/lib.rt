@@ -7,6 +7,7 @@ use moves::Move;
 use moves_table::table;
 use questions_find::find;
 use relocate::Machine;
+use relocate::Settings;
 use relocate_frame::extent;
 use relocate_frame::moving;
 use stackmap_tables::tables;
@@ -25,6 +26,7 @@ pub fn relocate_thread_by_index(
     machine: Machine,
     list: &[u64],
     index: &[u64],
+    settings: Settings,
 ) -> Move
     ensures { λ r. ⌜ ThreadsByIndex (restore (now (section .entry)) (now (olds .entry)) (now (news .entry)) first) (now (image .entry)) (now (index .entry)) (threadOf machine (now (list .entry))) r (now (image .exit)) ⌝ }
 {

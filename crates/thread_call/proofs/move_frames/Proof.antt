@@ -1,5 +1,5 @@
 use native.Mathlib.Omega.{arith}
-use Rattle.relocate.specs.Restore.{restoreAll}
+use Rattle.relocate.specs.Restore.{restore}
 use Rattle.thread.specs.Thread.{threadOf, framesFrom}
 use Rattle.thread_call.proofs.Whole.{frames-refused, frames-26, frames-moved, each-sited}
 use borrow.Author.Needs.{needs}
@@ -19,7 +19,7 @@ returns : tie.Need-returns
 returns c =
     let q = c .before .before .before .before .before .before .before .before .before .before .before .before .before .before .before in
     let a = q .args in
-    let R = restoreAll (a .s .now) (a .olds .now) (a .news .now) (a .first) in
+    let R = restore (a .s .now) (a .olds .now) (a .news .now) (a .first) (a .settings) in
     let th = threadOf (a .machine) (a .list .now) (a .registers .now) in
     let j = c .before .before .before .before .before .before .judge in
     frames-refused R (a .image .now) (framesFrom th (a .count) 0) (a .registers .now) (j .result) (j .ensures .0) (c .if1 .taken) (j .ensures .1) (j .ensures .2)
@@ -28,7 +28,7 @@ first-shared-requires : tie.Need-first-shared-requires
 first-shared-requires c κs =
     let q = c .before .before .before .before .before .before .before .before .before .before .before .before .before .before .before .before in
     let a = q .args in
-    let R = restoreAll (a .s .now) (a .olds .now) (a .news .now) (a .first) in
+    let R = restore (a .s .now) (a .olds .now) (a .news .now) (a .first) (a .settings) in
     let th = threadOf (a .machine) (a .list .now) (a .registers .now) in
     let j = c .before .before .before .before .before .before .before .judge in
     let e = each-sited R (a .image .now) (q .pre .looked .section-right) (q .pre .image-right) th (a .count) (j .result) (j .ensures .0) (c .before .if1 .left) in
@@ -47,7 +47,7 @@ returns-2 : tie.Need-returns-2
 returns-2 c =
     let q = c .before .before .before .before .before .before .before .before .before .before .before .before .before .before .before .before .before .before .before in
     let a = q .args in
-    let R = restoreAll (a .s .now) (a .olds .now) (a .news .now) (a .first) in
+    let R = restore (a .s .now) (a .olds .now) (a .news .now) (a .first) (a .settings) in
     let th = threadOf (a .machine) (a .list .now) (a .registers .now) in
     let j = c .before .before .before .before .before .before .before .before .before .before .judge in
     let p = rw (j .ensures .2) at (c .before .before .first-shared .ensures .1) in
@@ -68,7 +68,7 @@ returns-3 : tie.Need-returns-3
 returns-3 c =
     let q = c .before .before .before .before .before .before .before .before .before .before .before .before .before .before .before .before .before .before .before .before .before .before .before .before .before in
     let a = q .args in
-    let R = restoreAll (a .s .now) (a .olds .now) (a .news .now) (a .first) in
+    let R = restore (a .s .now) (a .olds .now) (a .news .now) (a .first) (a .settings) in
     let th = threadOf (a .machine) (a .list .now) (a .registers .now) in
     let j = c .before .before .before .before .before .before .before .before .before .before .before .before .before .before .before .before .judge in
     let p = rw (j .ensures .2) at (c .before .before .before .before .before .before .before .before .first-shared .ensures .1) in

@@ -1,5 +1,5 @@
 use mathlib.Core.Path.{sym, _∙_}
-use Rattle.relocate.specs.Restore.{restoreAll}
+use Rattle.relocate.specs.Restore.{restore}
 use Rattle.thread.specs.Thread.{threadOf}
 use Rattle.thread.proofs.Parts.{right-tells}
 use Rattle.thread_call.proofs.Whole.{thread-13, thread-14, thread-25, thread-frames}
@@ -23,6 +23,8 @@ move-frames-requires c κs =
     let l = (sym (c .before .before .before .list-right .ensures) ∙ c .before .before .if3 .taken) in
     record {
       looked = q .pre .0;
+      allowed-right = q .pre .2;
+      most-right = q .pre .3;
       image-right = (sym (c .before .before .before .before .before .before .before .before .image-right .ensures) ∙ c .before .before .before .before .before .before .before .if1 .taken);
       table-right = (sym (c .before .before .before .before .before .before .table-right .ensures) ∙ c .before .before .before .before .before .if2 .taken);
       registers-right = rw (q .pre .1 l) (right-tells (a .list .now) (a .registers .now) l .1);
@@ -38,10 +40,10 @@ returns : tie.Need-returns
 returns c =
     let q = c .before .before .before .before .before .before .before .before .before .before .before .before .before .before .before .before .before .before .before .before in
     let a = q .args in
-    let R = restoreAll (a .s .now) (a .olds .now) (a .news .now) (a .first) in
+    let R = restore (a .s .now) (a .olds .now) (a .news .now) (a .first) (a .settings) in
     let th = threadOf (a .machine) (a .list .now) (a .registers .now) in
     let l = (sym (c .before .before .before .before .before .before .before .before .list-right .ensures) ∙ c .before .before .before .before .before .before .before .if3 .taken) in
-    thread-frames R (a .image .now) th (q .pre .0 .section-right) (sym (c .before .before .before .before .before .before .before .before .before .before .before .before .before .image-right .ensures) ∙ c .before .before .before .before .before .before .before .before .before .before .before .before .if1 .taken)
+    thread-frames R (a .image .now) th (q .pre .0 .section-right) (q .pre .2) (sym (c .before .before .before .before .before .before .before .before .before .before .before .before .before .image-right .ensures) ∙ c .before .before .before .before .before .before .before .before .before .before .before .before .if1 .taken)
     (sym (c .before .before .before .before .before .before .before .before .before .before .before .table-right .ensures) ∙ c .before .before .before .before .before .before .before .before .before .before .if2 .taken) (a .count) _ _ _ l (q .pre .1 l) (c .before .before .before .before .move-frames .ensures)
 
 refused-requires : tie.Need-refused-requires
@@ -54,10 +56,10 @@ returns-2 : tie.Need-returns-2
 returns-2 c =
     let q = c .before .before .before .before .before .before .before .before .before .before .before .before .before .before in
     let a = q .args in
-    let R = restoreAll (a .s .now) (a .olds .now) (a .news .now) (a .first) in
+    let R = restore (a .s .now) (a .olds .now) (a .news .now) (a .first) (a .settings) in
     let th = threadOf (a .machine) (a .list .now) (a .registers .now) in
     rw (c .refused .ensures)
-    (thread-25 R (a .image .now) th (q .pre .0 .section-right) (sym (c .before .before .before .before .before .before .before .image-right .ensures) ∙ c .before .before .before .before .before .before .if1 .taken)
+    (thread-25 R (a .image .now) th (q .pre .0 .section-right) (q .pre .2) (sym (c .before .before .before .before .before .before .before .image-right .ensures) ∙ c .before .before .before .before .before .before .if1 .taken)
     (sym (c .before .before .before .before .before .table-right .ensures) ∙ c .before .before .before .before .if2 .taken) (sym (c .before .before .list-right .ensures) ∙ c .before .if3 .left))
 
 refused-requires-2 : tie.Need-refused-requires-2
@@ -67,10 +69,10 @@ returns-3 : tie.Need-returns-3
 returns-3 c =
     let q = c .before .before .before .before .before .before .before .before .before .before .before in
     let a = q .args in
-    let R = restoreAll (a .s .now) (a .olds .now) (a .news .now) (a .first) in
+    let R = restore (a .s .now) (a .olds .now) (a .news .now) (a .first) (a .settings) in
     let th = threadOf (a .machine) (a .list .now) (a .registers .now) in
     rw (c .refused2 .ensures)
-    (thread-14 R (a .image .now) th (q .pre .0 .section-right) (sym (c .before .before .before .before .image-right .ensures) ∙ c .before .before .before .if1 .taken) (sym (c .before .before .table-right .ensures) ∙ c .before .if2 .left))
+    (thread-14 R (a .image .now) th (q .pre .0 .section-right) (q .pre .2) (sym (c .before .before .before .before .image-right .ensures) ∙ c .before .before .before .if1 .taken) (sym (c .before .before .table-right .ensures) ∙ c .before .if2 .left))
 
 refused-requires-3 : tie.Need-refused-requires-3
 refused-requires-3 c κs = search needs
@@ -79,9 +81,9 @@ returns-4 : tie.Need-returns-4
 returns-4 c =
     let q = c .before .before .before .before .before .before .before .before .before in
     let a = q .args in
-    let R = restoreAll (a .s .now) (a .olds .now) (a .news .now) (a .first) in
+    let R = restore (a .s .now) (a .olds .now) (a .news .now) (a .first) (a .settings) in
     let th = threadOf (a .machine) (a .list .now) (a .registers .now) in
-    rw (c .refused3 .ensures) (thread-13 R (a .image .now) th (q .pre .0 .section-right) (sym (c .before .before .image-right .ensures) ∙ c .before .if1 .left))
+    rw (c .refused3 .ensures) (thread-13 R (a .image .now) th (q .pre .0 .section-right) (q .pre .2) (sym (c .before .before .image-right .ensures) ∙ c .before .if1 .left))
 
 pub of-section-spec : {M : Type 1} → statement M
 of-section-spec =

@@ -1,5 +1,5 @@
 use mathlib.Core.Path.{sym, _∙_}
-use Rattle.relocate.specs.Restore.{restoreAll}
+use Rattle.relocate.specs.Restore.{restore}
 use Rattle.thread.specs.Thread.{threadOf}
 use Rattle.thread_call.proofs.Whole.{thread-section, valid-accepted, blank-holds, blank-counted}
 use borrow.Author.Needs.{needs}
@@ -25,8 +25,8 @@ refused-requires c κs = search needs
 enum-told : tie.Need-enum-told
 enum-told c = search needs
 
-of-section-requires : tie.Need-of-section-requires
-of-section-requires c κs =
+of-checked-requires : tie.Need-of-checked-requires
+of-checked-requires c κs =
     let q = c .before .before .before .before .before .before .before .before .before .before .before .before .before .before .before .before .before .before .before in
     let a = q .args in
     let v = c .before .before .before .before .enum-told .given .1 in
@@ -40,6 +40,7 @@ of-section-requires c κs =
         found = f .1 _ v;
       },
       n .2,
+      q .pre,
     )
 
 same-length : tie.Need-same-length
@@ -50,7 +51,7 @@ returns c =
     let q = c .before .before .before .before .before .before .before .before .before .before .before .before .before .before .before .before .before in
     let a = q .args in
     rw (c .refused .ensures)
-    (thread-section (restoreAll (a .section .now) (a .olds .now) (a .news .now) (a .first)) (a .image .now) (threadOf (a .machine) (a .list .now) (a .registers .now)) _ _
+    (thread-section (restore (a .section .now) (a .olds .now) (a .news .now) (a .first) (a .settings)) (a .image .now) (threadOf (a .machine) (a .list .now) (a .registers .now)) _ _
     (sym (c .before .before .before .before .find-all .ensures .0) ∙ c .before .before .n .given .1))
 
 same-length-2 : tie.Need-same-length-2
@@ -72,7 +73,7 @@ relocate-thread-spec =
     enum-known-n
     refused-requires
     enum-told
-    of-section-requires
+    of-checked-requires
     same-length
     returns
     same-length-2

@@ -3,7 +3,7 @@ use mathlib.Core.Path.{_≡_, refl, sym, ap, _∙_}
 use native.Mathlib.Omega.{arith}
 use lib.ListN.{length}
 use Rattle.moves.specs.Settle.{acceptedMove}
-use Rattle.relocate.specs.Restore.{restoreAll}
+use Rattle.relocate.specs.Restore.{restore}
 use Rattle.thread.specs.Thread.{threadOf, framesFrom, pointersIn}
 use Rattle.thread_call.proofs.Judging.{Judging, judging-start, judging-few, judging-on, judging-stop, judging-end}
 use borrow.Author.Needs.{needs}
@@ -11,18 +11,18 @@ use Rattle.thread_call.proofs.frames.judge.Statement.{statement}
 use Rattle.thread_call.proofs.frames.judge.Tie as tie
 
 abbrev Inv-loop : tie.InvT-loop
-Inv-loop s image₀ registers₀ first olds news machine frames count keys hits sum₀ k₀ image registers sum k =
-    Judging (restoreAll s olds news first) image₀ (threadOf machine frames registers₀) count (acceptedMove (pointersIn (restoreAll s olds news first) image₀ (framesFrom (threadOf machine frames registers₀) count 0))) k sum
+Inv-loop s image₀ registers₀ first olds news machine frames count keys hits settings sum₀ k₀ image registers sum k =
+    Judging (restore s olds news first settings) image₀ (threadOf machine frames registers₀) count (acceptedMove (pointersIn (restore s olds news first settings) image₀ (framesFrom (threadOf machine frames registers₀) count 0))) k sum
     × (image ≡ image₀) × (registers ≡ registers₀)
 
 abbrev μ-loop : tie.MeasureT-loop
-μ-loop s image₀ registers₀ first olds news machine frames count keys hits sum₀ k₀ image registers sum k = count - k
+μ-loop s image₀ registers₀ first olds news machine frames count keys hits settings sum₀ k₀ image registers sum k = count - k
 
 loop-holds : tie.Need-loop-holds Inv-loop μ-loop
 loop-holds c =
     let q = c .before .before .before .before .before .before in
     let a = q .args in
-    let R = restoreAll (a .s .now) (a .olds .now) (a .news .now) (a .first) in
+    let R = restore (a .s .now) (a .olds .now) (a .news .now) (a .first) (a .settings) in
     let th = threadOf (a .machine) (a .frames .now) (a .registers .now) in
     (judging-start R (a .image .now) th (a .count) (acceptedMove (pointersIn R (a .image .now) (framesFrom th (a .count) 0))), refl, refl)
 
@@ -45,26 +45,27 @@ returns : tie.Need-returns Inv-loop μ-loop
 returns c =
     let q = c .before .before .before .before .before .before .before .before .before .before .before .before .before .before .before .before .before .before in
     let a = q .args in
-    let R = restoreAll (a .s .now) (a .olds .now) (a .news .now) (a .first) in
+    let R = restore (a .s .now) (a .olds .now) (a .news .now) (a .first) (a .settings) in
     let th = threadOf (a .machine) (a .frames .now) (a .registers .now) in
     let inv = c .before .before .before .before .before .before .before .before .before .before .before .loop .inv in
     let m = c .before .before .before .before .before .before .before .settle-frame in
-    let e = rw (inv .1, inv .2) at (m .ensures .0) in
-    (c .refused .ensures ∙ judging-stop R (a .image .now) th (a .count) (acceptedMove (pointersIn R (a .image .now) (framesFrom th (a .count) 0))) (inv .0) (c .before .before .before .before .before .before .before .before .before .before .loop-test .taken) (m .result) e (c .before .if1 .taken),
-    m .ensures .1 ∙ inv .1,
-    m .ensures .2 ∙ inv .2)
+    let e = rw (inv .1, inv .2) at (m .ensures .0) in (
+      c .refused .ensures ∙ judging-stop R (a .image .now) th (a .count) (acceptedMove (pointersIn R (a .image .now) (framesFrom th (a .count) 0))) (inv .0) (c .before .before .before .before .before .before .before .before .before .before .loop-test .taken) (m .result) e (c .before .if1 .taken),
+      m .ensures .1 ∙ inv .1,
+      m .ensures .2 ∙ inv .2,
+    )
 
 add-sum : tie.Need-add-sum Inv-loop μ-loop
 add-sum c =
     let q = c .before .before .before .before .before .before .before .before .before .before .before .before .before .before .before .before .before .before in
     let a = q .args in
-    let R = restoreAll (a .s .now) (a .olds .now) (a .news .now) (a .first) in
+    let R = restore (a .s .now) (a .olds .now) (a .news .now) (a .first) (a .settings) in
     let th = threadOf (a .machine) (a .frames .now) (a .registers .now) in
     let inv = c .before .before .before .before .before .before .before .before .before .before .before .loop .inv in
     let m = c .before .before .before .before .before .before .before .settle-frame in
     let e = rw (inv .1, inv .2) at (m .ensures .0) in
     let w = judging-few R (a .image .now) th (a .count) (acceptedMove (pointersIn R (a .image .now) (framesFrom th (a .count) 0))) (inv .0) (c .before .before .before .before .before .before .before .before .before .before .loop-test .taken) (m .result) e in
-    omega (arith, w, inv .0 .few, inv .0 .most, q .pre .looked .most)
+    omega (arith, w, inv .0 .few, inv .0 .most, q .pre .looked .most, q .pre .most-right)
 
 add-k : tie.Need-add-k Inv-loop μ-loop
 add-k c = let q = c .before .before .before .before .before .before .before .before .before .before .before .before .before .before .before .before .before .before in omega (arith, c .before .before .before .before .before .before .before .before .before .before .before .loop .inv .0 .most, q .pre .looked .most)
@@ -76,14 +77,15 @@ loop-again : tie.Need-loop-again Inv-loop μ-loop
 loop-again c =
     let q = c .before .before .before .before .before .before .before .before .before .before .before .before .before .before .before .before .before .before in
     let a = q .args in
-    let R = restoreAll (a .s .now) (a .olds .now) (a .news .now) (a .first) in
+    let R = restore (a .s .now) (a .olds .now) (a .news .now) (a .first) (a .settings) in
     let th = threadOf (a .machine) (a .frames .now) (a .registers .now) in
     let inv = c .before .before .before .before .before .before .before .before .before .before .before .loop .inv in
     let m = c .before .before .before .before .before .before .before .settle-frame in
-    let e = rw (inv .1, inv .2) at (m .ensures .0) in
-    (judging-on R (a .image .now) th (a .count) (acceptedMove (pointersIn R (a .image .now) (framesFrom th (a .count) 0))) (inv .0) (c .before .before .before .before .before .before .before .before .before .before .loop-test .taken) (m .result) e (c .before .if1 .left),
-    m .ensures .1 ∙ inv .1,
-    m .ensures .2 ∙ inv .2)
+    let e = rw (inv .1, inv .2) at (m .ensures .0) in (
+      judging-on R (a .image .now) th (a .count) (acceptedMove (pointersIn R (a .image .now) (framesFrom th (a .count) 0))) (inv .0) (c .before .before .before .before .before .before .before .before .before .before .loop-test .taken) (m .result) e (q .pre .most-right) (c .before .if1 .left),
+      m .ensures .1 ∙ inv .1,
+      m .ensures .2 ∙ inv .2,
+    )
 
 same-length-3 : tie.Need-same-length-3 Inv-loop μ-loop
 same-length-3 c = rw (c .before .loop .inv .1)
@@ -95,7 +97,7 @@ returns-2 : tie.Need-returns-2 Inv-loop μ-loop
 returns-2 c =
     let q = c .before .before .before .before .before .before .before .before in
     let a = q .args in
-    let R = restoreAll (a .s .now) (a .olds .now) (a .news .now) (a .first) in
+    let R = restore (a .s .now) (a .olds .now) (a .news .now) (a .first) (a .settings) in
     let th = threadOf (a .machine) (a .frames .now) (a .registers .now) in
     let inv = c .before .loop .inv in
     let e = judging-end R (a .image .now) th (a .count) (acceptedMove (pointersIn R (a .image .now) (framesFrom th (a .count) 0))) (inv .0) (c .loop-test .left) in

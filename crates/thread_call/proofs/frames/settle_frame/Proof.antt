@@ -2,7 +2,7 @@ use Prim.Native.Nat.{_+_, _*_, _-_}
 use mathlib.Core.Path.{_≡_, ap, _∙_}
 use native.Mathlib.Omega.{arith}
 use Rattle.questions.specs.Questions.{firstOf, sought}
-use Rattle.relocate.specs.Restore.{restoreAll}
+use Rattle.relocate.specs.Restore.{restore}
 use Rattle.relocate.specs.Stopped.{cursor}
 use Rattle.relocate.specs.Plan.{recordsOf}
 use Rattle.thread.specs.Thread.{threadOf, frameAt, stoppedAt}
@@ -19,8 +19,8 @@ returns c =
     let th = threadOf (a .machine) (a .frames .now) (a .registers .now) in
     let e : c .before .before .before .before .before .before .before .cursor .result ≡ cursor (stoppedAt th (a .k)) =
     c .before .before .before .before .before .before .before .cursor .ensures ∙ ap cursor (stopped-at th (a .k) (32 * a .k + 32 - 32 * a .k) _ (c .before .before .before .before .before .before .before .before .before .before .before .frame-at .ensures) (omega arith)) in
-    one-moved (restoreAll (a .s .now) (a .olds .now) (a .news .now) (a .first)) (a .image .now) (s .pre .0 .looked .section-right) (s .pre .0 .image-right) (s .pre .0 .table-right)
-    th (a .count) (a .k) (s .pre .0 .registers-right) (s .pre .1) (c .before .before .before .before .before .before .before .cursor .result) e (a .write) _ _ _ (32 * a .k + 32 - 32 * a .k) (omega arith)
+    one-moved (restore (a .s .now) (a .olds .now) (a .news .now) (a .first) (a .settings)) (a .image .now) (s .pre .0 .looked .section-right) (s .pre .0 .image-right) (s .pre .0 .table-right)
+    th (s .pre .0 .allowed-right) (a .count) (a .k) (s .pre .0 .registers-right) (s .pre .1) (c .before .before .before .before .before .before .before .cursor .result) e (a .write) _ _ _ (32 * a .k + 32 - 32 * a .k) (omega arith)
     (c .before .before .before .before .move-found .ensures)
 
 frame-at-requires : tie.Need-frame-at-requires
@@ -80,7 +80,7 @@ move-found-requires c κs =
     let f = c .before .before .cursor .result in
     let e : c .before .before .before .before .before .of-frame .result ≡ firstOf (sought (a .s .now) (f .function) (f .address)) =
     rw (c .before .before .cursor .ensures) (c .before .before .before .before .before .of-frame .ensures) in
-    (s .pre .0 .looked .section-right, e, s .pre .0 .image-right, s .pre .0 .table-right, omega arith, search needs)
+    (s .pre .0 .looked .section-right, e, s .pre .0 .image-right, s .pre .0 .table-right, s .pre .0 .most-right, search needs)
 
 same-length : tie.Need-same-length
 same-length c = search needs
