@@ -2,7 +2,7 @@
 use Prim.Native.Nat.{ℕ}
 use mathlib.Core.Path.{_≡_, refl, sym, ap, _∙_}
 use mathlib.Core.Bool.{Bool, true, false, cond, not, true≢false}
-use mathlib.Core.List.{List}
+use mathlib.Core.List.{List, flatten}
 use borrow.Author.Tests.{ne-eqb}
 use lib.Dec.{eqb}
 use lib.ListN.{length}
@@ -22,10 +22,10 @@ use Rattle.moves.specs.Table.{tableRight}
 use Rattle.moves.specs.Settle.{refusedMove}
 use Rattle.relocate.specs.Restore.{Restore}
 use Rattle.relocate.specs.Plan.{imageRight}
-use Rattle.relocate.specs.Lists.{final}
-use Rattle.thread.specs.Thread.{Thread, framesOf, threadAnswer, threadImage}
+use Rattle.relocate.specs.Lists.{final, finalRegisters}
+use Rattle.thread.specs.Thread.{Thread, framesOf, threadAnswer, threadImage, threadRegisters}
 use Rattle.thread.specs.Code.{Threads}
-use Rattle.thread_index.specs.ByIndex.{threadByIndexAnswer, threadByIndexImage, ThreadsByIndex}
+use Rattle.thread_index.specs.ByIndex.{threadByIndexAnswer, threadByIndexImage, threadByIndexRegisters, ThreadsByIndex}
 use Rattle.thread_index.specs.Laws.{IndexMoves}
 
 -- tests that are made twice
@@ -51,6 +51,10 @@ module _ (R : Restore) (im : List ℕ) (ns : Thread) where
   unfolding threadByIndexImage threadImage
   left-so new = rw (with-index new) (twice (eqb (threadAnswer R im ns .number) 0) (final R (framesOf ns) im) im)
 
+  registers-so : isOld (R .section) ≡ false → threadByIndexRegisters R im (indexOf (R .section)) ns ≡ threadRegisters R im ns
+  unfolding threadByIndexRegisters threadRegisters
+  registers-so new = rw (with-index new) (twice (eqb (threadAnswer R im ns .number) 0) (flatten (finalRegisters R (framesOf ns) im)) (ns .registers))
+
 -- What the code's tests tell.
 
 -- the section's own refusal is none of the numbers 0 and 10
@@ -59,18 +63,22 @@ unfolding ofSection
 own-number r h z = true≢false (sym (rw z at h))
 
 module _ (R : Restore) (im index : List ℕ) (ns : Thread) where
-  -- a refusal leaves the image as lent
+  -- a refusal leaves image and registers as lent
   pub refused-so : {r : Move} (n p : ℕ) → (n ≡ 0 → ⊥) → r ≡ refusedMove n p → threadByIndexAnswer R im index ns ≡ refusedMove n p
-      → ThreadsByIndex R im index ns r im
-  unfolding threadByIndexImage
-  refused-so n p d q e = record { answer-is = q ∙ sym e; image-is = rw (e, ne-eqb n 0 d) }
+      → ThreadsByIndex R im index ns r im (ns .registers)
+  unfolding threadByIndexImage threadByIndexRegisters
+  refused-so n p d q e = record { answer-is = q ∙ sym e; image-is = rw (e, ne-eqb n 0 d); registers-is = rw (e, ne-eqb n 0 d) }
 
   -- the call without an index is made
-  pub moved-so : {r : Move} {after : List ℕ} → threadByIndexAnswer R im index ns ≡ threadAnswer R im ns
-      → Threads R im ns r after → ThreadsByIndex R im index ns r after
-  unfolding threadByIndexImage threadImage
+  pub moved-so : {r : Move} {after after-rs : List ℕ} → threadByIndexAnswer R im index ns ≡ threadAnswer R im ns
+      → Threads R im ns r after after-rs → ThreadsByIndex R im index ns r after after-rs
+  unfolding threadByIndexImage threadByIndexRegisters threadImage threadRegisters
   moved-so e t =
-      record { answer-is = t .answer-is ∙ sym e; image-is = t .image-is ∙ rw e (sym (twice (eqb (threadAnswer R im ns .number) 0) (final R (framesOf ns) im) im)) }
+      record {
+        answer-is = t .answer-is ∙ sym e;
+        image-is = t .image-is ∙ rw e (sym (twice (eqb (threadAnswer R im ns .number) 0) (final R (framesOf ns) im) im));
+        registers-is = t .registers-is ∙ rw e (sym (twice (eqb (threadAnswer R im ns .number) 0) (flatten (finalRegisters R (framesOf ns) im)) (ns .registers)));
+      }
 
   module _ (h : Accepted (R .section)) where
     pub by-13 : imageRight (R .first) (length im) ≡ false → threadByIndexAnswer R im index ns ≡ refusedMove 13 0
@@ -96,4 +104,4 @@ module _ (R : Restore) (im index : List ℕ) (ns : Thread) where
     by-call a b o r = asked refusedMove _ (R .section) h ∙ rw (a, b, o, r)
 
 pub index-moves : IndexMoves
-index-moves = record { same-answer = with-index; same-image = left-so }
+index-moves = record { same-answer = with-index; same-image = left-so; same-registers = registers-so }

@@ -15,7 +15,7 @@ use Rattle.moves.specs.Table.{tableRight}
 use Rattle.moves.specs.Settle.{refusedMove}
 use Rattle.relocate.specs.Restore.{Restore}
 use Rattle.relocate.specs.Plan.{imageRight}
-use Rattle.thread.specs.Thread.{Thread, threadAnswer, threadImage}
+use Rattle.thread.specs.Thread.{Thread, threadAnswer, threadImage, threadRegisters}
 
 module _ (R : Restore) (im index : List ℕ) where
   -- 1 to 9, 13, 14, 27, 29, and then what the call without an index gives, whose 1 to 9, 13 and 14 have passed: 25, the frames, 26
@@ -33,7 +33,12 @@ module _ (R : Restore) (im index : List ℕ) where
   unfoldable pub threadByIndexImage : Thread → List ℕ
   threadByIndexImage t = cond (eqb (threadByIndexAnswer t .number) 0) (threadImage R im t) im
 
-  -- an answer, and the image that is left, are those of the call
-  pub record ThreadsByIndex (t : Thread) (r : Move) (after : List ℕ) : Type 0 where
+  -- the registers that the call without an index leaves, or the registers as lent
+  unfoldable pub threadByIndexRegisters : Thread → List ℕ
+  threadByIndexRegisters t = cond (eqb (threadByIndexAnswer t .number) 0) (threadRegisters R im t) (t .registers)
+
+  -- an answer, and the image and the registers that are left, are those of the call
+  pub record ThreadsByIndex (t : Thread) (r : Move) (after registers : List ℕ) : Type 0 where
     pub answer-is : r ≡ threadByIndexAnswer t
     pub image-is : after ≡ threadByIndexImage t
+    pub registers-is : registers ≡ threadByIndexRegisters t

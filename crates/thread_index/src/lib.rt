@@ -1,6 +1,6 @@
 // A whole thread in one call that is handed an index of the section. The index is tested; where it is the right one, the call is that
 // without an index.
-ghost use Rattle.relocate.specs.Restore.{restore};
+ghost use Rattle.relocate.specs.Restore.{restoreAll};
 ghost use Rattle.thread.specs.Thread.{threadOf};
 ghost use Rattle.thread_index.specs.ByIndex.{ThreadsByIndex};
 use moves::Move;
@@ -25,10 +25,11 @@ pub fn relocate_thread_by_index(
     news: &[u64],
     machine: Machine,
     list: &[u64],
+    registers: &mut [u64],
     index: &[u64],
     settings: Settings,
 ) -> Move
-    ensures { λ r. ⌜ ThreadsByIndex (restore (now (section .entry)) (now (olds .entry)) (now (news .entry)) first) (now (image .entry)) (now (index .entry)) (threadOf machine (now (list .entry))) r (now (image .exit)) ⌝ }
+    ensures { λ r. ⌜ ThreadsByIndex (restoreAll (now (section .entry)) (now (olds .entry)) (now (news .entry)) first) (now (image .entry)) (now (index .entry)) (threadOf machine (now (list .entry)) (now (registers .entry))) r (now (image .exit)) (now (registers .exit)) ⌝ }
 {
     let checked = index_check::check(section, index, 0);
     let found = checked.found;
@@ -49,6 +50,7 @@ pub fn relocate_thread_by_index(
                     news,
                     machine,
                     list,
+                    registers,
                 );
             }
             return moving::refused(OTHER_INDEX, 0);
