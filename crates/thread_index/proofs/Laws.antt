@@ -20,7 +20,7 @@ use Rattle.index.proofs.Same.{same-self}
 use Rattle.moves.specs.declared.Move.{Move}
 use Rattle.moves.specs.Table.{tableRight}
 use Rattle.moves.specs.Settle.{refusedMove}
-use Rattle.relocate.specs.Restore.{Restore}
+use Rattle.relocate.specs.Restore.{Restore, allowed}
 use Rattle.relocate.specs.Plan.{imageRight}
 use Rattle.relocate.specs.Lists.{final, finalRegisters}
 use Rattle.thread.specs.Thread.{Thread, framesOf, threadAnswer, threadImage, threadRegisters}
@@ -29,14 +29,15 @@ use Rattle.thread_index.specs.ByIndex.{threadByIndexAnswer, threadByInde
 use Rattle.thread_index.specs.Laws.{IndexMoves}
 
 -- tests that are made twice
-once : {A : Type 0} (v : Verdict) (b c : Bool) (refused : ℕ → ℕ → A) (k : A) (m n : ℕ)
-    → ask refused (need b (refused m 0) (need c (refused n 0) (ask refused (need b (refused m 0) (need c (refused n 0) k)) v))) v
-    ≡ ask refused (need b (refused m 0) (need c (refused n 0) k)) v
+once : {A : Type 0} (v : Verdict) (a b c : Bool) (refused : ℕ → ℕ → A) (k : A) (l m n : ℕ)
+    → ask refused (need a (refused l 0) (need b (refused m 0) (need c (refused n 0) (ask refused (need a (refused l 0) (need b (refused m 0) (need c (refused n 0) k))) v)))) v
+    ≡ ask refused (need a (refused l 0) (need b (refused m 0) (need c (refused n 0) k))) v
 unfolding ask
-once (Refused n p) b c refused k m o = refl
-once (Valid e) false c refused k m n = refl
-once (Valid e) true false refused k m n = refl
-once (Valid e) true true refused k m n = refl
+once (Refused n p) a b c refused k l m o = refl
+once (Valid e) false b c refused k l m n = refl
+once (Valid e) true false c refused k l m n = refl
+once (Valid e) true true false refused k l m n = refl
+once (Valid e) true true true refused k l m n = refl
 
 twice : (b : Bool) (x y : List ℕ) → cond b (cond b x y) y ≡ cond b x y
 twice true x y = refl
@@ -45,7 +46,7 @@ twice false x y = refl
 module _ (R : Restore) (im : List ℕ) (ns : Thread) where
   with-index : isOld (R .section) ≡ false → threadByIndexAnswer R im (indexOf (R .section)) ns ≡ threadAnswer R im ns
   unfolding threadByIndexAnswer threadAnswer
-  with-index new = rw (new, same-self (indexOf (R .section))) (once (sectionCheck (R .section)) (imageRight (R .first) (length im)) (tableRight (R .olds) (R .news)) refusedMove _ 13 14)
+  with-index new = rw (new, same-self (indexOf (R .section))) (once (sectionCheck (R .section)) (allowed R (ns .machine)) (imageRight (R .first) (length im)) (tableRight (R .olds) (R .news)) refusedMove _ 33 13 14)
 
   left-so : isOld (R .section) ≡ false → threadByIndexImage R im (indexOf (R .section)) ns ≡ threadImage R im ns
   unfolding threadByIndexImage threadImage
@@ -81,27 +82,32 @@ module _ (R : Restore) (im index : List ℕ) (ns : Thread) where
       }
 
   module _ (h : Accepted (R .section)) where
-    pub by-13 : imageRight (R .first) (length im) ≡ false → threadByIndexAnswer R im index ns ≡ refusedMove 13 0
+    pub by-33 : allowed R (ns .machine) ≡ false → threadByIndexAnswer R im index ns ≡ refusedMove 33 0
     unfolding threadByIndexAnswer
-    by-13 a = asked refusedMove _ (R .section) h ∙ rw a
+    by-33 a = asked refusedMove _ (R .section) h ∙ rw a
 
-    pub by-14 : imageRight (R .first) (length im) ≡ true → tableRight (R .olds) (R .news) ≡ false → threadByIndexAnswer R im index ns ≡ refusedMove 14 0
-    unfolding threadByIndexAnswer
-    by-14 a b = asked refusedMove _ (R .section) h ∙ rw (a, b)
+    module _ (w : allowed R (ns .machine) ≡ true) where
+      pub by-13 : imageRight (R .first) (length im) ≡ false → threadByIndexAnswer R im index ns ≡ refusedMove 13 0
+      unfolding threadByIndexAnswer
+      by-13 a = asked refusedMove _ (R .section) h ∙ rw (w, a)
 
-    pub by-27 : imageRight (R .first) (length im) ≡ true → tableRight (R .olds) (R .news) ≡ true → isOld (R .section) ≡ true → threadByIndexAnswer R im index ns ≡ refusedMove 27 0
-    unfolding threadByIndexAnswer
-    by-27 a b o = asked refusedMove _ (R .section) h ∙ rw (a, b, o)
+      module _ (a : imageRight (R .first) (length im) ≡ true) where
+        pub by-14 : tableRight (R .olds) (R .news) ≡ false → threadByIndexAnswer R im index ns ≡ refusedMove 14 0
+        unfolding threadByIndexAnswer
+        by-14 b = asked refusedMove _ (R .section) h ∙ rw (w, a, b)
 
-    pub by-29 : imageRight (R .first) (length im) ≡ true → tableRight (R .olds) (R .news) ≡ true → isOld (R .section) ≡ false → same index (indexOf (R .section)) ≡ false
-        → threadByIndexAnswer R im index ns ≡ refusedMove 29 0
-    unfolding threadByIndexAnswer
-    by-29 a b o r = asked refusedMove _ (R .section) h ∙ rw (a, b, o, r)
+        module _ (b : tableRight (R .olds) (R .news) ≡ true) where
+          pub by-27 : isOld (R .section) ≡ true → threadByIndexAnswer R im index ns ≡ refusedMove 27 0
+          unfolding threadByIndexAnswer
+          by-27 o = asked refusedMove _ (R .section) h ∙ rw (w, a, b, o)
 
-    pub by-call : imageRight (R .first) (length im) ≡ true → tableRight (R .olds) (R .news) ≡ true → isOld (R .section) ≡ false → same index (indexOf (R .section)) ≡ true
-        → threadByIndexAnswer R im index ns ≡ threadAnswer R im ns
-    unfolding threadByIndexAnswer
-    by-call a b o r = asked refusedMove _ (R .section) h ∙ rw (a, b, o, r)
+          pub by-29 : isOld (R .section) ≡ false → same index (indexOf (R .section)) ≡ false → threadByIndexAnswer R im index ns ≡ refusedMove 29 0
+          unfolding threadByIndexAnswer
+          by-29 o r = asked refusedMove _ (R .section) h ∙ rw (w, a, b, o, r)
+
+          pub by-call : isOld (R .section) ≡ false → same index (indexOf (R .section)) ≡ true → threadByIndexAnswer R im index ns ≡ threadAnswer R im ns
+          unfolding threadByIndexAnswer
+          by-call o r = asked refusedMove _ (R .section) h ∙ rw (w, a, b, o, r)
 
 pub index-moves : IndexMoves
 index-moves = record { same-answer = with-index; same-image = left-so; same-registers = registers-so }

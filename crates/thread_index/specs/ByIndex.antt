@@ -13,20 +13,21 @@ use Rattle.index.specs.Index.{indexOf, same}
 use Rattle.moves.specs.declared.Move.{Move}
 use Rattle.moves.specs.Table.{tableRight}
 use Rattle.moves.specs.Settle.{refusedMove}
-use Rattle.relocate.specs.Restore.{Restore}
+use Rattle.relocate.specs.Restore.{Restore, allowed}
 use Rattle.relocate.specs.Plan.{imageRight}
 use Rattle.thread.specs.Thread.{Thread, threadAnswer, threadImage, threadRegisters}
 
 module _ (R : Restore) (im index : List ℕ) where
-  -- 1 to 9, 13, 14, 27, 29, and then what the call without an index gives, whose 1 to 9, 13 and 14 have passed: 25, the frames, 26
+  -- 1 to 9, 33, 13, 14, 27, 29, and then what the call without an index gives, whose 1 to 9, 33, 13 and 14 have passed: 25, the frames, 26
   unfoldable pub threadByIndexAnswer : Thread → Move
   threadByIndexAnswer t =
       ask refusedMove
+      (need (allowed R (t .machine)) (refusedMove 33 0)
       (need (imageRight (R .first) (length im)) (refusedMove 13 0)
       (need (tableRight (R .olds) (R .news)) (refusedMove 14 0)
       (need (not (isOld (R .section))) (refusedMove 27 0)
       (need (same index (indexOf (R .section))) (refusedMove 29 0)
-      (threadAnswer R im t)))))
+      (threadAnswer R im t))))))
       (sectionCheck (R .section))
 
   -- the image that the call without an index leaves, or the image as lent
