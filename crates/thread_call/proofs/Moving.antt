@@ -137,6 +137,7 @@ module _ (R : Restore) (im : List ℕ) (m : Machine) (ns lent : List ℕ) (n : �
     pub moving-end : n ≤ k
         → (now ≡ final R (framesFrom th n 0) im) × (rs ≡ flatten (finalRegisters R (framesFrom th n 0) im))
     unfolding flatten
-    moving-end l =
-        (sym (g .same ∙ rw (frames-end th n k l)),
-        sym (g .done ∙ rw (frames-end th n k l, take-all (32 * k) rs (omega (arith, g .wide))) (append-nil rs)))
+    moving-end l = (
+      sym (g .same ∙ rw (frames-end th n k l)),
+      sym (g .done ∙ rw (frames-end th n k l, take-all (32 * k) rs (omega (arith, g .wide))) (append-nil rs)),
+    )

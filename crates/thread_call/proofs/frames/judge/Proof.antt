@@ -49,10 +49,11 @@ returns c =
     let th = threadOf (a .machine) (a .frames .now) (a .registers .now) in
     let inv = c .before .before .before .before .before .before .before .before .before .before .before .loop .inv in
     let m = c .before .before .before .before .before .before .before .settle-frame in
-    let e = rw (inv .1, inv .2) at (m .ensures .0) in
-    (c .refused .ensures ∙ judging-stop R (a .image .now) th (a .count) (acceptedMove (pointersIn R (a .image .now) (framesFrom th (a .count) 0))) (inv .0) (c .before .before .before .before .before .before .before .before .before .before .loop-test .taken) (m .result) e (c .before .if1 .taken),
-    m .ensures .1 ∙ inv .1,
-    m .ensures .2 ∙ inv .2)
+    let e = rw (inv .1, inv .2) at (m .ensures .0) in (
+      c .refused .ensures ∙ judging-stop R (a .image .now) th (a .count) (acceptedMove (pointersIn R (a .image .now) (framesFrom th (a .count) 0))) (inv .0) (c .before .before .before .before .before .before .before .before .before .before .loop-test .taken) (m .result) e (c .before .if1 .taken),
+      m .ensures .1 ∙ inv .1,
+      m .ensures .2 ∙ inv .2,
+    )
 
 add-sum : tie.Need-add-sum Inv-loop μ-loop
 add-sum c =
@@ -80,10 +81,11 @@ loop-again c =
     let th = threadOf (a .machine) (a .frames .now) (a .registers .now) in
     let inv = c .before .before .before .before .before .before .before .before .before .before .before .loop .inv in
     let m = c .before .before .before .before .before .before .before .settle-frame in
-    let e = rw (inv .1, inv .2) at (m .ensures .0) in
-    (judging-on R (a .image .now) th (a .count) (acceptedMove (pointersIn R (a .image .now) (framesFrom th (a .count) 0))) (inv .0) (c .before .before .before .before .before .before .before .before .before .before .loop-test .taken) (m .result) e (c .before .if1 .left),
-    m .ensures .1 ∙ inv .1,
-    m .ensures .2 ∙ inv .2)
+    let e = rw (inv .1, inv .2) at (m .ensures .0) in (
+      judging-on R (a .image .now) th (a .count) (acceptedMove (pointersIn R (a .image .now) (framesFrom th (a .count) 0))) (inv .0) (c .before .before .before .before .before .before .before .before .before .before .loop-test .taken) (m .result) e (c .before .if1 .left),
+      m .ensures .1 ∙ inv .1,
+      m .ensures .2 ∙ inv .2,
+    )
 
 same-length-3 : tie.Need-same-length-3 Inv-loop μ-loop
 same-length-3 c = rw (c .before .loop .inv .1)
