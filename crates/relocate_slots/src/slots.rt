@@ -138,14 +138,14 @@ fn is_memory_slot(machine: Machine, old: bool, l: LocationAnswer) -> bool
 }
 
 // Whether a register may state this size: 8, and in version 1 also 0.
-fn register_size(old: bool, size: u16) -> bool
-    ensures { λ r. ⌜ r ≡ (eqb size 8 || (old && eqb size 0)) ⌝ }
+fn register_size(old: bool, bytes: u16) -> bool
+    ensures { λ r. ⌜ r ≡ (eqb bytes 8 || (old && eqb bytes 0)) ⌝ }
 {
-    if size == SLOT_SIZE {
+    if bytes == SLOT_SIZE {
         return true;
     }
     if old {
-        return size == 0;
+        return bytes == 0;
     }
     false
 }
