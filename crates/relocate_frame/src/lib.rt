@@ -1,7 +1,7 @@
 // The move of one frame.
 ghost use mathlib.Core.Path.{_≡_};
 ghost use lib.ListN.{length};
-ghost use Rattle.relocate.specs.Limits.{registerCount, framePointer, stackPointer};
+ghost use Rattle.relocate.specs.Limits.{registerCount};
 ghost use Rattle.relocate.specs.Restore.{restoreAll};
 ghost use Rattle.relocate.specs.Stopped as spec;
 ghost use Rattle.relocate.specs.Stopped.{stopped, registersRight};
@@ -12,30 +12,11 @@ use moves_table::table;
 use questions_find::find;
 use relocate::Cursor;
 use relocate::Frame;
-use relocate::Machine;
 use relocate::REGISTERS;
+use relocate_slots::slots;
 
 pub mod extent;
 pub mod moving;
-
-// Frame pointer and stack pointer by their DWARF numbers: RBP and RSP on AMD64, x29 and sp on AArch64.
-fn frame_pointer(machine: Machine) -> usize
-    ensures { λ r. ⌜ r ≡ framePointer machine ⌝ }
-{
-    match machine {
-        Machine::Amd64 => 6,
-        Machine::Aarch64 => 29,
-    }
-}
-
-fn stack_pointer(machine: Machine) -> usize
-    ensures { λ r. ⌜ r ≡ stackPointer machine ⌝ }
-{
-    match machine {
-        Machine::Amd64 => 7,
-        Machine::Aarch64 => 31,
-    }
-}
 
 // What a plan reads of a frame.
 pub fn cursor(frame: Frame, registers: &[u64]) -> Cursor
@@ -46,8 +27,8 @@ pub fn cursor(frame: Frame, registers: &[u64]) -> Cursor
     Cursor {
         address: frame.address,
         function: frame.function,
-        fp: registers[frame_pointer(machine)],
-        sp: registers[stack_pointer(machine)],
+        fp: registers[slots::frame_pointer(machine) as usize],
+        sp: registers[slots::stack_pointer(machine) as usize],
         machine,
     }
 }

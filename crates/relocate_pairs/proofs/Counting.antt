@@ -12,7 +12,7 @@ use Rattle.wire.specs.Word.{Bytes}
 use Rattle.wire.proofs.Laws.{word-bound}
 use Rattle.stackmap.specs.Section.{Record, numLocations}
 use Rattle.moves.specs.Slots.{Slot}
-use Rattle.moves.specs.Pointers.{Pointer, null, slots}
+use Rattle.moves.specs.Pointers.{Pointer, null}
 use Rattle.moves.specs.Plan.{pairOf}
 use Rattle.relocate.specs.declared.Cursor.{Cursor}
 use Rattle.relocate.specs.Statepoint.{Pair, pairs, isNull, pointersIn, slotAt, next, pointersFrom, pointersOf}

@@ -5,10 +5,6 @@ use mathlib.Core.Bool.{Bool, true, false, not, _&&_, _||_}
 use mathlib.Core.Option.{none, some}
 use mathlib.Core.List.{List}
 use native.Mathlib.Omega.{arith}
-use native.Mathlib.Decide.{decLt}
-use lib.Dec.{eqb}
-use lib.ListN.{length, getD, set}
-use lib.Seq.{getD-set-same, getD-set-other}
 use Rattle.stackmap.specs.Section.{Location, Record}
 use Rattle.questions.specs.declared.LocationAnswer.{LocationAnswer}
 use Rattle.questions.specs.Questions.{thisLocation}

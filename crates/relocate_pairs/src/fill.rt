@@ -20,7 +20,7 @@ use relocate::Spot;
 use relocate_slots::slots;
 
 // Puts k pointers after n others, from the slots b and d on; it answers how many there are then. What was placed stays so, in a window of
-// any m bytes in which the new ones are.
+// `size` bytes in which the new ones are.
 fn put_run(
     live: &mut [u8],
     bases: &mut [usize],
@@ -49,7 +49,7 @@ fn put_run(
     n + next
 }
 
-// A pair as `count` pointers from two slots on, counted from the stack pointer; 0 means a null pair. It counts where `inside` is true.
+// A pair as `count` pointers from two slots on, by their numbers; 0 means a null pair. It counts where `inside` is true.
 pub struct Run {
     pub count: usize,
     pub base: usize,

@@ -87,7 +87,8 @@ pub fn pointers_in(old: bool, size: u16) -> usize
     (size / SLOT_SIZE) as usize
 }
 
-fn frame_pointer(machine: Machine) -> u16
+// Frame pointer and stack pointer by their DWARF numbers.
+pub fn frame_pointer(machine: Machine) -> u16
     ensures { λ r. ⌜ r ≡ framePointer machine ⌝ }
 {
     match machine {
@@ -96,7 +97,7 @@ fn frame_pointer(machine: Machine) -> u16
     }
 }
 
-fn stack_pointer(machine: Machine) -> u16
+pub fn stack_pointer(machine: Machine) -> u16
     ensures { λ r. ⌜ r ≡ stackPointer machine ⌝ }
 {
     match machine {
@@ -138,14 +139,14 @@ fn is_memory_slot(machine: Machine, old: bool, l: LocationAnswer) -> bool
 }
 
 // Whether a register may state this size: 8, and in version 1 also 0.
-fn register_size(old: bool, size: u16) -> bool
-    ensures { λ r. ⌜ r ≡ (eqb size 8 || (old && eqb size 0)) ⌝ }
+fn register_size(old: bool, bytes: u16) -> bool
+    ensures { λ r. ⌜ r ≡ (eqb bytes 8 || (old && eqb bytes 0)) ⌝ }
 {
-    if size == SLOT_SIZE {
+    if bytes == SLOT_SIZE {
         return true;
     }
     if old {
-        return size == 0;
+        return bytes == 0;
     }
     false
 }

@@ -1,5 +1,5 @@
 use Prim.Native.Nat.{_-_}
-use mathlib.Core.Path.{_≡_, refl, sym, ap, _∙_}
+use mathlib.Core.Path.{sym, ap, _∙_}
 use native.Mathlib.Omega.{arith}
 use borrow.Author.Needs.{needs}
 use borrow.Author.Tests.{not-false}
@@ -7,7 +7,7 @@ use lib.ListN.{length}
 use Rattle.stackmap.proofs.Tests.{not-true}
 use Rattle.moves.specs.Arrays as arrays
 use Rattle.relocate.specs.Limits.{registerCount}
-use Rattle.relocate.specs.Statepoint.{inside, rightForm, pointersOf}
+use Rattle.relocate.specs.Statepoint.{inside, pointersOf}
 use Rattle.relocate.specs.Code.{recordOf, poolOf, pairNumber, Room}
 use Rattle.relocate.proofs.Records.{pair-inside}
 use Rattle.relocate_pairs.proofs.Forms.{Looking, look-start, look-on, look-hit, look-end, pair-from}

@@ -1,6 +1,9 @@
-use mathlib.Core.Path.{sym, _∙_}
+use mathlib.Core.Path.{sym, ap, _∙_}
+use mathlib.Core.Bool.{not}
+use native.Mathlib.Omega.{arith}
 use borrow.Author.Tests.{eq-eqb, ne-eqb, lt-ltb, le-ltb}
 use borrow.Author.Needs.{needs}
+use Rattle.relocate.specs.Limits.{generalRegisters}
 use Rattle.relocate.specs.Statepoint.{isRegisterSlot}
 use Rattle.relocate_slots.proofs.slots.is_register_slot.Statement.{statement}
 use Rattle.relocate_slots.proofs.slots.is_register_slot.Tie as tie
@@ -16,7 +19,7 @@ returns-2 : tie.Need-returns-2
 unfolding isRegisterSlot
 returns-2 c =
     let b = c .before .before in
-    rw (eq-eqb _ _ (b .before .before .if1 .left), sym (b .before .register-size .ensures) ∙ b .if2 .taken, ne-eqb _ _ (c .if3 .taken))
+    rw (eq-eqb _ _ (b .before .before .if1 .left), sym (b .before .register-size .ensures) ∙ b .if2 .taken, ne-eqb (b .before .before .before .before .args .l .offset) 0 (λ e. omega arith))
 
 general-registers-requires : tie.Need-general-registers-requires
 general-registers-requires c κs = search needs
@@ -26,12 +29,12 @@ unfolding isRegisterSlot
 returns-3 c =
     let g = c .before .before in
     let b = g .before .before .before in
+    let a = b .before .before .before .before .args in
     rw (
       eq-eqb _ _ (b .before .before .if1 .left),
       sym (b .before .register-size .ensures) ∙ b .if2 .taken,
-      eq-eqb _ _ (g .before .if3 .left),
-      ← g .general-registers .ensures,
-      le-ltb _ _ (c .if4 .taken),
+      eq-eqb (a .l .offset) 0 (omega arith),
+      le-ltb (a .l .register) (generalRegisters (a .machine)) (omega (arith, g .general-registers .ensures)),
     )
 
 is-frame-or-stack-requires : tie.Need-is-frame-or-stack-requires
@@ -42,14 +45,13 @@ unfolding isRegisterSlot
 returns-4 c =
     let g = c .before .before .before in
     let b = g .before .before .before in
+    let a = b .before .before .before .before .args in
     rw (
       eq-eqb _ _ (b .before .before .if1 .left),
       sym (b .before .register-size .ensures) ∙ b .if2 .taken,
-      eq-eqb _ _ (g .before .if3 .left),
-      ← g .general-registers .ensures,
-      lt-ltb _ _ (c .before .if4 .left),
-      ← c .is-frame-or-stack .ensures,
-    )
+      eq-eqb (a .l .offset) 0 (omega arith),
+      lt-ltb (a .l .register) (generalRegisters (a .machine)) (omega (arith, g .general-registers .ensures)),
+    ) (ap not (c .is-frame-or-stack .ensures))
 
 returns-5 : tie.Need-returns-5
 unfolding isRegisterSlot

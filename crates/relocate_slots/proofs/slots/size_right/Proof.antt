@@ -1,5 +1,4 @@
 use borrow.Author.Tests.{eq-eqb, ne-eqb, lt-leb, le-leb}
-use native.Mathlib.Omega.{arith}
 use Rattle.relocate.specs.Statepoint.{sizeRight}
 use Rattle.relocate_slots.proofs.slots.size_right.Statement.{statement}
 use Rattle.relocate_slots.proofs.slots.size_right.Tie as tie
