@@ -5,7 +5,7 @@ ghost use Prim.Native.Nat.{_≤_};
 ghost use lib.ListN.{length};
 ghost use Rattle.questions.specs.Kept.{searched, ofSection};
 ghost use Rattle.moves.specs.Limits.{pairsMost};
-ghost use Rattle.relocate.specs.Limits.{registerCount, framePointer, stackPointer};
+ghost use Rattle.relocate.specs.Limits.{registerCount};
 ghost use Rattle.relocate.specs.Restore.{restore, sameMachine};
 ghost use Rattle.relocate.specs.Restore as spec;
 ghost use Rattle.relocate.specs.Stopped as stoppedSpec;
@@ -20,29 +20,11 @@ use relocate::Frame;
 use relocate::Machine;
 use relocate::REGISTERS;
 use relocate::Settings;
+use relocate_slots::slots;
 use stackmap_tables::tables;
 
 pub mod extent;
 pub mod moving;
-
-// Frame pointer and stack pointer by their DWARF numbers: RBP and RSP on AMD64, x29 and sp on AArch64.
-fn frame_pointer(machine: Machine) -> usize
-    ensures { λ r. ⌜ r ≡ framePointer machine ⌝ }
-{
-    match machine {
-        Machine::Amd64 => 6,
-        Machine::Aarch64 => 29,
-    }
-}
-
-fn stack_pointer(machine: Machine) -> usize
-    ensures { λ r. ⌜ r ≡ stackPointer machine ⌝ }
-{
-    match machine {
-        Machine::Amd64 => 7,
-        Machine::Aarch64 => 31,
-    }
-}
 
 // What a plan reads of a frame.
 pub fn cursor(frame: Frame, registers: &[u64]) -> Cursor
@@ -53,8 +35,8 @@ pub fn cursor(frame: Frame, registers: &[u64]) -> Cursor
     Cursor {
         address: frame.address,
         function: frame.function,
-        fp: registers[frame_pointer(machine)],
-        sp: registers[stack_pointer(machine)],
+        fp: registers[slots::frame_pointer(machine) as usize],
+        sp: registers[slots::stack_pointer(machine) as usize],
         machine,
     }
 }

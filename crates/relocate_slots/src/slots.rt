@@ -87,7 +87,8 @@ pub fn pointers_in(old: bool, size: u16) -> usize
     (size / SLOT_SIZE) as usize
 }
 
-fn frame_pointer(machine: Machine) -> u16
+// Frame pointer and stack pointer by their DWARF numbers.
+pub fn frame_pointer(machine: Machine) -> u16
     ensures { λ r. ⌜ r ≡ framePointer machine ⌝ }
 {
     match machine {
@@ -96,7 +97,7 @@ fn frame_pointer(machine: Machine) -> u16
     }
 }
 
-fn stack_pointer(machine: Machine) -> u16
+pub fn stack_pointer(machine: Machine) -> u16
     ensures { λ r. ⌜ r ≡ stackPointer machine ⌝ }
 {
     match machine {

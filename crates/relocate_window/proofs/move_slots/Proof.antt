@@ -9,6 +9,24 @@ use borrow.Author.Needs.{needs}
 use Rattle.relocate_window.proofs.move_slots.Statement.{statement}
 use Rattle.relocate_window.proofs.move_slots.Tie as tie
 
+returns : tie.Need-returns
+returns c =
+    let s = c .before .before .before .before .before .before .before .before .before .before .before .before .before in
+    let a = s .args in
+    refuses _ _ _ _ _ _ 19 _ refl
+    (slots-19 (restore (a .s .now) (a .olds .now) (a .news .now) (a .first) (limited (a .most))) (a .frame) (a .size) (recordOf (a .s .now) (a .at)) (a .count) (s .pre .0 .counted) (a .old) (s .pre .1) _
+    (c .before .before .before .before .fill .ensures .0) (c .if1 .taken))
+
+returns-2 : tie.Need-returns-2
+returns-2 c =
+    let i = c .before .before .before .before .before .before .before .before .before .before .before .before .before .before in
+    let g = i .before .before .before .before in
+    let s = g .before .before .before .before .before .before .before .before .before in
+    let a = s .args in
+    let r = recordOf (a .s .now) (a .at) in
+    rw (slots-on (restore (a .s .now) (a .olds .now) (a .news .now) (a .first) (limited (a .most))) (a .frame) (a .size) r (a .count) (s .pre .0 .counted) (a .old) (s .pre .1) _ (g .fill .ensures .0) (i .if1 .left) (a .frame .sp - a .first) refl)
+    (follows-pairs _ (a .write) _ _ (a .image .now) _ _ _ _ _ _ _ (rw (s .pre .3) (g .fill .ensures .2 (i .if1 .left))) (c .at-pair .ensures (a .frame)) (c .before .before .before .before .before .before .move-window .ensures))
+
 slice-aggregate-fill : tie.Need-slice-aggregate-fill
 slice-aggregate-fill c = search needs
 
@@ -22,14 +40,6 @@ fill-requires : tie.Need-fill-requires
 fill-requires c κs =
     let s = c .before .before .before .before .before .before .before .before in
     (record { live-room = refl; bases-room = refl; derived-room = refl }, s .pre .0, s .pre .7, s .pre .2, omega (arith, s .pre .3, s .pre .4))
-
-returns : tie.Need-returns
-returns c =
-    let s = c .before .before .before .before .before .before .before .before .before .before .before .before .before in
-    let a = s .args in
-    refuses _ _ _ _ _ _ 19 _ refl
-    (slots-19 (restore (a .s .now) (a .olds .now) (a .news .now) (a .first) (limited (a .most))) (a .frame) (a .size) (recordOf (a .s .now) (a .at)) (a .count) (s .pre .0 .counted) (a .old) (s .pre .1) _
-    (c .before .before .before .before .fill .ensures .0) (c .if1 .taken))
 
 sub-off : tie.Need-sub-off
 sub-off c =
@@ -73,16 +83,6 @@ same-length c = search needs
 
 same-length-2 : tie.Need-same-length-2
 same-length-2 c = search needs
-
-returns-2 : tie.Need-returns-2
-returns-2 c =
-    let i = c .before .before .before .before .before .before .before .before .before .before .before .before .before .before in
-    let g = i .before .before .before .before in
-    let s = g .before .before .before .before .before .before .before .before .before in
-    let a = s .args in
-    let r = recordOf (a .s .now) (a .at) in
-    rw (slots-on (restore (a .s .now) (a .olds .now) (a .news .now) (a .first) (limited (a .most))) (a .frame) (a .size) r (a .count) (s .pre .0 .counted) (a .old) (s .pre .1) _ (g .fill .ensures .0) (i .if1 .left) (a .frame .sp - a .first) refl)
-    (follows-pairs _ (a .write) _ _ (a .image .now) _ _ _ _ _ _ _ (rw (s .pre .3) (g .fill .ensures .2 (i .if1 .left))) (c .at-pair .ensures (a .frame)) (c .before .before .before .before .before .before .move-window .ensures))
 
 pub move-slots-spec : {M : Type 1} → statement M
 move-slots-spec =

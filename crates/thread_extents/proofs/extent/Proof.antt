@@ -60,21 +60,6 @@ part-cursor-end c = search needs
 cursor-requires : tie.Need-cursor-requires
 cursor-requires c κs = search needs
 
-add-t20 : tie.Need-add-t20
-unfolding stoppedAt
-add-t20 c =
-    let q = c .before .before .before .before .before .before .before .before .before in
-    let a = q .args in
-    let th = threadOf (a .machine) (a .frames .now) (a .registers .now) in
-    let t : Sited (a .s .now) (stoppedAt th (a .k)) = q .pre .2 .at _ (q .pre .3) in
-    let w : Bytes (a .s .now) = record { below = λ i. c .before .before .before .before .before .before .before .before .shared-slice-known .given i .fits } in
-    let e : c .before .before .before .before .of-frame .result ≡ firstOf (recordsOf (a .s .now) (stoppedAt th (a .k) .frame)) =
-    rw (c .before .before .before .before .before .frame-at .ensures) at (c .before .before .before .before .of-frame .ensures) in
-    let z = c .before .before .before .stack-size .ensures ∙ sited-size (a .s .now) (stoppedAt th (a .k)) t (q .pre .0 .section-right) w _ e in
-    let x : c .before .cursor .result ≡ cursor (stoppedAt th (a .k)) =
-    c .before .cursor .ensures ∙ ap cursor (stopped-at th (a .k) (32 * a .k + 32 - 32 * a .k) _ (c .before .before .before .before .before .frame-at .ensures) (omega arith)) in
-    omega (arith, t .ends, ap (λ (r : Cursor). r .sp) x)
-
 returns : tie.Need-returns
 unfolding stoppedAt
 returns c =
@@ -90,6 +75,21 @@ returns c =
     c .before .cursor .ensures ∙ ap cursor (stopped-at th (a .k) (32 * a .k + 32 - 32 * a .k) _ (c .before .before .before .before .before .frame-at .ensures) (omega arith)) in
     let y = extent-is (a .s .now) (stoppedAt th (a .k)) t in
     (ap (λ (r : Cursor). r .sp) x ∙ sym (y .0), rw (x, z) (sym (y .1)))
+
+add-t20 : tie.Need-add-t20
+unfolding stoppedAt
+add-t20 c =
+    let q = c .before .before .before .before .before .before .before .before .before in
+    let a = q .args in
+    let th = threadOf (a .machine) (a .frames .now) (a .registers .now) in
+    let t : Sited (a .s .now) (stoppedAt th (a .k)) = q .pre .2 .at _ (q .pre .3) in
+    let w : Bytes (a .s .now) = record { below = λ i. c .before .before .before .before .before .before .before .before .shared-slice-known .given i .fits } in
+    let e : c .before .before .before .before .of-frame .result ≡ firstOf (recordsOf (a .s .now) (stoppedAt th (a .k) .frame)) =
+    rw (c .before .before .before .before .before .frame-at .ensures) at (c .before .before .before .before .of-frame .ensures) in
+    let z = c .before .before .before .stack-size .ensures ∙ sited-size (a .s .now) (stoppedAt th (a .k)) t (q .pre .0 .section-right) w _ e in
+    let x : c .before .cursor .result ≡ cursor (stoppedAt th (a .k)) =
+    c .before .cursor .ensures ∙ ap cursor (stopped-at th (a .k) (32 * a .k + 32 - 32 * a .k) _ (c .before .before .before .before .before .frame-at .ensures) (omega arith)) in
+    omega (arith, t .ends, ap (λ (r : Cursor). r .sp) x)
 
 pub extent-spec : {M : Type 1} → statement M
 extent-spec =
