@@ -18,7 +18,7 @@ unknown-machine-requires c κs = search needs
 returns : tie.Need-returns
 returns c =
     rw (lt-leb _ _ (c .before .before .if1 .taken))
-    (c .unknown-machine .ensures ∙ ap (λ (v : Verdict). moveAnswer (ask refusedMove (refusedMove 33 0) v)) (c .before .check .ensures), refl)
+    (c .unknown-machine .ensures ∙ ap (λ (v : Verdict). moveAnswer (ask refusedMove (refusedMove 33 0) v)) (c .before .check .ensures), refl, refl)
 
 machine-of-requires : tie.Need-machine-of-requires
 machine-of-requires c κs = search needs
@@ -26,8 +26,11 @@ machine-of-requires c κs = search needs
 frame-of-requires : tie.Need-frame-of-requires
 frame-of-requires c κs = search needs
 
+everything-requires : tie.Need-everything-requires
+everything-requires c κs = search needs
+
 relocate-requires : tie.Need-relocate-requires
-relocate-requires c κs = search needs
+relocate-requires c κs = c .everything .ensures .1
 
 move-answer-requires : tie.Need-move-answer-requires
 move-answer-requires c κs = search needs
@@ -35,15 +38,16 @@ move-answer-requires c κs = search needs
 same-length : tie.Need-same-length
 same-length c = search needs
 
+same-length-2 : tie.Need-same-length-2
+same-length-2 c = search needs
+
 returns-2 : tie.Need-returns-2
 returns-2 c =
-    let t = c .before .before .before .relocate .ensures in
-    let f = c .before .before .before .before .frame-of .ensures in
-    let m = c .before .before .before .before .before .before .machine-of .ensures in
-    rw (le-leb _ _ (c .before .before .before .before .before .before .before .if1 .left), ← m) (
-      c .move-answer .ensures ∙ ap moveAnswer (t .answer-is ∙ ap (Relocation.answer _ _) f),
-      t .image-is ∙ ap (Relocation.moved _ _) f,
-    )
+    let e = c .before .before .before .before .before .before .everything .ensures .0 in
+    let g = c .before .before .before .before .before .before .before .before .frame-of .ensures in
+    let t = rw (e, g) at (c .before .before .before .before .before .relocate .ensures) in
+    let m = c .before .before .before .before .before .before .before .before .before .before .machine-of .ensures in
+    rw (le-leb _ _ (c .before .before .before .before .before .before .before .before .before .before .before .if1 .left), ← m) (c .move-answer .ensures ∙ ap moveAnswer (t .answer-is), t .image-is, t .registers-is)
 
 pub treskibben-relocate-spec : {M : Type 1} → statement M
 treskibben-relocate-spec =
@@ -54,7 +58,9 @@ treskibben-relocate-spec =
     returns
     machine-of-requires
     frame-of-requires
+    everything-requires
     relocate-requires
     move-answer-requires
     same-length
+    same-length-2
     returns-2)
