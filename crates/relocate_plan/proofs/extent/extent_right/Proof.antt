@@ -1,8 +1,8 @@
 use native.Mathlib.Omega.{arith}
-use Rattle.relocate_frame.proofs.Stages.{extent-unknown, extent-below, extent-past, extent-fine}
+use Rattle.relocate_plan.proofs.Stages.{extent-unknown, extent-below, extent-past, extent-fine}
 use borrow.Author.Needs.{needs}
-use Rattle.relocate_frame.proofs.extent.extent_right.Statement.{statement}
-use Rattle.relocate_frame.proofs.extent.extent_right.Tie as tie
+use Rattle.relocate_plan.proofs.extent.extent_right.Statement.{statement}
+use Rattle.relocate_plan.proofs.extent.extent_right.Tie as tie
 
 returns : tie.Need-returns
 returns c = extent-unknown _ _ _ _ (c .if1 .taken)

@@ -1,6 +1,6 @@
-use Rattle.relocate_frame.proofs.Stages.{many-old}
-use Rattle.relocate_frame.proofs.moving.too_many.Statement.{statement}
-use Rattle.relocate_frame.proofs.moving.too_many.Tie as tie
+use Rattle.relocate_plan.proofs.Stages.{many-old}
+use Rattle.relocate_plan.proofs.plan.too_many.Statement.{statement}
+use Rattle.relocate_plan.proofs.plan.too_many.Tie as tie
 
 returns : tie.Need-returns
 returns c = rw (c .if1 .taken) (many-old (c .before .args .count) (c .before .args .most))
