@@ -11,6 +11,8 @@ ghost use lib.ListN.{length};
 ghost use Rattle.moves.specs.Limits.{pairsMost};
 ghost use Rattle.moves.specs.Table.{tableRight, lookUp};
 ghost use Rattle.moves.specs.Slots.{state};
+ghost use Rattle.moves.specs.Window.{part};
+ghost use Rattle.moves.specs.Settle.{settled};
 ghost use Rattle.moves.specs.Code.{Settles, SettlesIn};
 ghost use Rattle.moves.specs.Arrays.{registersFrom, AllPlaced, Judges, pointersOf};
 use moves::Move;
@@ -128,5 +130,36 @@ pub fn move_window(
         olds,
         news,
         write,
+    )
+}
+
+// The answer to a frame whose window is image[off..end]: its pairs are only judged, and nothing but `values` can be written.
+pub fn judge_window(
+    image: &[u8],
+    registers: &[u64],
+    off: usize,
+    end: usize,
+    live: &[u8; PAIRS_MOST],
+    bases: &[usize; PAIRS_MOST],
+    derived: &[usize; PAIRS_MOST],
+    values: &mut [u64],
+    pairs: usize,
+    olds: &[u64],
+    news: &[u64],
+) -> Move
+    requires { ⌜ (off ≤ end) × (end ≤ length (now image)) × (pairs ≤ pairsMost) × (pairs ≤ length (now values)) × (end - off ≤ registersFrom) × (length (now registers) ≤ 32)
+        × AllPlaced (end - off) (length (now registers)) pairs (now live) (now bases) (now derived) × (tableRight (now olds) (now news) ≡ true) ⌝ }
+    ensures { λ r. ⌜ r ≡ settled (lookUp (now (olds .entry)) (now (news .entry))) (pointersOf pairs (now (live .entry)) (now (bases .entry)) (now (derived .entry))) (state (part (now (image .entry)) off (end - off)) (now (registers .entry))) ⌝ }
+{
+    judge(
+        &image[off..end],
+        registers,
+        live,
+        bases,
+        derived,
+        values,
+        pairs,
+        olds,
+        news,
     )
 }

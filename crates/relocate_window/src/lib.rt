@@ -25,7 +25,7 @@ use relocate_pairs::fill;
 use relocate_pairs::pairs;
 
 // The answer of a window names a pointer; a move's names its pair.
-fn at_pair(m: Move, old: bool, s: &[u8], at: usize, start: usize, count: usize) -> Move
+pub fn at_pair(m: Move, old: bool, s: &[u8], at: usize, start: usize, count: usize) -> Move
     requires { ⌜ Paired (now s) at start count ⌝ }
     ensures { λ r. ⌜ ((f : cursorType.Cursor) → r ≡ atPair (pointersBy old (poolOf (now (s .entry))) f (recordOf (now (s .entry)) at)) m) ⌝ }
 {

@@ -6,7 +6,7 @@ use Rattle.questions.proofs.Searched.{section-accepted, first-found, named-soug
 use Rattle.questions.specs.Questions.{firstOf, sought}
 use Rattle.relocate.specs.Restore.{restore}
 use Rattle.relocate.specs.Stopped.{stopped}
-use Rattle.relocate_window.proofs.Following.{refuses}
+use Rattle.relocate_plan.proofs.Following.{refuses}
 use Rattle.relocate_frame.proofs.Stages.{relocates, plan-13, plan-14, plan-25, plan-at, limited-entry, records-at, registers-32}
 use borrow.Author.Needs.{needs}
 use Rattle.relocate_frame.proofs.of_section.Statement.{statement}

@@ -6,7 +6,7 @@ use Rattle.questions.proofs.Standing.{tables-inside}
 use Rattle.questions.proofs.Searched.{section-accepted}
 use Rattle.relocate.specs.Restore.{restore}
 use Rattle.relocate.specs.Stopped.{stopped}
-use Rattle.relocate_window.proofs.Following.{refuses}
+use Rattle.relocate_plan.proofs.Following.{refuses}
 use Rattle.relocate_frame.proofs.Stages.{relocates, plan-section, plan-33, allowed-is}
 use borrow.Author.Needs.{needs}
 use Rattle.relocate_frame.proofs.relocate.Statement.{statement}

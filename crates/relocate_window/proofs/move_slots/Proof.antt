@@ -4,7 +4,7 @@ use native.Mathlib.Omega.{arith}
 use lib.ListN.{length}
 use Rattle.relocate.specs.Restore.{restore}
 use Rattle.relocate.specs.Code.{limited, recordOf}
-use Rattle.relocate_window.proofs.Following.{follows-pairs, refuses, extent-tells, slots-19, slots-on}
+use Rattle.relocate_plan.proofs.Following.{follows-pairs, refuses, extent-tells, slots-19, slots-on}
 use borrow.Author.Needs.{needs}
 use Rattle.relocate_window.proofs.move_slots.Statement.{statement}
 use Rattle.relocate_window.proofs.move_slots.Tie as tie
