@@ -1,4 +1,3 @@
-use native.Mathlib.Omega.{arith}
 use Rattle.relocate.specs.Restore.{restoreAll}
 use Rattle.thread.specs.Thread.{threadOf, framesFrom}
 use Rattle.thread_call.proofs.Whole.{frames-refused, frames-26, frames-moved, each-sited}
