@@ -2,11 +2,9 @@
 use Prim.Native.Nat.{ℕ, suc, _+_, _*_, _/_, _<_}
 use mathlib.Core.Path.{_≡_, refl, sym, ap, _∙_}
 use mathlib.Core.Bool.{Bool, true, false}
-use mathlib.Core.Logic.{⊎-elim}
-use mathlib.Core.List.{List, [], _∷_, map, flatten, List·Memᴰ, Memᴰ·of-map, List·Memᴰ·head, List·Memᴰ·tail, List·Memᴰ·not-nil, List·Memᴰ·cases-cons, List·Permᴰ, List·Permᴰ·nil, List·Permᴰ·cons, List·Permᴰ·swap, List·Permᴰ·trans, Permᴰ·symm}
+use mathlib.Core.List.{List, [], _∷_, map, flatten, Memᴰ·of-map, List·Permᴰ, List·Permᴰ·nil, List·Permᴰ·cons, List·Permᴰ·swap, List·Permᴰ·trans, Permᴰ·symm}
 use native.Mathlib.Omega.{arith}
-use borrow.Author.Tests.{eqb-true, eqb-false, eq-eqb, ne-eqb}
-use lib.Dec.{eqb}
+use borrow.Author.Tests.{ne-eqb}
 use lib.ListN.{length}
 use Rattle.stackmap.specs.declared.Verdict.{Verdict}
 use Rattle.stackmap.specs.declared.Verdict.the-variants.{Valid, Refused}
@@ -26,7 +24,7 @@ use Rattle.relocate.specs.Plan.{imageRight}
 use Rattle.relocate.specs.Relocation.{answer, movedRegisters}
 use Rattle.relocate.specs.Lists.{final, finalRegisters, Holds}
 use Rattle.relocate.proofs.Demand.{demand3, order-free, disjoint-perm}
-use Rattle.thread.specs.Thread.{Thread, listRight, stoppedAt, framesOf, passes, judged, pointersIn, threadAnswer, threadImage, threadRegisters}
+use Rattle.thread.specs.Thread.{Thread, listRight, stoppedAt, framesOf, pointersIn, threadAnswer, threadImage, threadRegisters}
 use Rattle.thread.specs.Theorems.{Movable, total, plainRegisters, AcceptedOnly, ByFrames, FrameByFrame, OrNone, AnyOrder, OneInstant}
 use Rattle.thread.proofs.Parts.{right-tells, moved-registers, part-of}
 use Rattle.thread.proofs.Judged.{judged-tells, judged-passes}

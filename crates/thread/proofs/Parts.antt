@@ -1,6 +1,6 @@
 -- The registers of a list's frames, one frame's after another's: each frame's own are the part at its position.
 use Prim.Native.Nat.{ℕ, zero, suc, _+_, _*_, _/_, _%_, _≤_, _<_}
-use mathlib.Core.Path.{_≡_, ap, _∙_}
+use mathlib.Core.Path.{_≡_, _∙_}
 use mathlib.Core.Bool.{true, _&&_}
 use mathlib.Core.List.{List, _++_, map, flatten}
 use native.Mathlib.Omega.{arith}

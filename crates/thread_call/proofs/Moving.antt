@@ -11,7 +11,7 @@ use Rattle.stackmap.specs.Check.{Accepted}
 use Rattle.questions.specs.Questions.{sought}
 use Rattle.moves.specs.declared.Move.{Move}
 use Rattle.moves.specs.Table.{tableRight, lookUp}
-use Rattle.moves.specs.Window.{part, splice}
+use Rattle.moves.specs.Window.{splice}
 use Rattle.moves.specs.Code.{Follows}
 use Rattle.moves.proofs.Splice.{splice-mid, splice-same}
 use Rattle.relocate.specs.declared.Cursor.{Cursor}

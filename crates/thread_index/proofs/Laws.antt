@@ -1,7 +1,7 @@
 -- With the right index a thread answers as without; and what each of the call's tests tells.
 use Prim.Native.Nat.{ℕ}
-use mathlib.Core.Path.{_≡_, refl, sym, ap, _∙_}
-use mathlib.Core.Bool.{Bool, true, false, cond, not, true≢false}
+use mathlib.Core.Path.{_≡_, refl, sym, _∙_}
+use mathlib.Core.Bool.{Bool, true, false, cond, true≢false}
 use mathlib.Core.List.{List, flatten}
 use borrow.Author.Tests.{ne-eqb}
 use lib.Dec.{eqb}
