@@ -9,6 +9,7 @@ use Rattle.relocate.proofs.Demand
 use Rattle.relocate.proofs.Reorder
 use Rattle.relocate.proofs.Consequences
 use Rattle.thread.proofs.OneInstant
+use Rattle.report.proofs.Reports
 use Rattle.promises.specs.Promises.{Promises}
 use Rattle.promises.proofs.Worked
 
@@ -31,6 +32,10 @@ promises =
       one-instant = OneInstant.one-instant;
       index-ordered = Ordered.index-ordered;
       index-answers = Same.index-answers;
+      report-sums = Reports.sums;
+      report-stops = Reports.report-stops;
+      report-order-free = Reports.order-free;
+      report-halves = Reports.two-halves;
       keeps-distance = Consequences.keeps-distance;
       only-slots-count = Consequences.only-slots-count;
       worked = Worked.worked;

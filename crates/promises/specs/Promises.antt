@@ -7,6 +7,7 @@ use Rattle.relocate.specs.Lists.{Demand3, OrderFree}
 use Rattle.relocate.specs.Reorder.{PairOrder}
 use Rattle.relocate.specs.Consequences.{Untouched, Counts, KeepsDistance, OnlySlotsCount}
 use Rattle.thread.specs.Theorems.{OneInstant}
+use Rattle.report.specs.Laws as Report
 use Rattle.promises.specs.Worked.{WorkedTable}
 
 pub record Promises : Type 0 where
@@ -31,6 +32,11 @@ pub record Promises : Type 0 where
   -- an address index is the one order of a section's rows, and with it a lookup gives what the plain walk gives
   pub index-ordered : IndexOrdered
   pub index-answers : IndexAnswers
+  -- a report's totals are sums, or 34 at the first section that passes; order doesn't count, and halves add up
+  pub report-sums : Report.Sums
+  pub report-stops : Report.Stops
+  pub report-order-free : Report.OrderFree
+  pub report-halves : Report.Halves
   -- the two consequences that are wanted, and the worked table
   pub keeps-distance : KeepsDistance
   pub only-slots-count : OnlySlotsCount
