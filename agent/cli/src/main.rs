@@ -25,6 +25,7 @@ mod progress;
 mod receipt;
 mod registers;
 mod replace;
+mod report;
 mod system;
 mod text;
 mod trouble;
