@@ -17,6 +17,8 @@ mod halves;
 mod orders;
 #[path = "report/statepoints.rs"]
 mod statepoints;
+#[path = "report/tool.rs"]
+mod tool;
 #[path = "report/worked.rs"]
 mod worked;
 
