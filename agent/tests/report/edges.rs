@@ -50,11 +50,14 @@ fn of_sizes(version: Version, sizes: &[u64]) -> Vec<u8> {
     section.encode()
 }
 
+/// Stack sizes, and their sum and how many are unknown; none where the sum passes.
+type Sizes<'a> = (&'a [u64], Option<(u64, u64)>);
+
 /// Stack sizes inside one section: their sum, which may pass by itself, and the unknown ones, which add to none.
 #[test]
 fn stack_sizes_of_one_section() {
     const HALF: u64 = 1 << 63;
-    let lists: [(&[u64], Option<(u64, u64)>); 10] = [
+    let lists: [Sizes; 10] = [
         (&[], Some((0, 0))),
         (&[u64::MAX], Some((0, 1))),
         (&[u64::MAX; 5], Some((0, 5))),
