@@ -749,6 +749,75 @@ typedef struct treskibben_edition_read_answer {
 /* The settings of the edition of this number: 31. */
 treskibben_edition_read_answer treskibben_edition_read(treskibben_editions store, uint64_t edition);
 
+/*
+ * The monthly report.
+ *
+ * A report counts over many sections, of versions 3 and 1, one call a section. Its totals go through the calls
+ * by value: the caller hands in those of the sections before, and keeps those that the answer has. A report
+ * begins with totals that are all 0, TRESKIBBEN_TOTALS_NONE. They are numbers only, no pointer, so that they can
+ * be kept in a file and handed in again, and every content of them gets an answer.
+ *
+ * A section that treskibben_check refuses, by any of 1 to 9, is counted: it adds one to `sections` and one to
+ * `refused`, and nothing else. That is no refusal of the call. A flat section is counted so, as it is refused by 2.
+ *
+ *   number  when                                                     place
+ *   0       the totals are added                                     0
+ *   34      one of the thirteen totals would pass 2^64 - 1, which    the section's position
+ *           is itself allowed
+ *
+ * Sums are exact. A section with 34 adds nothing, not even to `sections`, and ends the report: `totals` of the
+ * answer are those that were handed in, and stand. Its position is the number of sections before it, refused
+ * ones counted, which is `sections` of these totals.
+ *
+ * The order of sections doesn't alter the totals, provided none gave 34; and where one order gives no 34, no
+ * order does.
+ */
+
+/*
+ * The totals of a report.
+ *
+ * sections:    the sections, refused ones included.
+ * refused:     the refused among them.
+ * functions:   the functions of the accepted sections, as are all that follow.
+ * records:     the records.
+ * statepoints: the records that are statepoints.
+ * pairs:       the pairs of all statepoints, null ones and ones of wrong form too: half of the locations after
+ *              the deopt ones. A pair counts one, however many pointers it holds.
+ * kinds:       the locations of each kind, of all records: kinds[0] of kind 1, Register, to kinds[4] of kind 5,
+ *              ConstIndex.
+ * stack:       the sum of the stack sizes that are known, of functions with records and without.
+ * unknown:     the functions whose stack size isn't known, 2^64 - 1.
+ */
+typedef struct treskibben_totals {
+    uint64_t sections;
+    uint64_t refused;
+    uint64_t functions;
+    uint64_t records;
+    uint64_t statepoints;
+    uint64_t pairs;
+    uint64_t kinds[5];
+    uint64_t stack;
+    uint64_t unknown;
+} treskibben_totals;
+#define TRESKIBBEN_TOTALS_NONE {0, 0, 0, 0, 0, 0, {0, 0, 0, 0, 0}, 0, 0}
+
+/* What a report answers: on 34 `totals` are not 0, but as they were. */
+typedef struct treskibben_report_answer {
+    uint64_t number;
+    uint64_t place;
+    treskibben_totals totals;
+} treskibben_report_answer;
+
+/* Adds a section, lent as to treskibben_check, to the totals of those before it: the new totals, or 34. */
+treskibben_report_answer treskibben_report_add(const uint8_t *section, size_t length,
+                                               treskibben_totals totals);
+
+/*
+ * Adds the totals of two reports, of different sections: those of one report of all the sections, or 34 at 0
+ * with the totals of the first. Reports made at the same time, or on many machines, are added so.
+ */
+treskibben_report_answer treskibben_report_join(treskibben_totals first, treskibben_totals second);
+
 #ifdef __cplusplus
 }
 #endif

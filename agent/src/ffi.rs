@@ -9,6 +9,7 @@ use std::mem::offset_of;
 pub(crate) mod editions;
 pub(crate) mod flat;
 pub(crate) mod index;
+pub(crate) mod report;
 #[cfg(test)]
 mod tests;
 

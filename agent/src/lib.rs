@@ -15,7 +15,8 @@
 //! asked of both versions alike. [`flat`] has the same kinds of calls for the flat proposal of a
 //! version 2.
 //!
-//! [`editions`] keeps what a site sets for its moves, in a store of 64 editions.
+//! [`editions`] keeps what a site sets for its moves, in a store of 64 editions. [`report`] counts over many
+//! sections.
 //!
 //! ```
 //! // A section of no functions, no constants and no records: version 3 and fifteen zeros.
@@ -43,6 +44,7 @@ mod machine;
 mod questions;
 mod refusal;
 mod relocate;
+pub mod report;
 mod thread;
 
 pub use answers::{ContentPlace, Found, LiveOut, Location, LocationKind};

@@ -6,8 +6,8 @@ use std::fmt;
 /// Why an input was refused, and where.
 ///
 /// The number names the cause. What the place counts depends on the cause: mostly it is a byte of
-/// the section or of the listing, a pair of a statepoint, or a frame of a thread, counted from 0, and
-/// it is 0 where none of them is to blame.
+/// the section or of the listing, a pair of a statepoint, a frame of a thread, or a section of a
+/// report, counted from 0, and it is 0 where none of them is to blame.
 #[derive(Clone, Copy, Debug, PartialEq, Eq, Hash)]
 pub struct Refusal {
     number: u64,
@@ -59,6 +59,9 @@ const SETTINGS_CAUSES: [&str; 1] =
 /// The cause of a machine's refusal, number 33. The safe calls know two machines alone, and never give it.
 const MACHINE_CAUSES: [&str; 1] = ["machine not known"];
 
+/// The cause of a report's refusal, number 34.
+const REPORT_CAUSES: [&str; 1] = ["a total of the report would pass 2^64 - 1"];
+
 /// The causes of a flat section's refusals; the first is number 36.
 const FLAT_CAUSES: [&str; 6] = [
     "flat section under 32 or over 16,777,216 bytes",
@@ -88,8 +91,9 @@ impl Refusal {
 
     /// Where the fault is: the byte that [`check`](crate::check) names for a section and
     /// [`to_section`](crate::to_section()) for a listing, the pair that
-    /// [`relocate`](crate::relocate()) names for a frame, and the frame that
-    /// [`relocate_thread`](crate::relocate_thread) names for a thread.
+    /// [`relocate`](crate::relocate()) names for a frame, the frame that
+    /// [`relocate_thread`](crate::relocate_thread) names for a thread, and the section that
+    /// [`Totals::add`](crate::report::Totals::add) names for a report.
     pub fn place(&self) -> u64 {
         self.place
     }
@@ -99,6 +103,7 @@ impl Refusal {
         cause_from(&CAUSES, 1, self.number)
             .or_else(|| cause_from(&EDITION_CAUSES, 30, self.number))
             .or_else(|| cause_from(&MACHINE_CAUSES, 33, self.number))
+            .or_else(|| cause_from(&REPORT_CAUSES, 34, self.number))
             .or_else(|| cause_from(&SETTINGS_CAUSES, 51, self.number))
             .or_else(|| cause_from(&FLAT_CAUSES, 36, self.number))
             .unwrap_or("a cause that this version has no words for")
@@ -129,7 +134,9 @@ mod tests {
         let editions = (30..).zip(EDITION_CAUSES);
         let settings = (51..).zip(SETTINGS_CAUSES);
         let numbers = (1..).zip(CAUSES).chain((36..).zip(FLAT_CAUSES));
+        let report = (34..).zip(REPORT_CAUSES);
         let numbers = numbers.chain(editions).chain(machine).chain(settings);
+        let numbers = numbers.chain(report);
         let mut met: Vec<&str> = vec![];
         for (number, cause) in numbers {
             assert_eq!(Refusal::new(number, 0).cause(), cause);
@@ -159,6 +166,7 @@ mod tests {
             (31, "unknown or retired"),
             (32, "2^32 - 1"),
             (33, "machine not known"),
+            (34, "total of the report"),
             (51, "pointer count"),
             (36, "under 32"),
             (37, "version not 2"),

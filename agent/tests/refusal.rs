@@ -6,6 +6,7 @@ use generator::Rng;
 use std::collections::{BTreeMap, HashSet};
 use std::error::Error;
 use treskibben::editions::{Editions, MakeRefusal, Settings, Versions};
+use treskibben::report::Totals;
 use treskibben::{check, flat, Frame, Machine, MoveTable, Refusal};
 
 /// A section of 16 bytes with these counts, `rest` after it.
@@ -243,6 +244,17 @@ fn refused_editions() -> [Refusal; 4] {
     ]
 }
 
+/// A report that can count no section more.
+fn refused_report() -> Refusal {
+    let mut totals = Totals {
+        sections: u64::MAX,
+        ..Totals::default()
+    };
+    let refusal = totals.add(&section([0, 0, 0], &[])).unwrap_err();
+    assert_eq!(refusal.place(), u64::MAX);
+    refusal
+}
+
 /// Each number, as a call gives it, has the words of its line in docs/REFUSALS.md; and the table has no
 /// other number.
 #[test]
@@ -252,7 +264,11 @@ fn the_words_are_those_of_the_table() {
     assert_eq!(no_machine.as_deref(), Some("machine not known"));
     assert_eq!(
         table.keys().copied().collect::<Vec<u64>>(),
-        (1..=32).chain(36..=41).chain([51]).collect::<Vec<u64>>()
+        (1..=32)
+            .chain([34])
+            .chain(36..=41)
+            .chain([51])
+            .collect::<Vec<u64>>()
     );
     let section = section([0, 0, 0], &[]);
     let record = with_location([0; 8], [1, 0, 8, 0, 3, 0, 0, 0, 0, 0, 0, 0]);
@@ -266,6 +282,7 @@ fn the_words_are_those_of_the_table() {
     told.extend(refused_frames());
     told.extend(refused_threads());
     told.push(refused_index());
+    told.push(refused_report());
     told.extend(refused_flat());
     told.extend(refused_editions());
     let told: BTreeMap<u64, String> = told

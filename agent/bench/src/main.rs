@@ -3,7 +3,8 @@
 //!
 //! `cargo --offline run --release -p bench [ROUNDS] [--svg DIR]`; with a folder, the rows are drawn there too.
 //! `cargo --offline run --release -p bench reads [ROUNDS]` measures the two ways to read eight bytes, and nothing else;
-//! with `flat` instead of `reads`, flat sections and nothing else, and with `index`, address indexes.
+//! with `flat` instead of `reads`, flat sections and nothing else, with `index`, address indexes, and with `report`, the
+//! monthly report, by the command too.
 
 mod conversions;
 mod flat;
@@ -12,6 +13,7 @@ mod index;
 mod measure;
 mod parser;
 mod reads;
+mod report;
 mod section;
 mod svg;
 mod thread;
@@ -48,6 +50,7 @@ fn main() {
         ["reads", ref rest @ ..] => reads::rows(rounds(rest), &section::build(LIMIT)),
         ["flat", ref rest @ ..] => flat::rows(rounds(rest), LIMIT),
         ["index", ref rest @ ..] => index::rows(rounds(rest), LIMIT),
+        ["report", ref rest @ ..] => report::rows(rounds(rest), LIMIT),
         ref rest => all(rounds(rest)),
     }
 }
@@ -66,7 +69,7 @@ fn rounds(words: &[&str]) -> usize {
         Some(rounds) if rounds >= FEWEST => return rounds,
         Some(_) => eprintln!("bench: fewer than {FEWEST} rounds give no steady median"),
         None => eprintln!(
-            "bench: [reads|flat|index] [ROUNDS] is what can be asked, and not `{}`",
+            "bench: [reads|flat|index|report] [ROUNDS] is what can be asked, and not `{}`",
             words.join(" ")
         ),
     }

@@ -9,6 +9,7 @@ mod find;
 mod flat;
 mod index;
 mod list;
+mod report;
 mod restore;
 
 use crate::trouble::{Status, Trouble, Voice};
@@ -24,6 +25,7 @@ pub enum Command {
     Cut(cut::Arguments),
     Flat(flat::Arguments),
     Edition(edition::Arguments),
+    Report(report::Arguments),
     Restore(restore::Arguments),
     Completions(completions::Arguments),
 }
@@ -38,6 +40,7 @@ impl Command {
             Command::Cut(arguments) => arguments.json,
             Command::Flat(arguments) => arguments.json(),
             Command::Edition(arguments) => arguments.json(),
+            Command::Report(arguments) => arguments.json,
             Command::Restore(arguments) => arguments.json,
             Command::Build(_) | Command::Index(_) | Command::Completions(_) => false,
         };
@@ -59,6 +62,7 @@ impl Command {
             Command::Cut(arguments) => cut::run(&arguments, voice),
             Command::Flat(arguments) => flat::run(&arguments, voice),
             Command::Edition(arguments) => edition::run(&arguments, voice),
+            Command::Report(arguments) => report::run(&arguments, voice),
             Command::Restore(arguments) => restore::run(&arguments, voice),
             Command::Completions(arguments) => completions::run(&arguments),
         }

@@ -18,6 +18,9 @@ pub const INDEX: u64 = 16 * 699_049;
 /// The length of a store of editions.
 pub const EDITIONS: u64 = 2_588;
 
+/// The longest file of saved reports that is read.
+pub const REPORT: u64 = 134_217_728;
+
 /// Whether this name is that of standard input.
 pub fn is_standard_input(path: &Path) -> bool {
     path.as_os_str() == STANDARD_INPUT
@@ -47,6 +50,33 @@ pub fn open(path: &Path) -> Result<File, Trouble> {
 /// The bytes of a file, up to one more than the limit: that one tells that there are too many.
 pub fn read(path: &Path, limit: u64) -> Result<Vec<u8>, Trouble> {
     read_up_to(path, &mut open(path)?, limit + 1)
+}
+
+/// The bytes of a file, up to one more than the limit, in a buffer that is used again and again: what is beyond
+/// them in it is of earlier files.
+pub fn read_into<'a>(
+    path: &Path,
+    limit: u64,
+    buffer: &'a mut Vec<u8>,
+) -> Result<&'a [u8], Trouble> {
+    const LEAST: u64 = 65_536;
+    let mut file = open(path)?;
+    let expected = file.metadata().map_or(0, |metadata| metadata.len());
+    let mut length = 0;
+    while length as u64 <= limit {
+        if length == buffer.len() {
+            // One byte more than expected tells that there are no more.
+            let room = (2 * length as u64).max(expected.saturating_add(1));
+            buffer.resize(room.clamp(LEAST, limit + 1) as usize, 0);
+        }
+        match file.read(&mut buffer[length..]) {
+            Ok(0) => break,
+            Ok(more) => length += more,
+            Err(error) if error.kind() == io::ErrorKind::Interrupted => {}
+            Err(error) => return Err(unreadable(path, error)),
+        }
+    }
+    Ok(&buffer[..length])
 }
 
 /// The next bytes of a file, at most so many.

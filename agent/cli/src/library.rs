@@ -146,6 +146,19 @@ pub struct Table {
     pub new: Vec<u64>,
 }
 
+/// The totals of a report.
+pub use treskibben::report::{Kinds, Totals};
+
+/// What one section adds to a report: 34 where its own sums pass 2^64 - 1.
+pub fn totals_of(section: &[u8]) -> Result<Totals, Refusal> {
+    Ok(Totals::of([section])?)
+}
+
+/// Adds the totals of another report: 34 at 0, which leaves them as they are.
+pub fn join(totals: &mut Totals, other: Totals) -> Result<(), Refusal> {
+    Ok(totals.join(other)?)
+}
+
 /// A store of editions, what it is made with, and what is wrong with one that is damaged.
 pub use treskibben::editions::{Damage, Edition, Editions, Machine, Settings, Versions};
 

@@ -25,6 +25,7 @@ mod progress;
 mod receipt;
 mod registers;
 mod replace;
+mod report;
 mod system;
 mod text;
 mod trouble;
@@ -35,8 +36,8 @@ use commands::Command;
 use std::process::ExitCode;
 use trouble::{say, Status, Trouble, Voice};
 
-/// LLVM stack map sections, versions 3 and 1: checked, listed, built, searched, cut; and the frames
-/// of a stopped thread moved to where its heap has come back.
+/// LLVM stack map sections, versions 3 and 1: checked, listed, built, searched, cut, counted; and
+/// the frames of a stopped thread moved to where its heap has come back.
 #[derive(Parser)]
 #[command(name = "treskibben", version, after_help = STATUSES)]
 struct Program {

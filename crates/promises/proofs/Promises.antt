@@ -12,6 +12,7 @@ use Rattle.relocate_twice.proofs.Twice
 use Rattle.relocate_twice.proofs.Without
 use Rattle.explain.proofs.Laws
 use Rattle.thread.proofs.OneInstant
+use Rattle.report.proofs.Reports
 use Rattle.promises.specs.Promises.{Promises}
 use Rattle.promises.proofs.Worked
 
@@ -34,6 +35,10 @@ promises =
       one-instant = OneInstant.one-instant;
       index-ordered = Ordered.index-ordered;
       index-answers = Same.index-answers;
+      report-sums = Reports.sums;
+      report-stops = Reports.report-stops;
+      report-order-free = Reports.order-free;
+      report-halves = Reports.two-halves;
       joined-tables = Twice.joined-tables;
       two-moves = Twice.two-moves;
       without-self-pair = Without.without-self-pair;

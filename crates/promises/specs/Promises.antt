@@ -10,6 +10,7 @@ use Rattle.relocate_twice.specs.Twice.{TwoMoves, JoinedTables}
 use Rattle.relocate_twice.specs.Without.{WithoutSelfPair}
 use Rattle.explain.specs.Laws.{Explains}
 use Rattle.thread.specs.Theorems.{OneInstant}
+use Rattle.report.specs.Laws as Report
 use Rattle.promises.specs.Worked.{WorkedTable}
 
 pub record Promises : Type 0 where
@@ -34,6 +35,11 @@ pub record Promises : Type 0 where
   -- an address index is the one order of a section's rows, and with it a lookup gives what the plain walk gives
   pub index-ordered : IndexOrdered
   pub index-answers : IndexAnswers
+  -- a report's totals are sums, or 34 at the first section that passes; order doesn't count, and halves add up
+  pub report-sums : Report.Sums
+  pub report-stops : Report.Stops
+  pub report-order-free : Report.OrderFree
+  pub report-halves : Report.Halves
   -- two moves in a row are one with the joined table, and why the self pair is asked for
   pub joined-tables : JoinedTables
   pub two-moves : TwoMoves

@@ -11,6 +11,7 @@ mod full;
 mod index;
 mod json;
 mod list;
+mod report;
 mod restore;
 mod run;
 mod small;

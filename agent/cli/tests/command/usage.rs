@@ -5,7 +5,7 @@ use crate::run::{Folder, Ran, PROGRAM};
 use std::path::Path;
 use std::process::{Command, Stdio};
 
-const COMMANDS: [&str; 10] = [
+const COMMANDS: [&str; 11] = [
     "check",
     "list",
     "build",
@@ -14,6 +14,7 @@ const COMMANDS: [&str; 10] = [
     "cut",
     "flat",
     "edition",
+    "report",
     "restore",
     "completions",
 ];
@@ -138,6 +139,7 @@ fn a_reader_that_wants_no_more_is_no_fault() {
         "$0 build listing",
         "$0 cut maps",
         "$0 check large large large",
+        "$0 report large",
         "$0 --help",
         "$0 restore --help",
         "$0 --version",
@@ -174,6 +176,8 @@ fn a_full_disk_under_standard_output_is_a_fault() {
         "index h",
         "check h",
         "cut h",
+        "report h",
+        "report --json h",
         "--help",
     ] {
         folder.put("list", "1020\n");
