@@ -326,6 +326,12 @@ mod library {
 
     type Answer = Result<u64, (u64, u64)>;
 
+    /// The registers of a frame as it is made here.
+    fn registers(target: Target, made: &Made) -> treskibben::Registers {
+        let machine = target.machine;
+        machine.registers(made.frame_pointer, made.stack_pointer)
+    }
+
     pub fn proved(
         target: Target,
         bytes: &[u8],
@@ -333,10 +339,17 @@ mod library {
         old: &[u64],
         new: &[u64],
     ) -> Answer {
-        let frame = treskibben::Frame::new(made.address, made.frame_pointer, made.stack_pointer);
+        let frame = treskibben::Frame::new(made.address);
+        let mut registers = registers(target, made);
         let (image, first, machine) = (&mut made.image, made.first, target.machine);
         let table = treskibben::MoveTable::new(old, new);
-        let moved = treskibben::relocate(bytes, image, first, table, machine, frame);
+        let lent = &mut registers;
+        let moved = treskibben::relocate(bytes, image, first, table, machine, frame, lent);
+        assert_eq!(
+            registers,
+            self::registers(target, made),
+            "no pair is in a register"
+        );
         let moved = moved.map(|count| count as u64);
         moved.map_err(|refusal| (refusal.number(), refusal.place()))
     }
@@ -350,12 +363,11 @@ mod library {
     ) -> Answer {
         let frame = reference::Frame {
             address: made.address,
-            frame_pointer: made.frame_pointer,
-            stack_pointer: made.stack_pointer,
             function: 0,
         };
+        let lent = &mut registers(target, made);
         let (image, first, machine) = (&mut made.image, made.first, target.machine.number());
-        let moved = reference::relocate(bytes, image, first, old, new, machine, frame);
+        let moved = reference::relocate(bytes, image, first, old, new, machine, frame, lent);
         moved.map_err(|refusal| (refusal.number, refusal.place))
     }
 }
