@@ -28,7 +28,7 @@ fn ask(section: &[u8], question: Question) -> (u64, u64, bool) {
         Question::Location(record, number) => {
             let it = location(section, record, number);
             let zeros = (it.kind, it.size, it.register, it.offset, it.constant) == (0, 0, 0, 0, 0);
-            (it.verdict, zeros)
+            (it.verdict, zeros && it.content == 0)
         }
         Question::LiveOut(record, number) => {
             let it = live_out(section, record, number);
