@@ -5,7 +5,8 @@
 #   FOLDER/first        the address of its first byte; gdb's $first has it too
 #   FOLDER/N.section    map number N of the program's .llvm_stackmaps, as it is in memory, where the addresses are those of the
 #                       running program; a linker puts the maps of several objects one after the other
-#   FOLDER/N.frames     the frames of the selected thread that stand at a record of that map, innermost first
+#   FOLDER/N.frames     the frames of the selected thread that stand at a record of that map, innermost first, each with its RBP,
+#                       its RSP and the other registers that outlive a call
 #
 # Maps without such a frame are left out. It is for sections of version 3.
 
@@ -68,12 +69,26 @@ def register(frame, name):
     return int(frame.read_register(name)) & (2**64 - 1)
 
 
+# What a function keeps for its caller, beside RBP and RSP. No other register holds a pointer when a call has returned.
+KEPT = ("rbx", "r12", "r13", "r14", "r15")
+
+
+def kept(frame):
+    """What these registers hold in a frame, as words of its line. gdb fetches them from where callees have put them."""
+    for name in KEPT:
+        try:
+            yield "%s=%#x" % (name, register(frame, name))
+        except gdb.error:
+            pass  # gdb cannot tell it, and a restore that needs it says so
+
+
 def stack():
-    """The frames of the selected thread: address, RBP, RSP, and the end, which is the caller's RSP."""
+    """The frames of the selected thread: address, RBP, RSP, the end, which is the caller's RSP, and the other registers."""
     frame = gdb.newest_frame()
     while frame.older() is not None:
         older = frame.older()
-        yield frame.pc(), register(frame, "rbp"), register(frame, "rsp"), register(older, "rsp")
+        rbp, rsp, end = register(frame, "rbp"), register(frame, "rsp"), register(older, "rsp")
+        yield frame.pc(), rbp, rsp, end, " ".join(kept(frame))
         frame = older
 
 
@@ -95,7 +110,7 @@ class Save(gdb.Command):
             own = [frame for frame in frames if frame[0] in addresses]
             if own:
                 self.write("%d.section" % number, section)
-                lines = ["%#x %#x %#x\n" % frame[:3] for frame in own]
+                lines = ["%#x %#x %#x %s\n" % (frame[:3] + frame[4:]) for frame in own]
                 self.write("%d.frames" % number, "".join(lines).encode())
                 saved += own
         if not saved:

@@ -94,12 +94,11 @@ fn every_section_has_the_index_that_llvm_prints() {
     assert!(records > 100, "only {records} records");
 }
 
-/// What came of all statepoints of the sections of a target with this beginning of their names. The same must come of
-/// them where all their slots are addressed by the frame pointer.
-fn planned(target: &str, beginning: &str) -> Seen {
+/// What came of all statepoints of the sections of a target whose names are so. The same must come of them where all
+/// their slots on the stack are addressed by the frame pointer.
+fn planned(target: &str, are: impl Fn(&str) -> bool) -> Seen {
     let mut all = Seen::default();
-    let sections = sections::single()
-        .filter(|built| built.target == target && built.name.starts_with(beginning));
+    let sections = sections::single().filter(|built| built.target == target && are(&built.name));
     for Built {
         name,
         bytes,
@@ -114,14 +113,15 @@ fn planned(target: &str, beginning: &str) -> Seen {
         let (changed, text) = planned::by_frame_pointer(bytes, printed, target);
         let again = planned::compare(&changed, &text, target);
         let again = again.unwrap_or_else(|fault| panic!("{name}, by the frame pointer: {fault}"));
-        assert_eq!(
-            changed != *bytes,
-            seen.pointers > 0,
-            "{name}: whether a slot is addressed by the stack pointer"
+        // A value before the pairs may be addressed so, where all pairs are in registers.
+        assert!(
+            changed != *bytes || 2 * seen.pointers == seen.registers,
+            "{name}: a slot is addressed by the stack pointer"
         );
         assert_eq!(again, seen, "{name}, by the frame pointer");
         all.moved += seen.moved;
         all.pointers += seen.pointers;
+        all.registers += seen.registers;
         all.most = all.most.max(seen.most);
         for (number, count) in seen.refused {
             *all.refused.entry(number).or_default() += count;
@@ -134,11 +134,11 @@ fn planned(target: &str, beginning: &str) -> Seen {
 #[test]
 fn every_statepoint_is_moved_as_llvm_prints_it() {
     for target in TARGETS {
-        let seen = planned(target, "");
+        let seen = planned(target, |_| true);
         assert!(seen.moved > 60, "{target}: {seen:?}");
         // The address of an alloca among the values before the pairs is no pair: nothing is refused but some vectors of
         // pointers, and a slot that lies outside because a vector of unknown length is left out of the stack size.
-        let mut refused = planned(target, "vectors.").refused;
+        let mut refused = planned(target, |name| name.starts_with("vectors.")).refused;
         refused.extend((*target == "aarch64").then_some((19, 1)));
         assert_eq!(seen.refused, refused, "{target}");
     }
@@ -149,7 +149,7 @@ fn every_statepoint_is_moved_as_llvm_prints_it() {
 #[test]
 fn vectors_of_pointers_are_moved_pointer_by_pointer() {
     for target in TARGETS {
-        let seen = planned(target, "vectors.");
+        let seen = planned(target, |name| name.starts_with("vectors."));
         let each = LEVELS.len();
         assert_eq!(seen.moved, 5 * each, "{target}: {seen:?}");
         assert_eq!(seen.most, 256, "{target}: {seen:?}");
@@ -163,6 +163,17 @@ fn vectors_of_pointers_are_moved_pointer_by_pointer() {
             [(16, each), (17, each), (18, each)].into(),
             "{target}: {seen:?}"
         );
+    }
+}
+
+/// At one level LLVM leaves pointers in registers that callees save, and there they are moved.
+#[test]
+fn pointers_in_registers_are_moved_there() {
+    for target in TARGETS {
+        let seen = planned(target, |name| name.ends_with(".O2-csr"));
+        assert!(seen.registers > 30, "{target}: {seen:?}");
+        let others = planned(target, |name| !name.ends_with(".O2-csr"));
+        assert_eq!(others.registers, 0, "{target}: {others:?}");
     }
 }
 

@@ -4,7 +4,7 @@
 use crate::compare::{length, owners, same};
 use crate::readobj::{Location, Printed, Record, Value};
 use std::collections::BTreeMap;
-use treskibben::Machine;
+use treskibben::{Machine, Registers};
 
 /// What a target's frames are like: the DWARF numbers of the frame and the stack pointer, and how far below the end of
 /// a frame the frame pointer points, where it is one.
@@ -13,6 +13,8 @@ pub struct Target {
     machine: Machine,
     frame_pointer: u16,
     stack_pointer: u16,
+    /// How many general registers there are, by their DWARF numbers.
+    registers: u16,
     below_end: u64,
 }
 
@@ -23,12 +25,14 @@ impl Target {
                 machine: Machine::Amd64,
                 frame_pointer: 6,
                 stack_pointer: 7,
+                registers: 16,
                 below_end: 8,
             },
             "aarch64" => Target {
                 machine: Machine::Aarch64,
                 frame_pointer: 29,
                 stack_pointer: 31,
+                registers: 32,
                 below_end: 16,
             },
             _ => panic!("no target {name}"),
@@ -36,24 +40,34 @@ impl Target {
     }
 }
 
-/// What came of a section's statepoints: how many were moved, how many pointers they had, the most that one pair had,
-/// and how many were refused by each number.
+/// What came of a section's statepoints: how many were moved, how many pointers they had, how many of their slots were
+/// registers, the most pointers that one pair had, and how many were refused by each number.
 #[derive(Debug, Default, PartialEq, Eq)]
 pub struct Seen {
     pub moved: usize,
     pub pointers: usize,
+    pub registers: usize,
     pub most: u64,
     pub refused: BTreeMap<u64, usize>,
 }
 
-/// A frame of a thread that is made up: its stack and its two registers. Around its part of the stack, image bytes of
+/// A frame of a thread that is made up: its stack and its registers. Around its part of the stack, image bytes of
 /// others lie.
+#[derive(Clone, PartialEq, Eq)]
 struct Made {
     address: u64,
     frame_pointer: u64,
     stack_pointer: u64,
     first: u64,
     image: Vec<u8>,
+    registers: Registers,
+}
+
+/// A slot: the address of its first byte, or a register.
+#[derive(Clone, Copy, Debug, PartialEq, Eq, PartialOrd, Ord)]
+enum Slot {
+    Memory(u64),
+    Register(u16),
 }
 
 /// Where frames are made, and the bytes of others below and above.
@@ -100,17 +114,28 @@ impl Made {
             stack_pointer: STACK,
             first: STACK - BEYOND,
             image,
+            registers: target.machine.registers(frame_pointer, STACK),
         }
     }
 
-    fn set(&mut self, address: u64, word: u64) {
-        let at = (address - self.first) as usize;
-        self.image[at..at + 8].copy_from_slice(&word.to_le_bytes());
+    fn set(&mut self, slot: Slot, word: u64) {
+        match slot {
+            Slot::Register(number) => self.registers[usize::from(number)] = word,
+            Slot::Memory(address) => {
+                let at = (address - self.first) as usize;
+                self.image[at..at + 8].copy_from_slice(&word.to_le_bytes());
+            }
+        }
     }
 
-    /// The addresses of all pointers of a location, where it is one of some.
-    fn slots(&self, target: Target, location: &Location) -> Option<Vec<u64>> {
+    /// The slots of all pointers of a location, where it is one of some.
+    fn slots(&self, target: Target, location: &Location) -> Option<Vec<Slot>> {
         let from = match location.value {
+            Value::Register(number) => {
+                let own = number != target.stack_pointer && number != target.frame_pointer;
+                let slot = own && number < target.registers && location.size == 8;
+                return slot.then(|| vec![Slot::Register(number)]);
+            }
             Value::Indirect(register, offset) if register == target.stack_pointer => {
                 (self.stack_pointer, offset)
             }
@@ -122,10 +147,9 @@ impl Made {
         let sized = location.size.is_multiple_of(8) && (8..=BYTES).contains(&location.size);
         let address = from.0.wrapping_add_signed(from.1.into());
         sized.then(|| {
-            (address..)
-                .step_by(8)
-                .take(usize::from(location.size) / 8)
-                .collect()
+            let addresses = (address..).step_by(8);
+            let slots = addresses.take(usize::from(location.size) / 8);
+            slots.map(Slot::Memory).collect()
         })
     }
 }
@@ -158,7 +182,7 @@ enum Expected {
     /// The number and the place.
     Refused(u64, u64),
     /// The slots of each pointer, base and derived; and the number of null pairs.
-    Moved(Vec<[u64; 2]>, u64),
+    Moved(Vec<[Slot; 2]>, u64),
 }
 
 fn expected(target: Target, made: &Made, stack_size: u64, pairs: &[[&Location; 2]]) -> Expected {
@@ -173,8 +197,10 @@ fn expected(target: Target, made: &Made, stack_size: u64, pairs: &[[&Location; 2
             _ if is_null(base) && is_null(derived) => nulls += 1,
             [Some(bases), Some(deriveds)] if bases.len() == deriveds.len() => {
                 let mut slots = bases.iter().chain(&deriveds);
-                let inside =
-                    slots.all(|slot| (made.stack_pointer..end).contains(slot) && end - slot >= 8);
+                let inside = slots.all(|slot| match slot {
+                    Slot::Register(_) => true,
+                    Slot::Memory(at) => (made.stack_pointer..end).contains(at) && end - at >= 8,
+                });
                 outside = outside.or((!inside).then_some(number as u64));
                 pointers.extend(
                     bases
@@ -196,8 +222,8 @@ fn expected(target: Target, made: &Made, stack_size: u64, pairs: &[[&Location; 2
 }
 
 /// Fills the slots and makes the table: each base slot has an object of its own, and each derived slot that is no base
-/// slot points into its base's object, each at another place. Gives the image after the move.
-fn fill(made: &mut Made, pointers: &[[u64; 2]]) -> (Vec<u64>, Vec<u64>, Vec<u8>) {
+/// slot points into its base's object, each at another place. Gives the frame after the move.
+fn fill(made: &mut Made, pointers: &[[Slot; 2]]) -> (Vec<u64>, Vec<u64>, Made) {
     let mut objects = BTreeMap::new();
     for [base, _] in pointers {
         let number = objects.len() as u64;
@@ -206,10 +232,6 @@ fn fill(made: &mut Made, pointers: &[[u64; 2]]) -> (Vec<u64>, Vec<u64>, Vec<u8>)
     for (base, number) in &objects {
         made.set(*base, OLD + APART * number);
     }
-    let mut after = Made {
-        image: Vec::new(),
-        ..*made
-    };
     let mut content = objects
         .iter()
         .map(|(base, number)| (*base, OLD + APART * number))
@@ -219,7 +241,7 @@ fn fill(made: &mut Made, pointers: &[[u64; 2]]) -> (Vec<u64>, Vec<u64>, Vec<u8>)
         let old = *content.entry(*derived).or_insert(inside);
         made.set(*derived, old);
     }
-    after.image = made.image.clone();
+    let mut after = made.clone();
     for [base, derived] in pointers {
         let number = objects[base];
         let distance = (NEW + CLOSER * number).wrapping_sub(OLD + APART * number);
@@ -231,7 +253,7 @@ fn fill(made: &mut Made, pointers: &[[u64; 2]]) -> (Vec<u64>, Vec<u64>, Vec<u8>)
     let new = (0..objects.len() as u64)
         .map(|number| NEW + CLOSER * number)
         .collect();
-    (old, new, after.image)
+    (old, new, after)
 }
 
 /// The same section and text, but that each slot that was addressed by the stack pointer is addressed by the frame pointer,
@@ -288,28 +310,28 @@ fn one(
         Expected::Refused(..) => &[],
     };
     let (old, new, after) = fill(&mut made, pointers);
-    let before = made.image.clone();
+    let before = made.clone();
     let second = library::second(target, bytes, &mut made, &old, &new);
-    let second_image = std::mem::replace(&mut made.image, before.clone());
+    let second_made = std::mem::replace(&mut made, before.clone());
     let proved = library::proved(target, bytes, &mut made, &old, &new);
     same("the second answer", second, proved)?;
-    same("the second image", second_image == made.image, true)?;
+    same("the second image and registers", second_made == made, true)?;
     match expected {
         Expected::Refused(number, place) => {
             same("the refusal", proved, Err((number, place)))?;
-            same("the image is as it was", made.image == before, true)?;
+            same("image and registers are as they were", made == before, true)?;
             *seen.refused.entry(number).or_default() += 1;
         }
         Expected::Moved(pointers, nulls) => {
             same("the count", proved, Ok(pointers.len() as u64 + nulls))?;
-            same("the image after", made.image == after, true)?;
-            same(
-                "the image changed",
-                made.image != before,
-                !pointers.is_empty(),
-            )?;
+            same("image and registers after", made == after, true)?;
+            same("something changed", made != before, !pointers.is_empty())?;
             seen.moved += 1;
             seen.pointers += pointers.len();
+            let slots = pointers.iter().flatten();
+            seen.registers += slots
+                .filter(|slot| matches!(slot, Slot::Register(_)))
+                .count();
             let sizes = pairs
                 .iter()
                 .filter(|[base, _]| !is_null(base))
@@ -326,12 +348,6 @@ mod library {
 
     type Answer = Result<u64, (u64, u64)>;
 
-    /// The registers of a frame as it is made here.
-    fn registers(target: Target, made: &Made) -> treskibben::Registers {
-        let machine = target.machine;
-        machine.registers(made.frame_pointer, made.stack_pointer)
-    }
-
     pub fn proved(
         target: Target,
         bytes: &[u8],
@@ -340,16 +356,9 @@ mod library {
         new: &[u64],
     ) -> Answer {
         let frame = treskibben::Frame::new(made.address);
-        let mut registers = registers(target, made);
         let (image, first, machine) = (&mut made.image, made.first, target.machine);
-        let table = treskibben::MoveTable::new(old, new);
-        let lent = &mut registers;
+        let (table, lent) = (treskibben::MoveTable::new(old, new), &mut made.registers);
         let moved = treskibben::relocate(bytes, image, first, table, machine, frame, lent);
-        assert_eq!(
-            registers,
-            self::registers(target, made),
-            "no pair is in a register"
-        );
         let moved = moved.map(|count| count as u64);
         moved.map_err(|refusal| (refusal.number(), refusal.place()))
     }
@@ -365,8 +374,8 @@ mod library {
             address: made.address,
             function: 0,
         };
-        let lent = &mut registers(target, made);
-        let (image, first, machine) = (&mut made.image, made.first, target.machine.number());
+        let (image, lent) = (&mut made.image, &mut made.registers);
+        let (first, machine) = (made.first, target.machine.number());
         let moved = reference::relocate(bytes, image, first, old, new, machine, frame, lent);
         moved.map_err(|refusal| (refusal.number, refusal.place))
     }

@@ -5,7 +5,7 @@ use std::process::Command;
 use std::sync::Mutex;
 
 pub const TARGETS: &[&str] = &["x86_64", "aarch64"];
-pub const LEVELS: &[&str] = &["O0", "O0-fp", "O2", "O2-fp"];
+pub const LEVELS: &[&str] = &["O0", "O0-fp", "O2", "O2-fp", "O2-csr"];
 
 /// What must be made for every target and level; there may be more. `two` is two maps in one section.
 const SOURCES: &[&str] = &[
