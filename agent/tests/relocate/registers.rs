@@ -117,7 +117,8 @@ fn sizes_and_offsets() {
             };
             for other in [in_register(5), memory, wide, own.clone()] {
                 for pair in [[own.clone(), other.clone()], [other.clone(), own.clone()]] {
-                    let mut scene = of_pairs(version, machine, &[pair.clone()], &[0; 64]);
+                    let mut scene =
+                        of_pairs(version, machine, std::slice::from_ref(&pair), &[0; 64]);
                     scene.stops[0].registers[3] = 0;
                     scene.stops[0].registers[5] = 0;
                     let right = match version {
@@ -297,7 +298,7 @@ fn registers_overlap_nothing() {
 
 /// Frames in a run, in parts.
 const PARTS: u64 = 500;
-const FRAMES_A_PART: u64 = 300;
+const FRAMES_A_PART: u64 = 400;
 
 /// How often each number was the answer, 0 to 33; how often each register was a base and a derived slot of an
 /// accepted frame, on each machine; and how often each shape was seen.
