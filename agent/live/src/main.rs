@@ -60,7 +60,7 @@ fn one_run(program: &str, mover: &str, stops: &str) -> Option<ExitCode> {
         return Some(ExitCode::from(1));
     }
     if let Some(Err(trouble)) = moved.stops.iter().find(|stop| stop.is_err()) {
-        println!("{}", report::trouble(*trouble));
+        println!("{}", report::trouble(trouble));
         return Some(ExitCode::from(3));
     }
     let kept = moved
