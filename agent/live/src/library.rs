@@ -11,7 +11,7 @@ use treskibben::{Frame, Frames, MoveTable};
 pub use treskibben::Machine;
 
 /// The registers of a stopped frame, by DWARF number.
-pub type Registers = [u64; 32];
+pub use treskibben::Registers;
 
 /// A refusal: its number and its place.
 pub type Refusal = (u64, u64);
@@ -88,8 +88,8 @@ pub fn relocate(
 ) -> Result<u64, Refusal> {
     let Image { first, bytes } = image;
     let table = MoveTable::new(&table.old, &table.new);
-    let frame = frame(machine, address, registers);
-    let moved = treskibben::relocate(map, bytes, *first, table, machine, frame);
+    let frame = Frame::new(address);
+    let moved = treskibben::relocate(map, bytes, *first, table, machine, frame, registers);
     let pointers = moved.map_err(plain)?;
     Ok(pointers as u64)
 }
@@ -105,8 +105,8 @@ pub fn thread(
 ) -> Result<u64, Refusal> {
     let Image { first, bytes } = image;
     let table = MoveTable::new(&table.old, &table.new);
-    let list = frames(machine, addresses, registers);
-    let moved = treskibben::relocate_thread(map, bytes, *first, table, machine, &list);
+    let (list, registers) = (frames(addresses), registers.as_flattened_mut());
+    let moved = treskibben::relocate_thread(map, bytes, *first, table, machine, &list, registers);
     let pointers = moved.map_err(|refusal| plain(refusal.into()))?;
     Ok(pointers as u64)
 }
@@ -121,27 +121,17 @@ pub fn second_thread(
     registers: &mut [Registers],
 ) -> Result<u64, Refusal> {
     let Image { first, bytes } = image;
-    let frames = frames(machine, addresses, registers);
-    let list = Frames::new(&frames).numbers();
     let Table { old, new } = table;
-    let moved = reference::thread(map, bytes, *first, old, new, machine.number(), list);
+    let (frames, registers) = (frames(addresses), registers.as_flattened_mut());
+    let list = Frames::new(&frames).numbers();
+    let machine = machine.number();
+    let moved = reference::thread(map, bytes, *first, old, new, machine, list, registers);
     moved.map_err(second_plain)
 }
 
-/// A frame. The maps are of version 3, which reads no function of it.
-fn frame(machine: Machine, address: u64, registers: &Registers) -> Frame {
-    let number = |register: u16| registers[usize::from(register)];
-    Frame::new(
-        address,
-        number(machine.frame_pointer()),
-        number(machine.stack_pointer()),
-    )
-}
-
-fn frames(machine: Machine, addresses: &[u64], registers: &[Registers]) -> Vec<Frame> {
-    let both = addresses.iter().zip(registers);
-    both.map(|(address, registers)| frame(machine, *address, registers))
-        .collect()
+/// Frames at these addresses. The maps are of version 3, which reads no function of a frame.
+fn frames(addresses: &[u64]) -> Vec<Frame> {
+    addresses.iter().copied().map(Frame::new).collect()
 }
 
 fn plain(refusal: treskibben::Refusal) -> Refusal {
