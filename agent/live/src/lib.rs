@@ -8,9 +8,9 @@
 //! Movers that leave something out are there too: with them the same run has to die.
 //!
 //! The programs are `llvm/live/*.ll`, compiled at -O0 and -O2, with and without frame pointers, with all
-//! pointers in memory and with some in registers, for x86-64 and for AArch64. Those for x86-64 run in this process ([`system`]). Those for AArch64 run
-//! under qemu ([`guest`]), and their frames are found, and moved by the library, on this side. It all
-//! works on x86-64 Linux only.
+//! pointers in memory and with some in registers, for x86-64 and for AArch64. Those for x86-64 run in this
+//! process ([`system`]). Those for AArch64 run under qemu ([`guest`]), and their frames are found, and
+//! moved by the library, on this side. It all works on x86-64 Linux only.
 
 #![deny(missing_docs, unsafe_op_in_unsafe_fn)]
 
