@@ -42,6 +42,8 @@ pub enum Answer {
         register: u16,
         offset: i32,
         constant: u64,
+        /// The content place: 0 none, 1 register, 2 memory.
+        content: u8,
     },
     LiveOut {
         register: u16,
@@ -154,6 +156,7 @@ fn location(section: &Section, record: u64, number: u64) -> Answer {
         register: location.register,
         offset: location.offset as i32,
         constant,
+        content: [0, 1, 0, 2, 0, 0][usize::from(location.kind)],
     }
 }
 
