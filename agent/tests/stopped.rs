@@ -238,3 +238,51 @@ fn frames_of_several_maps_are_saved_by_map() {
         assert_eq!(treskibben::find(&section, address).unwrap().sharing, 1);
     }
 }
+
+/// Whether the command itself is there, which alone can write registers; if not, says that a test is skipped.
+fn command(test: &str) -> bool {
+    let there = std::env::var_os("TRESKIBBEN_COMMAND").is_some();
+    if !there {
+        let why = "TRESKIBBEN_COMMAND names no program";
+        let _ = writeln!(std::io::stderr(), "SKIPPED {test}: {why}");
+    }
+    there
+}
+
+/// llc for a program that keeps up to so many pointers of a call in registers.
+fn in_registers(pointers: u64) -> String {
+    format!(
+        "llc -filetype=obj -no-x86-call-frame-opt -frame-pointer=all \
+         -max-registers-for-gc-values={pointers} -fixup-allow-gcptr-in-csr"
+    )
+}
+
+/// Pointers in registers, all of them or some. gdb reads each frame's registers, and sets them, by the program's unwind
+/// tables. With the image alone put back, the program dies.
+#[test]
+fn a_program_with_pointers_in_registers_is_moved() {
+    let test = "a_program_with_pointers_in_registers_is_moved";
+    if !gdb(test) || !command(test) {
+        return;
+    }
+    let session = "gdb --batch -x tools/stopped.py -x samples/stopped/registers.gdb program";
+    for (pointers, registers) in [(8, 4), (1, 2)] {
+        let place = Place::new(&format!("registers-{pointers}"));
+        place.says("opt -passes=rewrite-statepoints-for-gc -spp-rematerialization-threshold=0 samples/stopped/sum.ll -o sum.bc");
+        place.says(&format!("{} sum.bc -o sum.o", in_registers(pointers)));
+        place.says("cc -no-pie samples/stopped/main.c sum.o -o program");
+        assert_eq!(place.says("./program"), "the sum is 93\n");
+        let said = place.says(session);
+        let changed = format!("{registers} registers changed");
+        for words in ["2 frames moved, 4 pointers", &changed, "the sum is 93"] {
+            assert!(said.contains(words), "{said}");
+        }
+        assert_eq!(said.matches(&changed).count(), 2, "{said}");
+        place.says("rm -r saved");
+        place.says("sed 's/^treskibben-load.*/restore saved\\/moved\\/image binary $first/' samples/stopped/registers.gdb >left.gdb");
+        let said = place.says("gdb --batch -x tools/stopped.py -x left.gdb program");
+        assert!(said.contains("Restoring binary file"), "{said}");
+        assert!(said.contains("Program received signal SIGSEGV"), "{said}");
+        assert!(!said.contains("the sum is"), "{said}");
+    }
+}
