@@ -73,7 +73,7 @@ impl Stop {
         })
     }
 
-    /// The stack with the registers that have changed written back to where they are kept, which is where
+    /// The stack with the registers that are slots written back to where they are kept, which is where
     /// their frames take them up when their calls return.
     ///
     /// Frames can have one home of a register between them, but no more than one of them can have a
@@ -261,10 +261,11 @@ impl Running {
             pointers,
         };
         stop.assert_only_derived_slots_changed();
+        let stack = stop.written_back();
         std::mem::replace(&mut self.heap, new).retire();
         // SAFETY: as for `take`; nothing but derived slots has changed, and the words from which those that
         // are registers are taken up again. The program reads all of them again after the calls.
-        unsafe { stop.written_back().put_back(&*self.memory) };
+        unsafe { stack.put_back(&*self.memory) };
         Ok(stop)
     }
 }
