@@ -118,10 +118,46 @@ const O2_PUSHED: How = (
     "-O2, without frame pointers and without -no-x86-call-frame-opt",
     false,
 );
+const O0_3: How = (
+    "-O0, without frame pointers, up to 3 pointers a call in registers",
+    false,
+);
+const O0_FP_3: How = (
+    "-O0, with frame pointers, up to 3 pointers a call in registers",
+    true,
+);
+const O2_8: How = (
+    "-O2, without frame pointers, up to 8 pointers a call in registers",
+    false,
+);
+const O2_FP_8: How = (
+    "-O2, with frame pointers, up to 8 pointers a call in registers",
+    true,
+);
+const O2_FP_3: How = (
+    "-O2, with frame pointers, up to 3 pointers a call in registers",
+    true,
+);
 const AARCH64_O0: How = ("for AArch64 at -O0, without frame pointers", false);
 const AARCH64_O0_FP: How = ("for AArch64 at -O0, with frame pointers", true);
 const AARCH64_O2: How = ("for AArch64 at -O2, without frame pointers", false);
 const AARCH64_O2_FP: How = ("for AArch64 at -O2, with frame pointers", true);
+const AARCH64_O0_3: How = (
+    "for AArch64 at -O0, without frame pointers, up to 3 pointers a call in registers",
+    false,
+);
+const AARCH64_O0_FP_3: How = (
+    "for AArch64 at -O0, with frame pointers, up to 3 pointers a call in registers",
+    true,
+);
+const AARCH64_O2_8: How = (
+    "for AArch64 at -O2, without frame pointers, up to 8 pointers a call in registers",
+    false,
+);
+const AARCH64_O2_FP_8: How = (
+    "for AArch64 at -O2, with frame pointers, up to 8 pointers a call in registers",
+    true,
+);
 const AARCH64_O0_X29: How = ("for AArch64 at -O0, with slots at frame pointers", true);
 const AARCH64_O2_X29: How = ("for AArch64 at -O2, with slots at frame pointers", true);
 
@@ -143,30 +179,30 @@ pub static VECTORS: [Program; 4] = [
 
 /// The programs that walk objects, with up to 3 or 8 pointers of each statepoint in registers.
 pub static REGISTERS: [Program; 4] = [
-    Program::here("registers-O0", O0, live_run_registers_O0),
-    Program::here("registers-O0-fp", O0_FP, live_run_registers_O0_fp),
-    Program::here("registers-O2-fp", O2_FP, live_run_registers_O2_fp),
-    Program::here("few-registers-O2-fp", O2_FP, live_run_few_registers_O2_fp),
+    Program::here("registers-O0", O0_3, live_run_registers_O0),
+    Program::here("registers-O0-fp", O0_FP_3, live_run_registers_O0_fp),
+    Program::here("registers-O2-fp", O2_FP_8, live_run_registers_O2_fp),
+    Program::here("few-registers-O2-fp", O2_FP_3, live_run_few_registers_O2_fp),
 ];
 
 /// The programs with vectors, in which one object of the uppermost frame is in a register.
 pub static REGISTERS_VECTORS: [Program; 4] = [
-    Program::here("vectors-registers-O0", O0, live_vectors_registers_O0),
+    Program::here("vectors-registers-O0", O0_3, live_vectors_registers_O0),
     Program::here(
         "vectors-registers-O0-fp",
-        O0_FP,
+        O0_FP_3,
         live_vectors_registers_O0_fp,
     ),
-    Program::here("vectors-registers-O2", O2, live_vectors_registers_O2),
+    Program::here("vectors-registers-O2", O2_8, live_vectors_registers_O2),
     Program::here(
         "vectors-registers-O2-fp",
-        O2_FP,
+        O2_FP_8,
         live_vectors_registers_O2_fp,
     ),
 ];
 
 /// The program in which RBP is no frame pointer and holds a pointer: it must not be moved.
-pub static IN_RBP: Program = Program::here("registers-O2", O2, live_run_registers_O2);
+pub static IN_RBP: Program = Program::here("registers-O2", O2_8, live_run_registers_O2);
 
 /// The files for AArch64, beside each of which its section lies.
 const FILE_O0: &str = concat!(env!("OUT_DIR"), "/guest.O0");
@@ -206,17 +242,17 @@ pub static AARCH64_BY_X29: [Program; 4] = [
 
 /// The programs that walk objects, for AArch64, with up to 3 or 8 pointers of each statepoint in registers.
 pub static AARCH64_REGISTERS: [Program; 4] = [
-    Program::guest("aarch64-registers-O0", AARCH64_O0, FILE_REGISTERS_O0, 0),
+    Program::guest("aarch64-registers-O0", AARCH64_O0_3, FILE_REGISTERS_O0, 0),
     Program::guest(
         "aarch64-registers-O0-fp",
-        AARCH64_O0_FP,
+        AARCH64_O0_FP_3,
         FILE_REGISTERS_O0_FP,
         0,
     ),
-    Program::guest("aarch64-registers-O2", AARCH64_O2, FILE_REGISTERS_O2, 0),
+    Program::guest("aarch64-registers-O2", AARCH64_O2_8, FILE_REGISTERS_O2, 0),
     Program::guest(
         "aarch64-registers-O2-fp",
-        AARCH64_O2_FP,
+        AARCH64_O2_FP_8,
         FILE_REGISTERS_O2_FP,
         0,
     ),
@@ -226,25 +262,25 @@ pub static AARCH64_REGISTERS: [Program; 4] = [
 pub static AARCH64_REGISTERS_VECTORS: [Program; 4] = [
     Program::guest(
         "aarch64-vectors-registers-O0",
-        AARCH64_O0,
+        AARCH64_O0_3,
         FILE_REGISTERS_O0,
         1,
     ),
     Program::guest(
         "aarch64-vectors-registers-O0-fp",
-        AARCH64_O0_FP,
+        AARCH64_O0_FP_3,
         FILE_REGISTERS_O0_FP,
         1,
     ),
     Program::guest(
         "aarch64-vectors-registers-O2",
-        AARCH64_O2,
+        AARCH64_O2_8,
         FILE_REGISTERS_O2,
         1,
     ),
     Program::guest(
         "aarch64-vectors-registers-O2-fp",
-        AARCH64_O2_FP,
+        AARCH64_O2_FP_8,
         FILE_REGISTERS_O2_FP,
         1,
     ),
