@@ -151,6 +151,8 @@ treskibben_record_answer treskibben_record(const uint8_t *section, size_t length
  *                 3 Indirect, the value is in memory at register + offset;
  *                 4 Constant, the value is the offset, sign-extended;
  *                 5 ConstIndex, the value is the section's constant number offset.
+ * content:        where the value is held, by the kind alone: 1 in a register (kind 1), 2 in memory
+ *                 (kind 3), 0 in neither.
  */
 typedef struct treskibben_location_answer {
     uint64_t number;
@@ -160,6 +162,7 @@ typedef struct treskibben_location_answer {
     uint16_t size;
     uint16_t dwarf_register;
     uint8_t kind;
+    uint8_t content;
 } treskibben_location_answer;
 
 /* The location of this number in the record of that number. */

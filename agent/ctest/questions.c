@@ -42,6 +42,7 @@ FIELD(location_answer, offset, 24, 4);
 FIELD(location_answer, size, 28, 2);
 FIELD(location_answer, dwarf_register, 30, 2);
 FIELD(location_answer, kind, 32, 1);
+FIELD(location_answer, content, 33, 1);
 SIZE(live_out_answer, 24);
 FIELD(live_out_answer, number, 0, 8);
 FIELD(live_out_answer, place, 8, 8);
@@ -52,7 +53,7 @@ FIELD(live_out_answer, size, 18, 1);
 static const uint8_t row_e[17] = {3};
 
 /* Three functions, the first of them without records, whose records meet at 2^64 - 1. */
-static const uint8_t fields[184] = {
+static const uint8_t fields[192] = {
     /* header: version 3, three functions, one constant, two records */
     3, 0, 0, 0, 3, 0, 0, 0, 1, 0, 0, 0, 2, 0, 0, 0,
     /* functions: addresses 2^64 - 1, 2^64 - 2 and 2^64 - 1 */
@@ -63,19 +64,20 @@ static const uint8_t fields[184] = {
     0x10, 0x32, 0x54, 0x76, 0x98, 0xba, 0xdc, 0xfe,
     /* record: ID 1, offset 1, flags, no locations, zeros, one live-out of register 0xabcd */
     1, 0, 0, 0, 0, 0, 0, 0, 1, 0, 0, 0, 0, 0, 0, 0, 0, 0, 1, 0, 0xcd, 0xab, 0, 0xef,
-    /* record: ID 2, offset 0, flags, three locations */
-    2, 0, 0, 0, 0, 0, 0, 0, 0, 0, 0, 0, 0, 0, 3, 0,
-    /* Direct 0x1234 - 2^31, Constant -2, ConstIndex 0 */
+    /* record: ID 2, offset 0, flags, four locations */
+    2, 0, 0, 0, 0, 0, 0, 0, 0, 0, 0, 0, 0, 0, 4, 0,
+    /* Direct 0x1234 - 2^31, Constant -2, ConstIndex 0, Register 3 */
     2, 0, 0x65, 0x87, 0x34, 0x12, 0, 0, 0, 0, 0, 128,
     4, 0, 4, 0, 0, 0, 0, 0, 254, 255, 255, 255,
     5, 0, 8, 0, 0, 0, 0, 0, 0, 0, 0, 0,
-    /* padding, zeros, no live-outs, padding */
-    0, 0, 0, 0, 0, 0, 0, 0, 0, 0, 0, 0,
+    1, 0, 8, 0, 3, 0, 0, 0, 0, 0, 0, 0,
+    /* zeros, no live-outs, padding */
+    0, 0, 0, 0, 0, 0, 0, 0,
 };
 
 /* Version 1: two functions, and two of three records at one offset. Where the first record is of the
  * first function, its address is over 2^64 - 1. */
-static const uint8_t fields_1[152] = {
+static const uint8_t fields_1[160] = {
     /* header: version 1, two functions, one constant, three records */
     1, 0, 0, 0, 2, 0, 0, 0, 1, 0, 0, 0, 3, 0, 0, 0,
     /* functions: addresses 2^64 - 1 and 0 */
@@ -85,12 +87,14 @@ static const uint8_t fields_1[152] = {
     0x10, 0x32, 0x54, 0x76, 0x98, 0xba, 0xdc, 0xfe,
     /* record: ID 1, offset 2^32 - 1, flags, no locations, zeros, one live-out of register 0xabcd */
     1, 0, 0, 0, 0, 0, 0, 0, 255, 255, 255, 255, 0, 0, 0, 0, 0, 0, 1, 0, 0xcd, 0xab, 0, 0xef,
-    /* record: ID 2, offset 1, flags, three locations */
-    2, 0, 0, 0, 0, 0, 0, 0, 1, 0, 0, 0, 0, 0, 3, 0,
-    /* Direct 0x1234 - 2^31, Constant -2, ConstIndex 0, of sizes 0xee, 0 and 255 */
+    /* record: ID 2, offset 1, flags, four locations */
+    2, 0, 0, 0, 0, 0, 0, 0, 1, 0, 0, 0, 0, 0, 4, 0,
+    /* Direct 0x1234 - 2^31, Constant -2, ConstIndex 0, of sizes 0xee, 0 and 255; Register 3 with size
+     * and offset of no slot */
     2, 0xee, 0x34, 0x12, 0, 0, 0, 128,
     4, 0, 0, 0, 254, 255, 255, 255,
     5, 255, 0, 0, 0, 0, 0, 0,
+    1, 1, 3, 0, 255, 255, 255, 255,
     /* zeros, no live-outs, padding */
     0, 0, 0, 0, 0, 0, 0, 0,
     /* record: ID 3, offset 1, flags, no locations, zeros, no live-outs, padding */
@@ -105,7 +109,7 @@ struct row {
     size_t length;
     enum question question;
     uint64_t asked[2];
-    uint64_t answer[7];
+    uint64_t answer[8];
 };
 
 #define ON_H row_h, sizeof row_h
@@ -116,64 +120,66 @@ struct row {
 #define MINUS(n) ((uint64_t)0 - (n))
 
 static const struct row rows[] = {
-    {ON_H, FIND, {0x1020, 0}, {0, 0, 0, 0, 1, 0, 0}},
-    {ON_H, FIND, {0x1021, 0}, {10, 0, 0, 0, 0, 0, 0}},
-    {ON_H, FIND_IN, {0, 0x20}, {27, 0, 0, 0, 0, 0, 0}},
-    {ON_H, FIND_IN, {1, 0x21}, {27, 0, 0, 0, 0, 0, 0}},
-    {ON_H, RECORD, {0, 0}, {0, 0, 40, 112, 0, 0, 0}},
-    {ON_H, RECORD, {1, 0}, {10, 0, 0, 0, 0, 0, 0}},
-    {ON_H, LOCATION, {0, 0}, {0, 0, 0, 0, 8, 0, 4}},
-    {ON_H, LOCATION, {0, 1}, {0, 0, 0, 0, 8, 0, 4}},
-    {ON_H, LOCATION, {0, 2}, {0, 0, 0, 0, 8, 0, 4}},
-    {ON_H, LOCATION, {0, 3}, {0, 0, 0, 8, 8, 7, 3}},
-    {ON_H, LOCATION, {0, 4}, {0, 0, 0, 8, 8, 7, 3}},
-    {ON_H, LOCATION, {0, 5}, {0, 0, 0, 8, 8, 7, 3}},
-    {ON_H, LOCATION, {0, 6}, {0, 0, 0, 16, 8, 7, 3}},
-    {ON_H, LOCATION, {0, 7}, {11, 0, 0, 0, 0, 0, 0}},
-    {ON_H, LOCATION, {1, 7}, {10, 0, 0, 0, 0, 0, 0}},
-    {ON_H, LIVE_OUT, {0, 0}, {11, 0, 0, 0, 0, 0, 0}},
-    {ON_H, LIVE_OUT, {1, 0}, {10, 0, 0, 0, 0, 0, 0}},
-    {ON_E, FIND, {0, 0}, {9, 16, 0, 0, 0, 0, 0}},
-    {ON_E, FIND_IN, {0, 0}, {9, 16, 0, 0, 0, 0, 0}},
-    {ON_E, RECORD, {0, 0}, {9, 16, 0, 0, 0, 0, 0}},
-    {ON_E, LOCATION, {0, 0}, {9, 16, 0, 0, 0, 0, 0}},
-    {ON_E, LIVE_OUT, {0, 0}, {9, 16, 0, 0, 0, 0, 0}},
-    {ON_FIELDS, FIND, {MINUS(1), 0}, {0, 0, 0, 1, 2, 0, 0}},
-    {ON_FIELDS, FIND, {MINUS(2), 0}, {10, 0, 0, 0, 0, 0, 0}},
-    {ON_FIELDS, RECORD, {0, 0}, {0, 0, 96, 24, 0, 0, 0}},
-    {ON_FIELDS, RECORD, {1, 0}, {0, 0, 120, 64, 0, 0, 0}},
-    {ON_FIELDS, RECORD, {(uint64_t)1 << 32, 0}, {10, 0, 0, 0, 0, 0, 0}},
-    {ON_FIELDS, LOCATION, {1, 0}, {0, 0, 0, MINUS(0x80000000), 0x8765, 0x1234, 2}},
-    {ON_FIELDS, LOCATION, {1, 1}, {0, 0, MINUS(2), MINUS(2), 4, 0, 4}},
-    {ON_FIELDS, LOCATION, {1, 2}, {0, 0, 0xfedcba9876543210, 0, 8, 0, 5}},
-    {ON_FIELDS, LOCATION, {1, MINUS(1)}, {11, 0, 0, 0, 0, 0, 0}},
-    {ON_FIELDS, LIVE_OUT, {0, 0}, {0, 0, 0xabcd, 0xef, 0, 0, 0}},
-    {ON_FIELDS, LIVE_OUT, {0, 1}, {11, 0, 0, 0, 0, 0, 0}},
-    {ON_H_1, FIND_IN, {0, 0x20}, {0, 0, 0, 0, 1, 0, 0}},
-    {ON_H_1, FIND_IN, {0, 0x21}, {10, 0, 0, 0, 0, 0, 0}},
-    {ON_H_1, FIND_IN, {0, 0x1020}, {10, 0, 0, 0, 0, 0, 0}},
-    {ON_H_1, FIND_IN, {1, 0x20}, {10, 0, 0, 0, 0, 0, 0}},
-    {ON_H_1, FIND_IN, {0, ((uint64_t)1 << 32) + 0x20}, {10, 0, 0, 0, 0, 0, 0}},
-    {ON_H_1, FIND_IN, {(uint64_t)1 << 32, 0x20}, {10, 0, 0, 0, 0, 0, 0}},
-    {ON_H_1, FIND, {0x1020, 0}, {27, 0, 0, 0, 0, 0, 0}},
-    {ON_H_1, FIND, {0x20, 0}, {27, 0, 0, 0, 0, 0, 0}},
-    {ON_H_1, RECORD, {0, 0}, {0, 0, 32, 80, 0, 0, 0}},
-    {ON_H_1, LOCATION, {0, 2}, {0, 0, 0, 0, 8, 0, 4}},
-    {ON_H_1, LOCATION, {0, 6}, {0, 0, 0, 16, 8, 7, 3}},
-    {ON_H_1, LIVE_OUT, {0, 0}, {11, 0, 0, 0, 0, 0, 0}},
-    {ON_FIELDS_1, FIND_IN, {0, 1}, {0, 0, 1, 0, 2, 0, 0}},
-    {ON_FIELDS_1, FIND_IN, {1, 1}, {0, 0, 1, 1, 2, 0, 0}},
-    {ON_FIELDS_1, FIND_IN, {2, 1}, {10, 0, 0, 0, 0, 0, 0}},
-    {ON_FIELDS_1, FIND_IN, {0, 0xffffffff}, {0, 0, 0, 0, 1, 0, 0}},
-    {ON_FIELDS_1, FIND_IN, {0, MINUS(1)}, {10, 0, 0, 0, 0, 0, 0}},
-    {ON_FIELDS_1, RECORD, {1, 0}, {0, 0, 80, 48, 0, 0, 0}},
-    {ON_FIELDS_1, RECORD, {2, 0}, {0, 0, 128, 24, 0, 0, 0}},
-    {ON_FIELDS_1, RECORD, {3, 0}, {10, 0, 0, 0, 0, 0, 0}},
-    {ON_FIELDS_1, LOCATION, {1, 0}, {0, 0, 0, MINUS(0x80000000), 0xee, 0x1234, 2}},
-    {ON_FIELDS_1, LOCATION, {1, 1}, {0, 0, MINUS(2), MINUS(2), 0, 0, 4}},
-    {ON_FIELDS_1, LOCATION, {1, 2}, {0, 0, 0xfedcba9876543210, 0, 255, 0, 5}},
-    {ON_FIELDS_1, LOCATION, {1, 3}, {11, 0, 0, 0, 0, 0, 0}},
-    {ON_FIELDS_1, LIVE_OUT, {0, 0}, {0, 0, 0xabcd, 0xef, 0, 0, 0}},
+    {ON_H, FIND, {0x1020, 0}, {0, 0, 0, 0, 1, 0, 0, 0}},
+    {ON_H, FIND, {0x1021, 0}, {10, 0, 0, 0, 0, 0, 0, 0}},
+    {ON_H, FIND_IN, {0, 0x20}, {27, 0, 0, 0, 0, 0, 0, 0}},
+    {ON_H, FIND_IN, {1, 0x21}, {27, 0, 0, 0, 0, 0, 0, 0}},
+    {ON_H, RECORD, {0, 0}, {0, 0, 40, 112, 0, 0, 0, 0}},
+    {ON_H, RECORD, {1, 0}, {10, 0, 0, 0, 0, 0, 0, 0}},
+    {ON_H, LOCATION, {0, 0}, {0, 0, 0, 0, 8, 0, 4, 0}},
+    {ON_H, LOCATION, {0, 1}, {0, 0, 0, 0, 8, 0, 4, 0}},
+    {ON_H, LOCATION, {0, 2}, {0, 0, 0, 0, 8, 0, 4, 0}},
+    {ON_H, LOCATION, {0, 3}, {0, 0, 0, 8, 8, 7, 3, 2}},
+    {ON_H, LOCATION, {0, 4}, {0, 0, 0, 8, 8, 7, 3, 2}},
+    {ON_H, LOCATION, {0, 5}, {0, 0, 0, 8, 8, 7, 3, 2}},
+    {ON_H, LOCATION, {0, 6}, {0, 0, 0, 16, 8, 7, 3, 2}},
+    {ON_H, LOCATION, {0, 7}, {11, 0, 0, 0, 0, 0, 0, 0}},
+    {ON_H, LOCATION, {1, 7}, {10, 0, 0, 0, 0, 0, 0, 0}},
+    {ON_H, LIVE_OUT, {0, 0}, {11, 0, 0, 0, 0, 0, 0, 0}},
+    {ON_H, LIVE_OUT, {1, 0}, {10, 0, 0, 0, 0, 0, 0, 0}},
+    {ON_E, FIND, {0, 0}, {9, 16, 0, 0, 0, 0, 0, 0}},
+    {ON_E, FIND_IN, {0, 0}, {9, 16, 0, 0, 0, 0, 0, 0}},
+    {ON_E, RECORD, {0, 0}, {9, 16, 0, 0, 0, 0, 0, 0}},
+    {ON_E, LOCATION, {0, 0}, {9, 16, 0, 0, 0, 0, 0, 0}},
+    {ON_E, LIVE_OUT, {0, 0}, {9, 16, 0, 0, 0, 0, 0, 0}},
+    {ON_FIELDS, FIND, {MINUS(1), 0}, {0, 0, 0, 1, 2, 0, 0, 0}},
+    {ON_FIELDS, FIND, {MINUS(2), 0}, {10, 0, 0, 0, 0, 0, 0, 0}},
+    {ON_FIELDS, RECORD, {0, 0}, {0, 0, 96, 24, 0, 0, 0, 0}},
+    {ON_FIELDS, RECORD, {1, 0}, {0, 0, 120, 72, 0, 0, 0, 0}},
+    {ON_FIELDS, RECORD, {(uint64_t)1 << 32, 0}, {10, 0, 0, 0, 0, 0, 0, 0}},
+    {ON_FIELDS, LOCATION, {1, 0}, {0, 0, 0, MINUS(0x80000000), 0x8765, 0x1234, 2, 0}},
+    {ON_FIELDS, LOCATION, {1, 1}, {0, 0, MINUS(2), MINUS(2), 4, 0, 4, 0}},
+    {ON_FIELDS, LOCATION, {1, 2}, {0, 0, 0xfedcba9876543210, 0, 8, 0, 5, 0}},
+    {ON_FIELDS, LOCATION, {1, 3}, {0, 0, 0, 0, 8, 3, 1, 1}},
+    {ON_FIELDS, LOCATION, {1, MINUS(1)}, {11, 0, 0, 0, 0, 0, 0, 0}},
+    {ON_FIELDS, LIVE_OUT, {0, 0}, {0, 0, 0xabcd, 0xef, 0, 0, 0, 0}},
+    {ON_FIELDS, LIVE_OUT, {0, 1}, {11, 0, 0, 0, 0, 0, 0, 0}},
+    {ON_H_1, FIND_IN, {0, 0x20}, {0, 0, 0, 0, 1, 0, 0, 0}},
+    {ON_H_1, FIND_IN, {0, 0x21}, {10, 0, 0, 0, 0, 0, 0, 0}},
+    {ON_H_1, FIND_IN, {0, 0x1020}, {10, 0, 0, 0, 0, 0, 0, 0}},
+    {ON_H_1, FIND_IN, {1, 0x20}, {10, 0, 0, 0, 0, 0, 0, 0}},
+    {ON_H_1, FIND_IN, {0, ((uint64_t)1 << 32) + 0x20}, {10, 0, 0, 0, 0, 0, 0, 0}},
+    {ON_H_1, FIND_IN, {(uint64_t)1 << 32, 0x20}, {10, 0, 0, 0, 0, 0, 0, 0}},
+    {ON_H_1, FIND, {0x1020, 0}, {27, 0, 0, 0, 0, 0, 0, 0}},
+    {ON_H_1, FIND, {0x20, 0}, {27, 0, 0, 0, 0, 0, 0, 0}},
+    {ON_H_1, RECORD, {0, 0}, {0, 0, 32, 80, 0, 0, 0, 0}},
+    {ON_H_1, LOCATION, {0, 2}, {0, 0, 0, 0, 8, 0, 4, 0}},
+    {ON_H_1, LOCATION, {0, 6}, {0, 0, 0, 16, 8, 7, 3, 2}},
+    {ON_H_1, LIVE_OUT, {0, 0}, {11, 0, 0, 0, 0, 0, 0, 0}},
+    {ON_FIELDS_1, FIND_IN, {0, 1}, {0, 0, 1, 0, 2, 0, 0, 0}},
+    {ON_FIELDS_1, FIND_IN, {1, 1}, {0, 0, 1, 1, 2, 0, 0, 0}},
+    {ON_FIELDS_1, FIND_IN, {2, 1}, {10, 0, 0, 0, 0, 0, 0, 0}},
+    {ON_FIELDS_1, FIND_IN, {0, 0xffffffff}, {0, 0, 0, 0, 1, 0, 0, 0}},
+    {ON_FIELDS_1, FIND_IN, {0, MINUS(1)}, {10, 0, 0, 0, 0, 0, 0, 0}},
+    {ON_FIELDS_1, RECORD, {1, 0}, {0, 0, 80, 56, 0, 0, 0, 0}},
+    {ON_FIELDS_1, RECORD, {2, 0}, {0, 0, 136, 24, 0, 0, 0, 0}},
+    {ON_FIELDS_1, RECORD, {3, 0}, {10, 0, 0, 0, 0, 0, 0, 0}},
+    {ON_FIELDS_1, LOCATION, {1, 0}, {0, 0, 0, MINUS(0x80000000), 0xee, 0x1234, 2, 0}},
+    {ON_FIELDS_1, LOCATION, {1, 1}, {0, 0, MINUS(2), MINUS(2), 0, 0, 4, 0}},
+    {ON_FIELDS_1, LOCATION, {1, 2}, {0, 0, 0xfedcba9876543210, 0, 255, 0, 5, 0}},
+    {ON_FIELDS_1, LOCATION, {1, 3}, {0, 0, 0, MINUS(1), 1, 3, 1, 1}},
+    {ON_FIELDS_1, LOCATION, {1, 4}, {11, 0, 0, 0, 0, 0, 0, 0}},
+    {ON_FIELDS_1, LIVE_OUT, {0, 0}, {0, 0, 0xabcd, 0xef, 0, 0, 0, 0}},
 };
 
 /* Writes an answer's first fields, which all have, and gives where the others go. */
@@ -210,6 +216,7 @@ static void ask(const struct row *row, const uint8_t *bytes, uint64_t *out)
         out[2] = answer.size;
         out[3] = answer.dwarf_register;
         out[4] = answer.kind;
+        out[5] = answer.content;
     } else {
         treskibben_live_out_answer answer = treskibben_live_out(bytes, row->length, one, two);
         out = begin(out, answer.number, answer.place);
@@ -221,7 +228,7 @@ static void ask(const struct row *row, const uint8_t *bytes, uint64_t *out)
 /* Asks on a copy of the row's bytes, which has no byte to spare and must stay as it is. */
 static int passes(size_t number, const struct row *row)
 {
-    uint64_t answer[7] = {0};
+    uint64_t answer[8] = {0};
     uint8_t *copy = malloc(row->length);
     int same;
     size_t i;
@@ -239,7 +246,7 @@ static int passes(size_t number, const struct row *row)
     }
     fprintf(stderr, "row %zu: bytes %s; fields and what is expected:", number,
             same ? "unchanged" : "changed");
-    for (i = 0; i < 7; i++) {
+    for (i = 0; i < 8; i++) {
         fprintf(stderr, " %" PRIx64 " (%" PRIx64 ")", answer[i], row->answer[i]);
     }
     fprintf(stderr, "\n");

@@ -54,6 +54,40 @@ impl LocationKind {
     }
 }
 
+/// Where the value of a [`Location`] is held. It follows from the kind alone.
+#[derive(Clone, Copy, Debug, PartialEq, Eq, Hash)]
+pub enum ContentPlace {
+    /// In no place: the location says the value itself, or how to work it out.
+    Nowhere,
+    /// In the register ([`LocationKind::Register`]).
+    Register,
+    /// In memory at the register plus the offset ([`LocationKind::Indirect`]).
+    Memory,
+}
+
+/// The content places; the first is number 0.
+const PLACES: [ContentPlace; 3] = [
+    ContentPlace::Nowhere,
+    ContentPlace::Register,
+    ContentPlace::Memory,
+];
+
+impl ContentPlace {
+    /// The content place of this number, if there is one.
+    pub(crate) fn of(number: u8) -> Option<ContentPlace> {
+        PLACES.into_iter().find(|place| place.number() == number)
+    }
+
+    /// The number that the C interface has for the content place, 0 to 2.
+    pub fn number(self) -> u8 {
+        match self {
+            ContentPlace::Nowhere => 0,
+            ContentPlace::Register => 1,
+            ContentPlace::Memory => 2,
+        }
+    }
+}
+
 /// The answer to the question by record and location number, [`location`](crate::location()): where
 /// a value is.
 #[derive(Clone, Copy, Debug, PartialEq, Eq, Hash)]
@@ -68,6 +102,8 @@ pub struct Location {
     pub offset: i32,
     /// The 64-bit constant of the last two kinds, and 0 for the others.
     pub constant: u64,
+    /// Where the value is held.
+    pub content: ContentPlace,
 }
 
 /// The answer to the question by record and live-out number, [`live_out`](crate::live_out): a
@@ -96,5 +132,13 @@ mod tests {
         assert_eq!(LocationKind::of(3), Some(LocationKind::Indirect));
         assert_eq!(LocationKind::of(4), Some(LocationKind::Constant));
         assert_eq!(LocationKind::of(5), Some(LocationKind::ConstIndex));
+    }
+
+    #[test]
+    fn each_content_place_has_its_number_and_no_other_number_has_one() {
+        assert_eq!(ContentPlace::of(0), Some(ContentPlace::Nowhere));
+        assert_eq!(ContentPlace::of(1), Some(ContentPlace::Register));
+        assert_eq!(ContentPlace::of(2), Some(ContentPlace::Memory));
+        assert!((3..=u8::MAX).all(|number| ContentPlace::of(number).is_none()));
     }
 }

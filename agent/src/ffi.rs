@@ -69,6 +69,7 @@ pub(crate) struct Location {
     pub(crate) size: u16,
     pub(crate) register: u16,
     pub(crate) kind: u8,
+    pub(crate) content: u8,
 }
 
 /// What the question by live-out number answers: the struct `treskibben_live_out_answer`.
@@ -90,6 +91,7 @@ const _: () = {
     assert!(size_of::<Location>() == 40 && offset_of!(Location, constant) == 16);
     assert!(offset_of!(Location, offset) == 24 && offset_of!(Location, size) == 28);
     assert!(offset_of!(Location, register) == 30 && offset_of!(Location, kind) == 32);
+    assert!(offset_of!(Location, content) == 33);
     assert!(size_of::<LiveOut>() == 24 && offset_of!(LiveOut, register) == 16);
     assert!(offset_of!(LiveOut, size) == 18);
     assert!(size_of::<Frame>() == 16 && offset_of!(Frame, address) == 0);

@@ -46,7 +46,7 @@ mod refusal;
 mod relocate;
 mod thread;
 
-pub use answers::{Found, LiveOut, Location, LocationKind};
+pub use answers::{ContentPlace, Found, LiveOut, Location, LocationKind};
 pub use conversions::{listing_of, section_of, to_listing, to_section};
 pub use index::{fill_index, Index};
 pub use machine::{Machine, Registers, REGISTERS};

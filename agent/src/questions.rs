@@ -2,7 +2,7 @@
 //!
 //! Each walks the section once, and first gives the section's own refusal, if there is one.
 
-use crate::answers::{Found, LiveOut, Location, LocationKind};
+use crate::answers::{ContentPlace, Found, LiveOut, Location, LocationKind};
 use crate::{ffi, Refusal};
 
 /// The first record with this address, in section order.
@@ -117,18 +117,20 @@ pub fn record(section: &[u8], number: u64) -> Result<&[u8], Refusal> {
 /// # Examples
 ///
 /// ```
-/// use treskibben::LocationKind;
+/// use treskibben::{ContentPlace, LocationKind};
 /// # fn main() -> Result<(), Box<dyn std::error::Error>> {
 /// // A record of seven locations: three constants, then four slots in the frame.
 /// let section = std::fs::read("../samples/h-statepoint.section")?;
 ///
 /// let constant = treskibben::location(&section, 0, 2)?;
 /// assert_eq!((constant.kind, constant.constant), (LocationKind::Constant, 0));
+/// assert_eq!(constant.content, ContentPlace::Nowhere);
 ///
 /// // The last slot: 8 bytes in memory at register 7 (RSP) plus 16.
 /// let slot = treskibben::location(&section, 0, 6)?;
 /// assert_eq!((slot.kind, slot.size), (LocationKind::Indirect, 8));
 /// assert_eq!((slot.register, slot.offset), (7, 16));
+/// assert_eq!(slot.content, ContentPlace::Memory);
 ///
 /// assert_eq!(treskibben::location(&section, 0, 7).unwrap_err().number(), 11);
 /// # Ok(())
@@ -143,6 +145,7 @@ pub fn location(section: &[u8], record: u64, number: u64) -> Result<Location, Re
         register: answer.register,
         offset: answer.offset,
         constant: answer.constant,
+        content: content(answer.content),
     })
 }
 
@@ -218,6 +221,14 @@ fn kind(number: u8) -> LocationKind {
     }
 }
 
+/// The content place of this number. The library is proved to answer 0 to 2 only.
+fn content(number: u8) -> ContentPlace {
+    match ContentPlace::of(number) {
+        Some(place) => place,
+        None => panic!("libtreskibben answers the content place {number}, and these are 0 to 2"),
+    }
+}
+
 #[cfg(test)]
 mod tests {
     use super::*;
@@ -266,6 +277,15 @@ mod tests {
         for number in [0, 6, 255] {
             let text = panic_of(|| kind(number));
             assert!(text.contains(&format!("of kind {number}, ")), "{text}");
+        }
+    }
+
+    #[test]
+    fn a_content_place_beyond_the_three_is_a_panic_that_says_so() {
+        assert_eq!(content(2), ContentPlace::Memory);
+        for number in [3, 255] {
+            let text = panic_of(|| content(number));
+            assert!(text.contains(&format!("place {number}, ")), "{text}");
         }
     }
 }

@@ -16,8 +16,8 @@ const LIBRARY: &str = concat!(
     "/../target/staticlib/libtreskibben.a"
 );
 
-const NAME: &[u8] = b"treskibben_version_2";
-const OTHER_NAME: &[u8] = b"treskibben_version_3";
+const NAME: &[u8] = b"treskibben_version_3";
+const OTHER_NAME: &[u8] = b"treskibben_version_4";
 
 /// A program that asks the library two things.
 const MAIN: &str = r#"fn main() {
@@ -25,7 +25,7 @@ const MAIN: &str = r#"fn main() {
 }
 "#;
 
-const ANSWER: &str = "version 2: Err(1)\n";
+const ANSWER: &str = "version 3: Err(1)\n";
 
 /// A fresh folder for a test.
 fn folder(name: &str) -> PathBuf {

@@ -56,6 +56,7 @@ fn by_library(section: &[u8], question: Question) -> Answer {
                 register: it.register,
                 offset: it.offset,
                 constant: it.constant,
+                content: it.content.number(),
             })
         }
         Question::LiveOut(record, number) => {
@@ -92,6 +93,7 @@ fn by_second(section: &[u8], question: Question) -> Answer {
                 register: it.register,
                 offset: it.offset,
                 constant: it.constant,
+                content: it.content.number(),
             })
         }
         Question::LiveOut(record, number) => {

@@ -9,7 +9,7 @@ use generator::Version;
 use rows::{c_and_zero, c_with, h_1_listing, C, H, H_1, H_LISTING};
 use std::fs;
 use std::path::Path;
-use treskibben::{Found, LocationKind, Refusal};
+use treskibben::{ContentPlace, Found, LocationKind, Refusal};
 
 /// Number and place of the answer; both 0 where the section is accepted.
 fn answer(section: &[u8]) -> (u64, u64) {
@@ -119,9 +119,9 @@ fn questions(section: &[u8], first: usize) {
     assert!(std::ptr::eq(bytes, &section[first..]));
     assert_eq!(treskibben::record(section, 1).err().map(of), refused(10));
     for (number, offset) in [0, 0, 0, 8, 8, 8, 16].into_iter().enumerate() {
-        let (kind, register) = match number {
-            0..3 => (LocationKind::Constant, 0),
-            _ => (LocationKind::Indirect, 7),
+        let (kind, register, content) = match number {
+            0..3 => (LocationKind::Constant, 0, ContentPlace::Nowhere),
+            _ => (LocationKind::Indirect, 7, ContentPlace::Memory),
         };
         let expected = treskibben::Location {
             kind,
@@ -129,6 +129,7 @@ fn questions(section: &[u8], first: usize) {
             register,
             offset,
             constant: 0,
+            content,
         };
         assert_eq!(
             treskibben::location(section, 0, number as u64),

@@ -42,7 +42,7 @@ pub enum Answer {
         register: u16,
         offset: i32,
         constant: u64,
-        /// The content place: 0 none, 1 register, 2 memory.
+        /// The content place: 0 none, 1 a register, 2 memory.
         content: u8,
     },
     LiveOut {
@@ -150,13 +150,18 @@ fn location(section: &Section, record: u64, number: u64) -> Answer {
         5 => section.constants[location.offset as usize],
         _ => 0,
     };
+    let content = match location.kind {
+        1 => 1,
+        3 => 2,
+        _ => 0,
+    };
     Answer::Location {
         kind: location.kind,
         size: location.size,
         register: location.register,
         offset: location.offset as i32,
         constant,
-        content: [0, 1, 0, 2, 0, 0][usize::from(location.kind)],
+        content,
     }
 }
 

@@ -5,8 +5,8 @@
 //! compared here or fixed by the check.
 
 use crate::compare::{fields, length, owners, same};
-use crate::readobj::{self, Printed};
-use treskibben::Refusal;
+use crate::readobj::{self, Printed, Value};
+use treskibben::{ContentPlace, Refusal};
 
 /// The first difference, if there is one.
 pub fn compare(bytes: &[u8], printed: &Printed) -> Result<(), String> {
@@ -138,7 +138,17 @@ fn location(
     same("size", ours.size, theirs.size)?;
     same("register", ours.register, register)?;
     same("offset", ours.offset, offset)?;
-    same("constant", ours.constant, constant)
+    same("constant", ours.constant, constant)?;
+    same("content", ours.content, content(&theirs.value))
+}
+
+/// Where the value of a printed location is held.
+fn content(value: &Value) -> ContentPlace {
+    match value {
+        Value::Register(..) => ContentPlace::Register,
+        Value::Indirect(..) => ContentPlace::Memory,
+        Value::Direct(..) | Value::Constant(..) | Value::ConstIndex(..) => ContentPlace::Nowhere,
+    }
 }
 
 fn live_out(

@@ -8,7 +8,7 @@ use generator::{Section, Version};
 type Shape = (&'static str, fn(&Section, Question, Answer) -> bool);
 
 /// All of them.
-pub const SHAPES: [Shape; 40] = [
+pub const SHAPES: [Shape; 46] = [
     ("found at address 0", |_, q, a| {
         matches!((q, a), (Question::Find(0), Found { .. }))
     }),
@@ -135,6 +135,12 @@ pub const SHAPES: [Shape; 40] = [
     ("kind 4, constant below 0", |_, _, a| below_0(a, 4)),
     ("kind 4, constant above 0", |_, _, a| above_0(a, 4)),
     ("kind 5, not the first of the pool", |_, _, a| above_0(a, 5)),
+    ("nowhere, version 1", |s, _, a| held_1(s, a, 0)),
+    ("in a register, version 1", |s, _, a| held_1(s, a, 1)),
+    ("in memory, version 1", |s, _, a| held_1(s, a, 2)),
+    ("nowhere, version 3", |s, _, a| held_3(s, a, 0)),
+    ("in a register, version 3", |s, _, a| held_3(s, a, 1)),
+    ("in memory, version 3", |s, _, a| held_3(s, a, 2)),
 ];
 
 /// The refusal of a record or function that isn't there.
@@ -174,6 +180,16 @@ fn below_0(answer: Answer, of: u8) -> bool {
 
 fn above_0(answer: Answer, of: u8) -> bool {
     matches!(answer, Location { kind, offset: 1.., .. } if kind == of)
+}
+
+/// A location of version 1 whose content place has this number.
+fn held_1(section: &Section, answer: Answer, at: u8) -> bool {
+    section.version == Version::One && matches!(answer, Location { content, .. } if content == at)
+}
+
+/// One of version 3.
+fn held_3(section: &Section, answer: Answer, at: u8) -> bool {
+    section.version == Version::Three && matches!(answer, Location { content, .. } if content == at)
 }
 
 /// The record that was found by its address belongs to a function, and the one before it has no

@@ -13,6 +13,8 @@ use Rattle.stackmap.specs.Section.{Location, Offset, asOffset, LiveOut, Owner, 
 use Rattle.stackmap.specs.Check.{sectionCheck}
 use Rattle.questions.specs.declared.Found.{Found}
 use Rattle.questions.specs.declared.Located.{Located}
+use Rattle.questions.specs.declared.ContentPlace.{ContentPlace}
+use Rattle.questions.specs.declared.ContentPlace.the-variants.{Nowhere, Register, Memory}
 use Rattle.questions.specs.declared.LocationAnswer.{LocationAnswer}
 use Rattle.questions.specs.declared.LiveOutAnswer.{LiveOutAnswer}
 
@@ -83,7 +85,8 @@ recordPlace s k = ask notLocated (among (notLocated 10 0) (located (isOld s)) (g
 unfoldable pub recordPart : List ℕ → ℕ → List ℕ
 recordPart s k = take (recordPlace s k .size) (drop (recordPlace s k .first) s)
 
--- By record and location number: kind, size, register, signed offset, and the 64-bit constant, 0 for kinds 1 to 3. 10 before 11.
+-- By record and location number: kind, size, register, signed offset, the 64-bit constant, 0 for kinds 1 to 3, and the content
+-- place. 10 before 11.
 
 pub record SignedLocation : Type 0 where
   pub number : ℕ
@@ -93,6 +96,7 @@ pub record SignedLocation : Type 0 where
   pub register : ℕ
   pub offset : Offset
   pub constant : ℕ
+  pub content : ContentPlace
 
 -- an answer that holds the 32 bits of the offset, as the number that they are: -8 and not 4294967288
 abbrev pub signed : LocationAnswer → SignedLocation
@@ -105,6 +109,7 @@ signed a =
       register = a .register;
       offset = asOffset (a .offset);
       constant = a .constant;
+      content = a .content;
     }
 
 -- kind 4: the offset sign-extended; kind 5: pool entry number offset
@@ -113,8 +118,13 @@ constantOf pool l =
     cond (eqb (l .kind) 4) (cond (ltb (l .offset) negativeFrom) (l .offset) (l .offset + (2 ^ 64 - 2 ^ 32)))
     (cond (eqb (l .kind) 5) (getD pool (l .offset) 0) 0)
 
+-- the content place: register (kind 1), memory (kind 3) or none; from the kind alone, in both versions
+unfoldable pub contentPlace : ℕ → ContentPlace
+contentPlace kind = cond (eqb kind 1) Register (cond (eqb kind 3) Memory Nowhere)
+
 abbrev pub noLocation : ℕ → ℕ → LocationAnswer
-noLocation n p = record { number = n; place = p; kind = 0; size = 0; register = 0; offset = 0; constant = 0 }
+noLocation n p =
+    record { number = n; place = p; kind = 0; size = 0; register = 0; offset = 0; constant = 0; content = Nowhere }
 
 abbrev pub thisLocation : List ℕ → Location → LocationAnswer
 thisLocation pool l =
@@ -126,6 +136,7 @@ thisLocation pool l =
       register = l .register;
       offset = l .offset;
       constant = constantOf pool l;
+      content = contentPlace (l .kind);
     }
 
 unfoldable pub locationAnswer : List ℕ → ℕ → ℕ → SignedLocation

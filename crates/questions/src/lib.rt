@@ -32,6 +32,13 @@ pub struct Stretch {
     pub size: usize,
 }
 
+// Where a location says that its value is held: in a register, in memory or in neither.
+pub enum ContentPlace {
+    Nowhere,
+    Register,
+    Memory,
+}
+
 // By record and location number. The offset is its 32 bits.
 pub struct LocationAnswer {
     pub number: u8,
@@ -41,6 +48,7 @@ pub struct LocationAnswer {
     pub register: u16,
     pub offset: u32,
     pub constant: u64,
+    pub content: ContentPlace,
 }
 
 // By record and live-out number.

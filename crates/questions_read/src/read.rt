@@ -5,7 +5,8 @@ ghost use Prim.Native.Nat.{ℕ, _+_, _≤_};
 ghost use lib.ListN.{length, drop, getElem?};
 ghost use Rattle.stackmap.specs.Layout.{headerSize, locationSize};
 ghost use Rattle.stackmap.specs.Section.{recordsAt, isOld, readLocation, recordLength, readRecord, readSection};
-ghost use Rattle.questions.specs.Questions.{among, constantOf, noLocation, thisLocation, signed, locationAnswer, noLiveOut, thisLiveOut, liveOutAnswer};
+ghost use Rattle.questions.specs.Questions.{among, constantOf, contentPlace, noLocation, thisLocation, signed, locationAnswer, noLiveOut, thisLiveOut, liveOutAnswer};
+use questions::ContentPlace;
 use questions::LiveOutAnswer;
 use questions::LocationAnswer;
 use stackmap::layout;
@@ -14,6 +15,24 @@ use stackmap_tables::tables;
 
 // What is added to the 32 bits of a negative number to make its 64 bits: 2^64 - 2^32.
 const SIGN: u64 = 18446744069414584320;
+
+// The kinds whose value is held in a register, and in memory.
+const KIND_REGISTER: u8 = 1;
+
+const KIND_INDIRECT: u8 = 3;
+
+// The content place of a location with this kind.
+fn content_place(kind: u8) -> ContentPlace
+    ensures { λ r. ⌜ r ≡ contentPlace kind ⌝ }
+{
+    if kind == KIND_REGISTER {
+        return ContentPlace::Register;
+    }
+    if kind == KIND_INDIRECT {
+        return ContentPlace::Memory;
+    }
+    ContentPlace::Nowhere
+}
 
 // The 64-bit constant of a location with this kind and offset.
 fn constant(s: &[u8], kind: u8, offset: u32) -> u64
@@ -40,7 +59,7 @@ fn constant(s: &[u8], kind: u8, offset: u32) -> u64
     0
 }
 
-// A refusal, with zeros in all other fields.
+// A refusal, with zeros and no content place in all other fields.
 fn no_location(number: u8, place: usize) -> LocationAnswer
     ensures { λ r. ⌜ r ≡ noLocation number place ⌝ }
 {
@@ -52,6 +71,7 @@ fn no_location(number: u8, place: usize) -> LocationAnswer
         register: 0,
         offset: 0,
         constant: 0,
+        content: ContentPlace::Nowhere,
     }
 }
 
@@ -110,6 +130,7 @@ pub fn location_in(s: &[u8], first: usize, number: u64) -> LocationAnswer
         register: l.register,
         offset: l.offset,
         constant: constant(s, l.kind, l.offset),
+        content: content_place(l.kind),
     }
 }
 

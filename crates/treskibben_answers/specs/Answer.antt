@@ -1,9 +1,12 @@
 -- The answers that cross the C boundary: number, place, and what was asked for.
+use Prim.Native.Nat.{ℕ}
 use Rattle.stackmap.specs.declared.Verdict.{Verdict}
 use Rattle.stackmap.specs.Verdict.{numberOf, placeOf}
 use Rattle.stackmap.specs.Section.{offsetBits}
 use Rattle.questions.specs.declared.Found.{Found}
 use Rattle.questions.specs.declared.Located.{Located}
+use Rattle.questions.specs.declared.ContentPlace.{ContentPlace}
+use Rattle.questions.specs.declared.ContentPlace.the-variants.{Nowhere, Register, Memory}
 use Rattle.questions.specs.declared.LiveOutAnswer.{LiveOutAnswer}
 use Rattle.questions.specs.Questions.{SignedLocation}
 use Rattle.listing.specs.Listing.{Converted}
@@ -41,6 +44,12 @@ findAnswerOf f = record { number = f .number; place = f .place; index = f .index
 abbrev pub recordPlaceOf : Located → RecordPlace
 recordPlaceOf l = record { number = l .number; place = l .place; first = l .first; length = l .size }
 
+-- a content place by its number at the C boundary
+abbrev pub contentNumber : ContentPlace → ℕ
+contentNumber Nowhere = 0
+contentNumber Register = 1
+contentNumber Memory = 2
+
 -- the offset crosses as its 32 bits, which are those of an int32_t
 abbrev pub locationOf : SignedLocation → Location
 locationOf l =
@@ -52,6 +61,7 @@ locationOf l =
       size = l .size;
       register = l .register;
       kind = l .kind;
+      content = contentNumber (l .content);
     }
 
 abbrev pub liveOutOf : LiveOutAnswer → LiveOut

@@ -1,6 +1,6 @@
 // What crosses the C boundary: the structs, and the answers of the layers below turned into them, field by field.
 ghost use mathlib.Core.Path.{_≡_};
-ghost use Rattle.treskibben_answers.specs.Answer.{answer, moveAnswer, frameOf, findAnswerOf, recordPlaceOf, locationOf, liveOutOf};
+ghost use Rattle.treskibben_answers.specs.Answer.{answer, moveAnswer, frameOf, findAnswerOf, recordPlaceOf, contentNumber, locationOf, liveOutOf};
 ghost use Rattle.questions.specs.Questions.{signed, ask};
 ghost use Rattle.moves.specs.Settle.{refusedMove};
 ghost use Rattle.treskibben_answers.specs.Machine.{machineOf};
@@ -83,6 +83,17 @@ pub fn record_answer(l: questions::Located) -> RecordPlace
     }
 }
 
+// The content place of a location by its number: 0 none, 1 a register, 2 memory.
+fn content_number(place: questions::ContentPlace) -> u8
+    ensures { λ r. ⌜ r ≡ contentNumber place ⌝ }
+{
+    match place {
+        questions::ContentPlace::Nowhere => 0,
+        questions::ContentPlace::Register => 1,
+        questions::ContentPlace::Memory => 2,
+    }
+}
+
 // A location. The offset is its 32 bits, which C and Rust read as a signed number.
 #[repr(C)]
 pub struct Location {
@@ -93,11 +104,13 @@ pub struct Location {
     pub size: u16,
     pub register: u16,
     pub kind: u8,
+    pub content: u8,
 }
 
 pub fn location_answer(l: questions::LocationAnswer) -> Location
     ensures { λ r. ⌜ r ≡ locationOf (signed l) ⌝ }
 {
+    let content = l.content;
     Location {
         number: l.number as u64,
         place: l.place as u64,
@@ -106,6 +119,7 @@ pub fn location_answer(l: questions::LocationAnswer) -> Location
         size: l.size,
         register: l.register,
         kind: l.kind,
+        content: content_number(content),
     }
 }
 

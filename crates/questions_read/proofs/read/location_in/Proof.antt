@@ -65,18 +65,22 @@ location-fields-requires c κs =
 constant-requires : tie.Need-constant-requires
 constant-requires c κs = search needs
 
+content-place-requires : tie.Need-content-place-requires
+content-place-requires c κs = search needs
+
 returns-2 : tie.Need-returns-2
 returns-2 c =
-    let q = c .before .before .before .before .before .before .before in
+    let q = c .before .before .before .before .before .before .before .before in
     let a = q .args in
-    let r = c .before .before .location-size .result in
-    let z : r ≡ locationSize (isOld (a .s .now)) = c .before .before .location-size .ensures .0 ∙ ap locationSize (c .before .before .before .is-old .ensures) in
+    let r = c .before .before .before .location-size .result in
+    let z : r ≡ locationSize (isOld (a .s .now)) = c .before .before .before .location-size .ensures .0 ∙ ap locationSize (c .before .before .before .before .is-old .ensures) in
     rw (
-      location-at (isOld (a .s .now)) (a .s .now) (a .first) _ (c .before .before .before .before .before .u16-at .ensures) (a .number) (c .before .before .before .before .if1 .left),
+      location-at (isOld (a .s .now)) (a .s .now) (a .first) _ (c .before .before .before .before .before .before .u16-at .ensures) (a .number) (c .before .before .before .before .before .if1 .left),
       ← z,
-      ← c .before .before .before .is-old .ensures,
-      c .before .location-fields .ensures,
-      c .constant .ensures (c .before .location-fields .result .size) (c .before .location-fields .result .register),
+      ← c .before .before .before .before .is-old .ensures,
+      c .before .before .location-fields .ensures,
+      c .before .constant .ensures (c .before .before .location-fields .result .size) (c .before .before .location-fields .result .register),
+      c .content-place .ensures,
     )
 
 pub location-in-spec : {M : Type 1} → statement M
@@ -95,4 +99,5 @@ location-in-spec =
     add-at-2
     location-fields-requires
     constant-requires
+    content-place-requires
     returns-2)
