@@ -6,14 +6,13 @@ use crate::readobj::{Location, Printed, Record, Value};
 use std::collections::BTreeMap;
 use treskibben::{Machine, Registers};
 
-/// What a target's frames are like: the DWARF numbers of the frame and the stack pointer, and how far below the end of
-/// a frame the frame pointer points, where it is one.
+/// What a target's frames are like: the DWARF numbers of the frame and the stack pointer, the number after those of the
+/// general registers, and how far below the end of a frame the frame pointer points, where it is one.
 #[derive(Clone, Copy)]
 pub struct Target {
     machine: Machine,
     frame_pointer: u16,
     stack_pointer: u16,
-    /// How many general registers there are, by their DWARF numbers.
     registers: u16,
     below_end: u64,
 }
@@ -40,39 +39,55 @@ impl Target {
     }
 }
 
-/// What came of a section's statepoints: how many were moved, how many pointers they had, how many of their slots were
-/// registers, the most pointers that one pair had, and how many were refused by each number.
+/// What came of a section's statepoints: how many were moved, how many pointers they had, of each sort of base and each
+/// sort of derived slot, the most that one pair had, and how many were refused by each number.
 #[derive(Debug, Default, PartialEq, Eq)]
 pub struct Seen {
     pub moved: usize,
-    pub pointers: usize,
-    pub registers: usize,
+    pub pointers: BTreeMap<[Sort; 2], usize>,
     pub most: u64,
     pub refused: BTreeMap<u64, usize>,
 }
 
-/// A frame of a thread that is made up: its stack and its registers. Around its part of the stack, image bytes of
-/// others lie.
-#[derive(Clone, PartialEq, Eq)]
-struct Made {
-    address: u64,
-    frame_pointer: u64,
-    stack_pointer: u64,
-    first: u64,
-    image: Vec<u8>,
-    registers: Registers,
+/// Where a slot is.
+#[derive(Clone, Copy, Debug, PartialEq, Eq, PartialOrd, Ord)]
+pub enum Sort {
+    Memory,
+    Register,
 }
 
-/// A slot: the address of its first byte, or a register.
-#[derive(Clone, Copy, Debug, PartialEq, Eq, PartialOrd, Ord)]
+/// A slot: in the eight bytes from an address on, or in a register.
+#[derive(Clone, Copy, PartialEq, Eq, PartialOrd, Ord)]
 enum Slot {
     Memory(u64),
     Register(u16),
 }
 
+impl Slot {
+    fn sort(self) -> Sort {
+        match self {
+            Slot::Memory(_) => Sort::Memory,
+            Slot::Register(_) => Sort::Register,
+        }
+    }
+}
+
+/// A frame of a thread that is made up: its stack and its registers. Around its part of the stack, image bytes of others
+/// lie.
+#[derive(Clone)]
+struct Made {
+    address: u64,
+    first: u64,
+    image: Vec<u8>,
+    registers: Registers,
+}
+
 /// Where frames are made, and the bytes of others below and above.
 const STACK: u64 = 0x7ffd_0000_4000;
 const BEYOND: u64 = 48;
+
+/// What register 0 holds where it is no slot; the others hold one more each.
+const NO_POINTER: u64 = 0x4000_0000_0000;
 
 /// The stack size that says that it is not known.
 const UNKNOWN: u64 = u64::MAX;
@@ -107,50 +122,45 @@ impl Made {
         let image = (0..made_length(stack_size) + 2 * BEYOND)
             .map(|at| (at * 37 + 11) as u8)
             .collect();
-        let frame_pointer = STACK + above(target, stack_size);
+        let mut registers = std::array::from_fn(|number| NO_POINTER + number as u64);
+        registers[usize::from(target.frame_pointer)] = STACK + above(target, stack_size);
+        registers[usize::from(target.stack_pointer)] = STACK;
         Made {
             address,
-            frame_pointer,
-            stack_pointer: STACK,
             first: STACK - BEYOND,
             image,
-            registers: target.machine.registers(frame_pointer, STACK),
+            registers,
         }
     }
 
     fn set(&mut self, slot: Slot, word: u64) {
         match slot {
-            Slot::Register(number) => self.registers[usize::from(number)] = word,
             Slot::Memory(address) => {
                 let at = (address - self.first) as usize;
                 self.image[at..at + 8].copy_from_slice(&word.to_le_bytes());
             }
+            Slot::Register(register) => self.registers[usize::from(register)] = word,
         }
     }
 
     /// The slots of all pointers of a location, where it is one of some.
     fn slots(&self, target: Target, location: &Location) -> Option<Vec<Slot>> {
-        let from = match location.value {
-            Value::Register(number) => {
-                let own = number != target.stack_pointer && number != target.frame_pointer;
-                let slot = own && number < target.registers && location.size == 8;
-                return slot.then(|| vec![Slot::Register(number)]);
+        let pointers = [target.frame_pointer, target.stack_pointer];
+        let count = usize::from(location.size) / 8;
+        match location.value {
+            Value::Indirect(register, offset) if pointers.contains(&register) => {
+                let from = self.registers[usize::from(register)];
+                let address = from.wrapping_add_signed(offset.into());
+                let slots = (address..).step_by(8).take(count).map(Slot::Memory);
+                let sized = location.size.is_multiple_of(8) && (8..=BYTES).contains(&location.size);
+                sized.then(|| slots.collect())
             }
-            Value::Indirect(register, offset) if register == target.stack_pointer => {
-                (self.stack_pointer, offset)
+            Value::Register(register) if !pointers.contains(&register) => {
+                let is_slot = register < target.registers && location.size == 8;
+                is_slot.then(|| vec![Slot::Register(register)])
             }
-            Value::Indirect(register, offset) if register == target.frame_pointer => {
-                (self.frame_pointer, offset)
-            }
-            _ => return None,
-        };
-        let sized = location.size.is_multiple_of(8) && (8..=BYTES).contains(&location.size);
-        let address = from.0.wrapping_add_signed(from.1.into());
-        sized.then(|| {
-            let addresses = (address..).step_by(8);
-            let slots = addresses.take(usize::from(location.size) / 8);
-            slots.map(Slot::Memory).collect()
-        })
+            _ => None,
+        }
     }
 }
 
@@ -190,18 +200,18 @@ fn expected(target: Target, made: &Made, stack_size: u64, pairs: &[[&Location; 2
         return Expected::Refused(16, 0);
     }
     let (mut pointers, mut nulls, mut outside) = (Vec::new(), 0, None);
-    let end = made.stack_pointer + stack_size;
+    let end = STACK + stack_size;
+    let inside = |slot: &Slot| match slot {
+        Slot::Memory(address) => (STACK..end).contains(address) && end - address >= 8,
+        Slot::Register(_) => true,
+    };
     for (number, [base, derived]) in pairs.iter().enumerate() {
         let slots = [base, derived].map(|location| made.slots(target, location));
         match slots {
             _ if is_null(base) && is_null(derived) => nulls += 1,
             [Some(bases), Some(deriveds)] if bases.len() == deriveds.len() => {
-                let mut slots = bases.iter().chain(&deriveds);
-                let inside = slots.all(|slot| match slot {
-                    Slot::Register(_) => true,
-                    Slot::Memory(at) => (made.stack_pointer..end).contains(at) && end - at >= 8,
-                });
-                outside = outside.or((!inside).then_some(number as u64));
+                let all_inside = bases.iter().chain(&deriveds).all(inside);
+                outside = outside.or((!all_inside).then_some(number as u64));
                 pointers.extend(
                     bases
                         .into_iter()
@@ -229,17 +239,16 @@ fn fill(made: &mut Made, pointers: &[[Slot; 2]]) -> (Vec<u64>, Vec<u64>, Made) {
         let number = objects.len() as u64;
         objects.entry(*base).or_insert(number);
     }
-    for (base, number) in &objects {
-        made.set(*base, OLD + APART * number);
-    }
     let mut content = objects
         .iter()
         .map(|(base, number)| (*base, OLD + APART * number))
         .collect::<BTreeMap<_, _>>();
     for (place, [base, derived]) in pointers.iter().enumerate() {
         let inside = OLD + APART * objects[base] + 8 * (place as u64 + 1);
-        let old = *content.entry(*derived).or_insert(inside);
-        made.set(*derived, old);
+        content.entry(*derived).or_insert(inside);
+    }
+    for (slot, word) in &content {
+        made.set(*slot, *word);
     }
     let mut after = made.clone();
     for [base, derived] in pointers {
@@ -310,28 +319,29 @@ fn one(
         Expected::Refused(..) => &[],
     };
     let (old, new, after) = fill(&mut made, pointers);
-    let before = made.clone();
-    let second = library::second(target, bytes, &mut made, &old, &new);
-    let second_made = std::mem::replace(&mut made, before.clone());
+    let (before, mut seconds) = (made.clone(), made.clone());
+    let second = library::second(target, bytes, &mut seconds, &old, &new);
     let proved = library::proved(target, bytes, &mut made, &old, &new);
     same("the second answer", second, proved)?;
-    same("the second image and registers", second_made == made, true)?;
+    same("the second frame", alike(&seconds, &made), true)?;
     match expected {
         Expected::Refused(number, place) => {
             same("the refusal", proved, Err((number, place)))?;
-            same("image and registers are as they were", made == before, true)?;
+            same("the frame is as it was", alike(&made, &before), true)?;
             *seen.refused.entry(number).or_default() += 1;
         }
         Expected::Moved(pointers, nulls) => {
             same("the count", proved, Ok(pointers.len() as u64 + nulls))?;
-            same("image and registers after", made == after, true)?;
-            same("something changed", made != before, !pointers.is_empty())?;
+            same("the frame after", alike(&made, &after), true)?;
+            same(
+                "the frame changed",
+                !alike(&made, &before),
+                !pointers.is_empty(),
+            )?;
             seen.moved += 1;
-            seen.pointers += pointers.len();
-            let slots = pointers.iter().flatten();
-            seen.registers += slots
-                .filter(|slot| matches!(slot, Slot::Register(_)))
-                .count();
+            for slots in pointers {
+                *seen.pointers.entry(slots.map(Slot::sort)).or_default() += 1;
+            }
             let sizes = pairs
                 .iter()
                 .filter(|[base, _]| !is_null(base))
@@ -340,6 +350,11 @@ fn one(
         }
     }
     Ok(())
+}
+
+/// Whether two frames have the same bytes and the same registers.
+fn alike(one: &Made, other: &Made) -> bool {
+    one.image == other.image && one.registers == other.registers
 }
 
 /// The two moves that are compared.
@@ -357,8 +372,8 @@ mod library {
     ) -> Answer {
         let frame = treskibben::Frame::new(made.address);
         let (image, first, machine) = (&mut made.image, made.first, target.machine);
-        let (table, lent) = (treskibben::MoveTable::new(old, new), &mut made.registers);
-        let moved = treskibben::relocate(bytes, image, first, table, machine, frame, lent);
+        let (table, registers) = (treskibben::MoveTable::new(old, new), &mut made.registers);
+        let moved = treskibben::relocate(bytes, image, first, table, machine, frame, registers);
         let moved = moved.map(|count| count as u64);
         moved.map_err(|refusal| (refusal.number(), refusal.place()))
     }
@@ -374,9 +389,9 @@ mod library {
             address: made.address,
             function: 0,
         };
-        let (image, lent) = (&mut made.image, &mut made.registers);
-        let (first, machine) = (made.first, target.machine.number());
-        let moved = reference::relocate(bytes, image, first, old, new, machine, frame, lent);
+        let (image, first, machine) = (&mut made.image, made.first, target.machine.number());
+        let registers = &mut made.registers;
+        let moved = reference::relocate(bytes, image, first, old, new, machine, frame, registers);
         moved.map_err(|refusal| (refusal.number, refusal.place))
     }
 }
