@@ -12,6 +12,8 @@ mod common;
 mod calls;
 #[path = "thread/limits.rs"]
 mod limits;
+#[path = "thread/registers.rs"]
+mod registers;
 #[path = "thread/shapes.rs"]
 mod shapes;
 #[path = "thread/worked.rs"]

@@ -82,6 +82,19 @@ fn orders(count: usize) -> Vec<Vec<usize>> {
     shorter.flat_map(with).collect()
 }
 
+/// All orders of a few frames, or some of many.
+fn some_orders(rng: &mut Rng, count: usize) -> Vec<Vec<usize>> {
+    let mut some = match count {
+        0..=4 => orders(count),
+        5 if rng.one_in(4) => orders(count),
+        _ => vec![(0..count).collect(), (0..count).rev().collect()],
+    };
+    let mut random: Vec<usize> = (0..count).collect();
+    shuffle(rng, &mut random);
+    some.push(random);
+    some
+}
+
 fn list(rng: &mut Rng, counts: &mut Counts) {
     let count = match rng.below(8) {
         0 => 6 + rng.below(10),
@@ -103,16 +116,8 @@ fn list(rng: &mut Rng, counts: &mut Counts) {
         assert!(plain[stop].registers == registers, "{stop} of {scene:x?}");
         counts[5] += u64::from(registers != scene.stops[stop].registers);
     }
-    let mut all = match count {
-        0..=4 => orders(count),
-        5 if rng.one_in(4) => orders(count),
-        _ => vec![(0..count).collect(), (0..count).rev().collect()],
-    };
-    let mut random: Vec<usize> = (0..count).collect();
-    shuffle(rng, &mut random);
-    all.push(random);
     let other = scene.permuted(rng).encode();
-    for (nth, order) in all.iter().enumerate() {
+    for (nth, order) in some_orders(rng, count).iter().enumerate() {
         let image = run(&scene, &section, order, &plain, true);
         assert!(image == expected, "{order:?} of {scene:x?}");
         if nth % 8 == 0 {

@@ -44,26 +44,31 @@ fn permuted(rng: &mut Rng, counts: &mut Counts) {
     counts[outcome.number as usize] += 1;
 }
 
-/// The bytes outside the slots, and the registers that are neither slots nor the machine's pointers, change
-/// no answer and no new content. Where a refusal comes before the slots are read, no byte of the image and
-/// no register but the pointers changes it.
-fn complemented(rng: &mut Rng, counts: &mut Counts) {
-    let (scene, section, number) = frame(rng);
+/// Which bytes of the image, and which registers, may count for a frame with this number as answer.
+fn what_counts(scene: &Scene, number: u64) -> (Vec<bool>, Vec<usize>) {
     let mut listed = vec![false; scene.image.len()];
     // A number that is no machine is refused before any register is read.
     let pointers = MACHINES.iter().filter(|(own, _)| *own == scene.machine);
-    let mut read: Vec<usize> = pointers
-        .flat_map(|(_, pointers)| pointers.map(usize::from))
-        .collect();
+    let pointers = pointers.flat_map(|(_, pointers)| pointers.map(usize::from));
+    let mut read: Vec<usize> = pointers.collect();
     if [0, 20, 21].contains(&number) {
         let at = (scene.stack_pointer(0) - scene.first) as usize;
-        for slot in plain::slots(&scene, 0).into_iter().flatten().flatten() {
+        for slot in plain::slots(scene, 0).into_iter().flatten().flatten() {
             match slot {
                 Slot::Stack(slot) => listed[at + slot as usize..][..8].fill(true),
                 Slot::Register(register) => read.push(register),
             }
         }
     }
+    (listed, read)
+}
+
+/// The bytes outside the slots, and the registers that are neither slots nor the machine's pointers, change
+/// no answer and no new content. Where a refusal comes before the slots are read, no byte of the image and
+/// no register but the pointers changes it.
+fn complemented(rng: &mut Rng, counts: &mut Counts) {
+    let (scene, section, number) = frame(rng);
+    let (listed, read) = what_counts(&scene, number);
     let other_registers = |registers: &[u64]| -> Vec<u64> {
         let registers = registers.iter().enumerate();
         registers

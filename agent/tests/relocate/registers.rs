@@ -222,53 +222,62 @@ fn every_mix_of_two_pairs() {
     });
 }
 
+/// A frame of AMD64 or AArch64 whose pairs are made of registers 3, 12 and 14 and of the word at the stack
+/// pointer, which is the first old start: the answer, and what the three registers hold after the call.
+fn shared(
+    (version, machine): (Version, u64),
+    pairs: &[[&Location; 2]],
+    held: [u64; 3],
+) -> ((u64, u64, u64), [u64; 3]) {
+    let pairs: Vec<[Location; 2]> = pairs.iter().map(|pair| pair.map(Clone::clone)).collect();
+    let mut scene = of_pairs(version, machine, &pairs, &[OLD[0], 0, 0]);
+    for (register, content) in [3, 12, 14].into_iter().zip(held) {
+        scene.stops[0].registers[register] = content;
+    }
+    let outcome = moved(&scene);
+    let held = [3, 12, 14].map(|register| outcome.registers[register]);
+    (outcome.answer(), held)
+}
+
 /// A derived register of two pairs, written out: fine with equal old bases, wherever they are, and else 20 at
-/// the later pair. A register that is a base of one pair and derived in another is read as it was lent.
+/// the later pair.
 #[test]
-fn shared_registers() {
-    for (version, machine) in versions_and_machines() {
-        let [a, b, c] = [3, 12, 14].map(in_register);
-        let run = |pairs: &[[&Location; 2]], held: [u64; 3]| {
-            let pairs: Vec<[Location; 2]> =
-                pairs.iter().map(|pair| pair.map(Clone::clone)).collect();
-            let mut scene = of_pairs(version, machine, &pairs, &[OLD[0], 0, 0]);
-            for (register, content) in [3, 12, 14].into_iter().zip(held) {
-                scene.stops[0].registers[register] = content;
-            }
-            let outcome = moved(&scene);
-            let held = [3, 12, 14].map(|register| outcome.registers[register]);
-            (outcome.answer(), held)
-        };
-        let word = in_memory(machine, 0);
-        let [old, other] = OLD;
-        let up = NEW[0] - OLD[0];
+fn shared_derived_registers() {
+    let ([a, b, c], [old, other]) = ([3, 12, 14].map(in_register), OLD);
+    let up = NEW[0] - OLD[0];
+    for on in versions_and_machines() {
+        let word = in_memory(on.1, 0);
         // Two base registers, and a register and a word.
-        let same = run(&[[&a, &c], [&b, &c]], [old, old, old + 8]);
-        assert_eq!(same, ((0, 0, 2), [old, old, old + 8 + up]));
-        let same = run(&[[&word, &c], [&b, &c]], [7, old, old + 8]);
-        assert_eq!(same, ((0, 0, 2), [7, old, old + 8 + up]));
-        let unequal = run(&[[&a, &c], [&b, &c]], [old, other, old + 8]);
-        assert_eq!(unequal, ((20, 1, 0), [old, other, old + 8]));
-        let unequal = run(&[[&word, &c], [&b, &c]], [7, other, old + 8]);
-        assert_eq!(unequal, ((20, 1, 0), [7, other, old + 8]));
-        let null = run(&[[&a, &c], [&b, &c]], [0, 0, 5]);
-        assert_eq!(null, ((0, 0, 2), [0, 0, 5]));
-        let null = run(&[[&a, &c], [&b, &c]], [0, old, 5]);
-        assert_eq!(null, ((20, 1, 0), [0, old, 5]));
+        for (base, held) in [(&a, old), (&word, 7)] {
+            let pairs = [[base, &c], [&b, &c]];
+            let same = shared(on, &pairs, [held, old, old + 8]);
+            assert_eq!(same, ((0, 0, 2), [held, old, old + 8 + up]));
+            let unequal = shared(on, &pairs, [held, other, old + 8]);
+            assert_eq!(unequal, ((20, 1, 0), [held, other, old + 8]));
+        }
+        let pairs = [[&a, &c], [&b, &c]];
+        assert_eq!(shared(on, &pairs, [0, 0, 5]), ((0, 0, 2), [0, 0, 5]));
+        assert_eq!(shared(on, &pairs, [0, old, 5]), ((20, 1, 0), [0, old, 5]));
         // No object, twice the same: 21 at the first.
-        let lost = run(&[[&a, &c], [&b, &c]], [9, 9, 5]);
-        assert_eq!(lost, ((21, 0, 0), [9, 9, 5]));
+        assert_eq!(shared(on, &pairs, [9, 9, 5]), ((21, 0, 0), [9, 9, 5]));
+    }
+}
+
+/// A register that is a base of one pair and derived in another is read as it was lent.
+#[test]
+fn bases_that_are_derived() {
+    let ([a, b], [old, other]) = ([3, 12].map(in_register), OLD);
+    let (up, down) = (NEW[0] - OLD[0], OLD[1] - NEW[1]);
+    for on in versions_and_machines() {
         // Each derives the other, in either order of the pairs.
-        let down = other - NEW[1];
         for pairs in [[[&a, &b], [&b, &a]], [[&b, &a], [&a, &b]]] {
-            let crossed = run(&pairs, [old, other, 0]);
             let moved = [old.wrapping_sub(down), other + up, 0];
-            assert_eq!(crossed, ((0, 0, 2), moved));
+            assert_eq!(shared(on, &pairs, [old, other, 0]), ((0, 0, 2), moved));
         }
         // A base that is derived from itself moves; the one that is derived from it keeps its distance.
         for pairs in [[[&a, &a], [&a, &b]], [[&a, &b], [&a, &a]]] {
-            let own = run(&pairs, [old, old + 24, 0]);
-            assert_eq!(own, ((0, 0, 2), [old + up, old + 24 + up, 0]));
+            let moved = [old + up, old + 24 + up, 0];
+            assert_eq!(shared(on, &pairs, [old, old + 24, 0]), ((0, 0, 2), moved));
         }
     }
 }

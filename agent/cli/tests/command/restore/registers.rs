@@ -2,6 +2,7 @@
 //! moment, and what is refused where they could come apart.
 
 mod ended;
+mod receipts;
 
 use super::Restore;
 use crate::fixtures::{location, of_pairs, rsp, words};
@@ -358,68 +359,4 @@ fn for_programs() {
         (&refused["pair"], &refused["cause"]),
         (&json!(0), &json!("a register of the frame is not told"))
     );
-}
-
-/// The receipt in the folder tells image and frames, and keeps both from being moved twice.
-#[test]
-fn receipts() {
-    let (mut row, folder) = (in_rbx(), Folder::new());
-    row.moves = "50000 90000\n90000 a0000\n".to_string();
-    row.put(&folder);
-    into(&row, &folder, &[]).done(SAYS);
-    let receipt: Value = serde_json::from_slice(&folder.get("new/image.receipt.json")).unwrap();
-    for (field, file, bytes) in [
-        ("before", "image", row.image.clone()),
-        ("frames", "frames", row.frames.clone().into_bytes()),
-        ("after", "new/image", folder.get("new/image")),
-        ("frames_after", "new/frames", folder.get("new/frames")),
-    ] {
-        assert_eq!(receipt[field]["file"], file);
-        assert_eq!(receipt[field]["bytes"], bytes.len());
-        assert_eq!(
-            receipt[field]["sha256"],
-            super::receipts::digest(&bytes),
-            "{field}"
-        );
-    }
-    assert_eq!(
-        (&receipt["moved_pointers"], &receipt["moved_registers"]),
-        (&json!(2), &json!(1))
-    );
-    let again = |image: &str, frames: &str, into: &str, more: &[&str]| {
-        let call = format!(
-            "restore --section section --image {image} --first 7000 --moves moves --frames {frames} --into {into}"
-        );
-        folder.run(call.split(' ').chain(more.iter().copied()))
-    };
-    for (image, frames, which) in [
-        ("new/image", "frames", "new/image"),
-        ("new/image", "new/frames", "new/image"),
-        ("image", "new/frames", "new/frames"),
-    ] {
-        let ran = again(image, frames, "newer", &[]);
-        let start = format!("{which}: refused: it was restored already; ");
-        assert!(ran.err.starts_with(&start), "{}", ran.err);
-        assert_eq!((ran.status, folder.at("newer").exists()), (Some(1), false));
-    }
-    let says = "newer: 1 frame moved, 2 pointers, 1 register changed\n";
-    again("new/image", "new/frames", "newer", &["--again"]).done(says);
-    assert!(folder.get("newer/frames").ends_with(b"rbx=0xa0000\n"));
-    assert_eq!(folder.get("newer/image")[16..], words(&[0xA4E20]));
-}
-
-/// Registers alone: the image is as it was, and yet the frames that were written are not moved again.
-#[test]
-fn registers_alone_are_not_moved_twice() {
-    let (mut row, folder) = (in_rbx(), Folder::new());
-    row.section = of_pairs(24, &[[register(3), register(3)]]);
-    row.moves = "50000 90000\n90000 a0000\n".to_string();
-    row.put(&folder);
-    into(&row, &folder, &[]).done("new: 1 frame moved, 1 pointer, 1 register changed\n");
-    assert_eq!(folder.get("new/image"), row.image);
-    let call = "restore --section section --image new/image --first 7000 --moves moves --frames new/frames --into newer";
-    let ran = folder.run(call.split(' '));
-    let start = "new/frames: refused: it was restored already; its SHA-256 is 'frames_after' in new/image.receipt.json";
-    assert!(ran.err.starts_with(start), "{}", ran.err);
-    assert!(!folder.at("newer").exists());
 }
