@@ -9,7 +9,7 @@ mod machines;
 mod output;
 mod receipts;
 mod refusals;
-mod registers;
+pub mod registers;
 mod threads;
 mod worked;
 
