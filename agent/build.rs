@@ -13,7 +13,7 @@ use std::process::exit;
 const ARCHIVE: &str = "libtreskibben.a";
 
 /// The name that only a library of this crate's version has: see `src/ffi.rs`.
-const OF_THIS_VERSION: &str = "treskibben_version_2";
+const OF_THIS_VERSION: &str = "treskibben_version_3";
 
 /// The names of all versions begin with this, and a number follows.
 const OF_A_VERSION: &str = "treskibben_version_";

@@ -19,17 +19,18 @@ extern "C" {
  * The version of this interface: of the names, structs and numbers below. It is raised by one with
  * every change that a program written for the version before could not live with.
  *
- * treskibben_version answers the version of the library that is linked. treskibben_version_2 answers
- * the same, and only a library of version 2 has it: a program that calls it, as
+ * treskibben_version answers the version of the library that is linked. treskibben_version_3 answers
+ * the same, and only a library of version 3 has it: a program that calls it, as
  * TRESKIBBEN_REQUIRE_VERSION() does, can't be linked with another.
  *
- * Version 2 moves frames of two machines: the calls that move frames are told which, and a frame's fields
- * are named for both. In version 1 all frames were of AMD64.
+ * Version 3 moves pointers in registers too: each frame brings 32 registers, which are lent as the image is,
+ * and its frame pointer and stack pointer are read from them. A frame is two numbers, and so is one of a
+ * thread. Version 2 moved frames of two machines, told both pointers in the frame, and wrote memory alone.
  */
-#define TRESKIBBEN_VERSION 2
+#define TRESKIBBEN_VERSION 3
 uint32_t treskibben_version(void);
-uint32_t treskibben_version_2(void);
-#define TRESKIBBEN_REQUIRE_VERSION() ((void)treskibben_version_2())
+uint32_t treskibben_version_3(void);
+#define TRESKIBBEN_REQUIRE_VERSION() ((void)treskibben_version_3())
 
 /*
  * What a call answers. The answers to questions begin with the same two fields.
@@ -335,12 +336,12 @@ treskibben_answer treskibben_to_section(const uint8_t *listing, size_t length, u
 /*
  * The move of one frame.
  *
- * The machine that frames stopped on. It says which two registers slots are counted from, by their DWARF
- * numbers. A section doesn't say its machine.
+ * The machine that frames stopped on. It says which two registers slots in memory are counted from, and
+ * which registers can hold a pointer themselves, by their DWARF numbers. A section doesn't say its machine.
  *
- *   number                 machine            frame pointer   stack pointer
- *   TRESKIBBEN_AMD64    0  AMD64 (x86-64)     RBP, 6          RSP, 7
- *   TRESKIBBEN_AARCH64  1  AArch64 (arm64)    X29, 29         SP, 31
+ *   number                 machine            frame pointer   stack pointer   slots in registers
+ *   TRESKIBBEN_AMD64    0  AMD64 (x86-64)     RBP, 6          RSP, 7          0 to 5, 8 to 15
+ *   TRESKIBBEN_AARCH64  1  AArch64 (arm64)    X29, 29         SP, 31          0 to 28, 30
  *
  * Any other number is answered by 33.
  */
@@ -348,22 +349,28 @@ treskibben_answer treskibben_to_section(const uint8_t *listing, size_t length, u
 #define TRESKIBBEN_AARCH64 UINT64_C(1)
 
 /*
- * A frame of a stopped thread: where its record is, and what two registers hold.
+ * A frame of a stopped thread: where its record is.
  *
- * address:        for version 3 the address that its record has, which is the one that the call in it
- *                 returns to; for version 1 the instruction offset of its record, which is that address
- *                 less the function's.
- * frame_pointer:  the content of the machine's frame pointer.
- * stack_pointer:  the content of the machine's stack pointer, where the frame's part of the stack begins;
- *                 the stack size of its function says how long it is.
- * function:       for version 1 the number of its function; for version 3 it is not read.
+ * address:   for version 3 the address that its record has, which is the one that the call in it returns
+ *            to; for version 1 the instruction offset of its record, which is that address less the
+ *            function's.
+ * function:  for version 1 the number of its function; for version 3 it is not read.
  */
 typedef struct treskibben_frame {
     uint64_t address;
-    uint64_t frame_pointer;
-    uint64_t stack_pointer;
     uint64_t function;
 } treskibben_frame;
+
+/*
+ * The registers of a frame: TRESKIBBEN_REGISTERS numbers, the content of register r at position r, by DWARF
+ * numbers on both machines. They are what the registers hold when the call in the frame has returned: a
+ * callee may have put some of them on the stack, and then they are to be fetched from there.
+ *
+ * The frame's part of the stack begins at the stack pointer, and the stack size of its function says how
+ * long it is. Frame pointer and stack pointer are only read. On AMD64 the numbers from 16 on are neither
+ * read nor written; what stands there is of no account.
+ */
+#define TRESKIBBEN_REGISTERS 32
 
 /*
  * Moves the pointers of one frame of the machine with this number. `value` is the number of pointers that
@@ -371,25 +378,30 @@ typedef struct treskibben_frame {
  *
  * `image` is a copy of the stack, `image_length` bytes from the address `first` on. The objects that
  * have moved are in two lists, entry by entry: where each was, `old_count` numbers at `old_starts`,
- * and where it is now, `new_count` numbers at `new_starts`.
+ * and where it is now, `new_count` numbers at `new_starts`. The frame's registers are `registers_length`
+ * numbers at `registers`, which has to be TRESKIBBEN_REGISTERS.
  *
  * A record is a statepoint if it has at least three locations, the first three are of kind 4, the
  * third isn't negative and says how many deoptimisation values follow, an even number of locations
  * is left after those, and there are no live-outs. Those left are pairs, numbered from 0: the location
- * of a base, which is the start of an object, and that of a pointer derived from it. Of version 3 a pair
- * of size 8N is N pointers one after another, N from 1 to 256: pointer i has its base in the slot of 8
- * bytes that begins 8i bytes after the first location, and stands itself in the slot 8i bytes after the
- * second. Of version 1 a pair is one pointer. A pair of two constants 0 is null: it has no slots, has any
- * sizes, and counts as one pointer.
+ * of a base, which is the start of an object, and that of a pointer derived from it. A location of kind 3
+ * is in memory, and one of kind 1 is a register; a pair may have one of each. Of version 3 a pair
+ * of size 8N in memory is N pointers one after another, N from 1 to 256: pointer i has its base in the slot
+ * of 8 bytes that begins 8i bytes after the first location, and stands itself in the slot 8i bytes after the
+ * second. A pair with a register is one pointer, and so is every pair of version 1. A pair of two constants
+ * 0 is null: it has no slots, has any sizes, and counts as one pointer.
  *
  * Where the call is accepted, each derived slot is set to its content plus the new start of its base
- * minus the old one, modulo 2^64. Everything is taken from the image as it was before the call, in
- * whatever order the pairs are, and also where the two locations of a pair share slots. A base of 0
- * stays 0. All other bytes of the image are left untouched, and on a refusal all of them are.
+ * minus the old one, modulo 2^64. Everything is taken from the image and the registers as they were before
+ * the call, in whatever order the pairs are, and also where the two locations of a pair share slots or a
+ * register is one pair's base and derived in another. A base of 0 stays 0. All other bytes of the image and
+ * all other registers are left untouched, and on a refusal all of them are. A register is no memory: it is
+ * the same slot as itself and shares nothing with any other.
  *
- * `section` and each list are lent as a section is to treskibben_check, and `image` as an output is
- * to a conversion: no pointer may be NULL, the lists must be aligned, and the image must share no
- * byte with the section or with a list. The two lists may share theirs.
+ * `section` and each list of starts are lent as a section is to treskibben_check, and `image` and `registers`
+ * as an output is to a conversion: no pointer may be NULL, not even where a length is 0, the lists and the
+ * registers must be aligned, and neither the image nor the registers may share a byte with each other or with
+ * anything else that is lent. The two lists of starts may share theirs.
  *
  * The answer is the first of these that holds, in this order, but that 17 comes before 18 for version 1;
  * 18 to 21 are each looked for in all pairs before the next, and the place is the lowest pair with the
@@ -402,6 +414,7 @@ typedef struct treskibben_frame {
  *           over 2^64 - 1
  *   14      lists unequal, over 65,536 entries, old starts not       0
  *           strictly rising, or a 0 in either
+ *   25      registers_length not 32                                  0
  *   10      no record of that address; of version 1, no such         0
  *           function, or no record at the offset
  *   15      more than one record at the address; of version 1, at    0
@@ -409,12 +422,17 @@ typedef struct treskibben_frame {
  *   12      not a statepoint                                         0
  *   16      stack size unknown (2^64 - 1), or the frame not inside   0
  *           the image
- *   18      pair of wrong form: not null, and not two locations of   the pair
- *           kind 3, a register of the machine's two and equal
- *           sizes of 8N, N from 1 to 256 (of version 1, sizes of
- *           0 or 8 each)
+ *   18      pair of wrong form: not null, and a location that is     the pair
+ *           neither in memory nor a register as below, or, of
+ *           version 3, unequal sizes.
+ *           In memory: kind 3, counted from one of the machine's
+ *           two pointers, size 8N, N from 1 to 256 (of version 1,
+ *           0 or 8).
+ *           A register: kind 1, one of those that can be slots on
+ *           the machine, offset 0, size 8 (of version 1, 0 or 8)
  *   17      over 256 pointers, null pairs counting one each          0
- *   19      a slot not wholly inside the frame; nothing wraps        the pair
+ *   19      a slot in memory not wholly inside the frame; nothing    the pair
+ *           wraps
  *   20      collision: two slots overlap without being equal, or     the pair
  *           a slot is derived from bases that differ, with this
  *           pair or one before it
@@ -425,21 +443,24 @@ treskibben_answer treskibben_relocate(const uint8_t *section, size_t length, uin
                                       size_t image_length, uint64_t first,
                                       const uint64_t *old_starts, size_t old_count,
                                       const uint64_t *new_starts, size_t new_count,
-                                      uint64_t machine, treskibben_frame frame);
+                                      uint64_t machine, treskibben_frame frame,
+                                      uint64_t *registers, size_t registers_length);
 
 /*
  * Moves the pointers of a whole thread, all of its frames or none, which are of one machine. `value` is
  * the sum of the pointers that their statepoints list, null pairs counting one each.
  *
- * The frames are `frames_length` numbers at `frames`, four to a frame: address (of version 1, offset),
- * frame pointer, stack pointer, function. An array of treskibben_frame is such a list, of four times as many numbers as it
- * has frames. Positions in the list are counted from 0. Everything else is lent as to
- * treskibben_relocate, and the list as its two lists are.
+ * The frames are `frames_length` numbers at `frames`, two to a frame: address (of version 1, offset) and
+ * function. An array of treskibben_frame is such a list, of twice as many numbers as it has frames. Their
+ * registers are `registers_length` numbers at `registers`, 32 to a frame in the order of the frames: those of
+ * the frame at position p begin at 32p. An array of uint64_t[TRESKIBBEN_REGISTERS] is such a list. Positions
+ * in the list of frames are counted from 0. Everything else is lent as to treskibben_relocate, and the list of
+ * frames as its two lists are.
  *
  * A frame's extent is its part of the stack: the bytes from the stack pointer on, as many as the stack
- * size of its function. Where the call is accepted, the image is the one that treskibben_relocate leaves when it
- * moves the frames one by one, in the order of the list or in any other. On a refusal all of the image
- * is left untouched.
+ * size of its function. Where the call is accepted, image and registers are those that treskibben_relocate
+ * leaves when it moves the frames one by one, each with its own registers, in the order of the list or in any
+ * other. On a refusal all of the image and all registers are left untouched.
  *
  * The answer is the first of these that holds, in this order:
  *
@@ -447,8 +468,8 @@ treskibben_answer treskibben_relocate(const uint8_t *section, size_t length, uin
  *   1 to 9  the refusal that treskibben_check gives the section      as there
  *   33, 13, 14                                                       0
  *           as for treskibben_relocate
- *   25      frames_length not a multiple of four, or over 16,384     0
- *           (4,096 frames)
+ *   25      frames_length odd or over 8,192 (4,096 frames), or       0
+ *           registers_length not 32 for each frame
  *   10, 15, 12, 16, 18, 17, 19 to 21                                 the position of the frame
  *           a frame is refused by itself, on the image as lent:
  *           the first such frame of the list, by the number that
@@ -457,21 +478,22 @@ treskibben_answer treskibben_relocate(const uint8_t *section, size_t length, uin
  *           earlier one in the list; empty extents share nothing     such frame
  *   0       all frames are moved                                     0
  *
- * A list of no frames is accepted, with 0 pointers. The section is not walked again for each frame. The
- * call needs about 263 KiB of stack, treskibben_relocate about 7 KiB and treskibben_find_all_by_index
- * about 33 KiB; treskibben_flat_find needs 1 MiB where frames name over 16,777,216 records in all.
+ * A list of no frames, with no registers, is accepted, with 0 pointers. The section is not walked again for
+ * each frame. The call needs about 263 KiB of stack, treskibben_relocate about 7 KiB and
+ * treskibben_find_all_by_index about 33 KiB; treskibben_flat_find needs 1 MiB where frames name over 16,777,216 records in all.
  */
 treskibben_answer treskibben_thread(const uint8_t *section, size_t length, uint8_t *image,
                                     size_t image_length, uint64_t first,
                                     const uint64_t *old_starts, size_t old_count,
                                     const uint64_t *new_starts, size_t new_count,
                                     uint64_t machine, const uint64_t *frames,
-                                    size_t frames_length);
+                                    size_t frames_length, uint64_t *registers,
+                                    size_t registers_length);
 
 /*
  * Moves the pointers of a whole thread as treskibben_thread does, all of its frames or none, with an index
- * of the section: `index_length` numbers at `index`, lent as the other lists are. With the right index the
- * answer and the image are those of treskibben_thread, whatever the frames.
+ * of the section: `index_length` numbers at `index`, lent as the lists of starts are. With the right index the
+ * answer, the image and the registers are those of treskibben_thread, whatever the frames.
  *
  * The index is tested once, between 14 and 25:
  *
@@ -489,7 +511,8 @@ treskibben_answer treskibben_thread_by_index(const uint8_t *section, size_t leng
                                              const uint64_t *old_starts, size_t old_count,
                                              const uint64_t *new_starts, size_t new_count,
                                              uint64_t machine, const uint64_t *frames,
-                                             size_t frames_length, const uint64_t *index,
+                                             size_t frames_length, uint64_t *registers,
+                                             size_t registers_length, const uint64_t *index,
                                              size_t index_length);
 
 /*

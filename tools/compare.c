@@ -4,7 +4,8 @@
  * kinds. tools/compare builds it.
  *
  * The functions of the two builds have the prefixes `before_` and `after_`. OLD_FRAME says that the first build's frame has no function
- * number yet, and that it refuses version 1; BEFORE_MACHINE and AFTER_MACHINE that a build is told the frame's machine.
+ * number yet, and that it refuses version 1; BEFORE_MACHINE and AFTER_MACHINE that a build is told the frame's machine; BEFORE_REGISTERS
+ * and AFTER_REGISTERS that it is lent 32 registers a frame, and reads the frame's pointers from them.
  */
 #include <stdint.h>
 #include <stdio.h>
@@ -14,12 +15,15 @@
 
 typedef struct { uint64_t number, place, value; } answer;
 typedef struct { uint64_t number, place, index, function, sharing; } found;
-typedef struct { uint64_t address, rbp, rsp, function; } frame;
+typedef struct { uint64_t address, rbp, rsp, function; } frame_with_pointers;
+typedef struct { uint64_t address, function; } frame_of_registers;
 #ifdef OLD_FRAME
-typedef struct { uint64_t address, rbp, rsp; } before_frame;
+typedef struct { uint64_t address, rbp, rsp; } before_with_pointers;
 #else
-typedef frame before_frame;
+typedef frame_with_pointers before_with_pointers;
 #endif
+
+enum { REGISTERS = 32, RSP = 7 };
 
 #ifdef BEFORE_MACHINE
 #define BEFORE_TYPE uint64_t,
@@ -36,20 +40,49 @@ typedef frame before_frame;
 #define AFTER_AMD64
 #endif
 
-#define DECLARE(prefix, machine_type, frame_type)                                                                   \
+/* A frame, how many numbers of a list are one, and what is lent beside it. */
+#define LENT , uint64_t *, size_t
+#ifdef BEFORE_REGISTERS
+typedef frame_of_registers before_frame;
+enum { BEFORE_NUMBERS = 2 };
+#define BEFORE_LENT LENT
+#define BEFORE_OWN , own, REGISTERS
+#define BEFORE_ALL , all, sizeof all / sizeof *all
+#else
+typedef before_with_pointers before_frame;
+enum { BEFORE_NUMBERS = 4 };
+#define BEFORE_LENT
+#define BEFORE_OWN
+#define BEFORE_ALL
+#endif
+#ifdef AFTER_REGISTERS
+typedef frame_of_registers after_frame;
+enum { AFTER_NUMBERS = 2 };
+#define AFTER_LENT LENT
+#define AFTER_OWN , own, REGISTERS
+#define AFTER_ALL , all, sizeof all / sizeof *all
+#else
+typedef frame_with_pointers after_frame;
+enum { AFTER_NUMBERS = 4 };
+#define AFTER_LENT
+#define AFTER_OWN
+#define AFTER_ALL
+#endif
+
+#define DECLARE(prefix, machine_type, frame_type, lent)                                                             \
     answer prefix##treskibben_check(const uint8_t *, size_t);                                         \
     found prefix##treskibben_find(const uint8_t *, size_t, uint64_t);                                 \
     answer prefix##treskibben_relocate(const uint8_t *, size_t, uint8_t *, size_t, uint64_t, const uint64_t *, size_t, \
-                                       const uint64_t *, size_t, machine_type frame_type);                   \
+                                       const uint64_t *, size_t, machine_type frame_type lent);              \
     answer prefix##treskibben_thread(const uint8_t *, size_t, uint8_t *, size_t, uint64_t, const uint64_t *, size_t,   \
-                                     const uint64_t *, size_t, machine_type const uint64_t *, size_t);
-DECLARE(before_, BEFORE_TYPE, before_frame)
-DECLARE(after_, AFTER_TYPE, frame)
+                                     const uint64_t *, size_t, machine_type const uint64_t *, size_t lent);
+DECLARE(before_, BEFORE_TYPE, before_frame, BEFORE_LENT)
+DECLARE(after_, AFTER_TYPE, after_frame, AFTER_LENT)
 
 enum { LIMIT = 16777216, ROUNDS_MOST = 1001, STACK = 0x7000000 };
 
 static uint8_t bytes[LIMIT];
-static uint8_t image[65536];
+static uint8_t image[262144];
 static size_t length;
 static uint64_t last; /* the last record's address, or its offset in version 1 */
 static volatile uint64_t sink;
@@ -133,35 +166,64 @@ static void check_before(void) { sink += before_treskibben_check(bytes, length).
 static void check_after(void) { sink += after_treskibben_check(bytes, length).number; }
 static void find_before(void) { sink += before_treskibben_find(bytes, length, last).index; }
 static void find_after(void) { sink += after_treskibben_find(bytes, length, last).index; }
+/* The registers of the frame that is moved alone, and a frame of each build at the last record. A build that reads no registers has the
+ * stack pointer as the third number of its frame. */
+static uint64_t own[REGISTERS];
+
+static before_frame frame_before(void) {
+    before_frame f;
+    uint64_t numbers[4] = {last, 0, STACK, 0};
+    memset(&f, 0, sizeof f);
+    if (BEFORE_NUMBERS == 4) memcpy(&f, numbers, sizeof f);
+    else f.address = last;
+    own[RSP] = STACK;
+    return f;
+}
+static after_frame frame_after(void) {
+    after_frame f;
+    uint64_t numbers[4] = {last, 0, STACK, 0};
+    memset(&f, 0, sizeof f);
+    if (AFTER_NUMBERS == 4) memcpy(&f, numbers, sizeof f);
+    else f.address = last;
+    own[RSP] = STACK;
+    return f;
+}
 static void move_before(void) {
-    before_frame f = {0};
-    f.address = last;
-    f.rsp = STACK;
-    sink += before_treskibben_relocate(bytes, length, image, sizeof image, STACK, NULL, 0, NULL, 0, BEFORE_AMD64 f).number;
+    sink += before_treskibben_relocate(bytes, length, image, sizeof image, STACK, NULL, 0, NULL, 0, BEFORE_AMD64 frame_before()
+                                       BEFORE_OWN).number;
 }
 static void move_after(void) {
-    frame f = {last, 0, STACK, 0};
-    sink += after_treskibben_relocate(bytes, length, image, sizeof image, STACK, NULL, 0, NULL, 0, AFTER_AMD64 f).number;
+    sink += after_treskibben_relocate(bytes, length, image, sizeof image, STACK, NULL, 0, NULL, 0, AFTER_AMD64 frame_after()
+                                      AFTER_OWN).number;
 }
 
-/* A thread: one frame for each of so many functions, each with its own part of the image; four numbers a frame. */
-enum { FRAMES = 1024 };
+/* A thread: one frame for each of so many functions, each with its own part of the image; four numbers a frame, or two and 32 registers. */
+enum { FRAMES = 4096, APART = 6 };
 
-static uint64_t frames[4 * FRAMES];
+static uint64_t frames_before[4 * FRAMES], frames_after[4 * FRAMES], all[REGISTERS * FRAMES];
 
+static void put_frame(uint64_t *frames, int numbers, uint64_t i) {
+    frames[(uint64_t)numbers * i] = 0x400000 + 0x400 * APART * i;
+    if (numbers == 4) frames[4 * i + 2] = STACK + 64 * i;
+}
 static void build_frames(void) {
     memset(image, 0, sizeof image);
     for (uint64_t i = 0; i < FRAMES; i++) {
-        frames[4 * i] = 0x400000 + 0x400 * 25 * i;
-        frames[4 * i + 2] = STACK + 64 * i;
+        put_frame(frames_before, BEFORE_NUMBERS, i);
+        put_frame(frames_after, AFTER_NUMBERS, i);
+        all[REGISTERS * i + RSP] = STACK + 64 * i;
     }
 }
-static void thread_before(void) {
-    sink += before_treskibben_thread(bytes, length, image, sizeof image, STACK, NULL, 0, NULL, 0, BEFORE_AMD64 frames, 4 * FRAMES).number;
+static answer threaded_before(void) {
+    return before_treskibben_thread(bytes, length, image, sizeof image, STACK, NULL, 0, NULL, 0, BEFORE_AMD64 frames_before,
+                                    BEFORE_NUMBERS * FRAMES BEFORE_ALL);
 }
-static void thread_after(void) {
-    sink += after_treskibben_thread(bytes, length, image, sizeof image, STACK, NULL, 0, NULL, 0, AFTER_AMD64 frames, 4 * FRAMES).number;
+static answer threaded_after(void) {
+    return after_treskibben_thread(bytes, length, image, sizeof image, STACK, NULL, 0, NULL, 0, AFTER_AMD64 frames_after,
+                                   AFTER_NUMBERS * FRAMES AFTER_ALL);
 }
+static void thread_before(void) { sink += threaded_before().number; }
+static void thread_after(void) { sink += threaded_after().number; }
 
 /* A frame of 256 pointers: the base slots one after another, then the derived ones; as many pairs, or a single pair of all of them. */
 enum { POINTERS = 256, CALLS = 16 };
@@ -198,18 +260,16 @@ static void build_full(int single) {
 }
 
 static void full_before(void) {
-    before_frame f = {0};
-    f.address = last;
-    f.rsp = STACK;
+    before_frame f = frame_before();
     for (int i = 0; i < CALLS; i++)
         sink += before_treskibben_relocate(bytes, length, image, sizeof image, STACK, old_starts, POINTERS, new_starts, POINTERS,
-                                           BEFORE_AMD64 f).number;
+                                           BEFORE_AMD64 f BEFORE_OWN).number;
 }
 static void full_after(void) {
-    frame f = {last, 0, STACK, 0};
+    after_frame f = frame_after();
     for (int i = 0; i < CALLS; i++)
         sink += after_treskibben_relocate(bytes, length, image, sizeof image, STACK, old_starts, POINTERS, new_starts, POINTERS,
-                                          AFTER_AMD64 f).number;
+                                          AFTER_AMD64 f AFTER_OWN).number;
 }
 
 static int rising(const void *a, const void *b) {
@@ -286,10 +346,8 @@ int main(int argc, char **argv) {
     compare("move of the last frame", rounds, move_before, move_after);
 #ifndef OLD_FRAME
     build_frames();
-    printf("thread of %d frames: answers %d and %d\n", FRAMES,
-           (int)before_treskibben_thread(bytes, length, image, sizeof image, STACK, NULL, 0, NULL, 0, BEFORE_AMD64 frames, 4 * FRAMES).number,
-           (int)after_treskibben_thread(bytes, length, image, sizeof image, STACK, NULL, 0, NULL, 0, AFTER_AMD64 frames, 4 * FRAMES).number);
-    compare("thread of 1,024 frames", rounds, thread_before, thread_after);
+    printf("thread of %d frames: answers %d and %d\n", FRAMES, (int)threaded_before().number, (int)threaded_after().number);
+    compare("thread of 4,096 frames", rounds, thread_before, thread_after);
 #endif
     full(rounds);
     build((shape){0});

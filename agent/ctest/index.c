@@ -172,10 +172,11 @@ static int passes_thread(const uint8_t *bytes, size_t length, uint64_t rsp, size
                          size_t count, size_t old_count, const uint64_t *expected)
 {
     static const uint64_t index[4] = {0x1020, 0, 0, 0}, old_start = 0x50000, new_start = 0x90000;
-    const uint64_t list[4] = {0x1020, 0, rsp, 9};
+    const uint64_t list[2] = {0x1020, 9};
     uint8_t image[24], after[24];
+    uint64_t registers[TRESKIBBEN_REGISTERS];
     treskibben_answer answer;
-    int moved = expected[0] == 0 && numbers == 4;
+    int moved = expected[0] == 0 && numbers == 2;
 
     put(image, 7);
     put(image + 8, old_start);
@@ -183,9 +184,11 @@ static int passes_thread(const uint8_t *bytes, size_t length, uint64_t rsp, size
     put(after, 7);
     put(after + 8, moved ? new_start : old_start);
     put(after + 16, (moved ? new_start : old_start) + 0x4e20);
+    fill_registers(registers, 1);
+    put_pointers(registers, TRESKIBBEN_AMD64, 0, rsp);
     answer = treskibben_thread_by_index(bytes, length, image, sizeof image, 0x7000, &old_start,
                                         old_count, &new_start, 1, TRESKIBBEN_AMD64, list, numbers,
-                                        index, count);
+                                        registers, TRESKIBBEN_REGISTERS * (numbers / 2), index, count);
     return passed("thread", expected, answer, memcmp(image, after, sizeof image) == 0);
 }
 
@@ -196,21 +199,21 @@ static size_t threads(void)
     static const uint64_t list[3] = {25, 0, 0}, cut[3] = {4, 40, 0}, nowhere[3] = {10, 0, 0};
     size_t passed = 0;
 
-    passed += (size_t)passes_thread(ON_H, 0x7000, 4, 2, 1, moved);
+    passed += (size_t)passes_thread(ON_H, 0x7000, 2, 2, 1, moved);
     passed += (size_t)passes_thread(ON_H, 0x7000, 0, 2, 1, none);
-    passed += (size_t)passes_thread(ON_H, 0x7001, 4, 2, 1, outside);
-    passed += (size_t)passes_thread(ON_H, 0x7000, 3, 2, 1, list);
-    passed += (size_t)passes_thread(ON_H, 0x7000, 4, 0, 1, wrong);
-    passed += (size_t)passes_thread(ON_H, 0x7000, 4, 1, 1, wrong);
-    passed += (size_t)passes_thread(ON_H, 0x7000, 3, 3, 1, wrong);
+    passed += (size_t)passes_thread(ON_H, 0x7001, 2, 2, 1, outside);
+    passed += (size_t)passes_thread(ON_H, 0x7000, 1, 2, 1, list);
+    passed += (size_t)passes_thread(ON_H, 0x7000, 2, 0, 1, wrong);
+    passed += (size_t)passes_thread(ON_H, 0x7000, 2, 1, 1, wrong);
+    passed += (size_t)passes_thread(ON_H, 0x7000, 1, 3, 1, wrong);
     passed += (size_t)passes_thread(ON_H, 0x7000, 0, 4, 1, wrong);
-    passed += (size_t)passes_thread(ON_H, 0x7000, 4, 4, 0, table);
-    passed += (size_t)passes_thread(ON_H_1, 0x7000, 3, 2, 1, version);
-    passed += (size_t)passes_thread(ON_H_1, 0x7000, 3, 2, 0, table);
-    passed += (size_t)passes_thread(row_h, sizeof row_h - 1, 0x7000, 3, 4, 0, cut);
+    passed += (size_t)passes_thread(ON_H, 0x7000, 2, 4, 0, table);
+    passed += (size_t)passes_thread(ON_H_1, 0x7000, 1, 2, 1, version);
+    passed += (size_t)passes_thread(ON_H_1, 0x7000, 1, 2, 0, table);
+    passed += (size_t)passes_thread(row_h, sizeof row_h - 1, 0x7000, 1, 4, 0, cut);
     passed += (size_t)passes_thread(ON_C, 0x7000, 0, 0, 1, none);
-    passed += (size_t)passes_thread(ON_C, 0x7000, 4, 0, 1, nowhere);
-    passed += (size_t)passes_thread(ON_C, 0x7000, 4, 2, 1, wrong);
+    passed += (size_t)passes_thread(ON_C, 0x7000, 2, 0, 1, nowhere);
+    passed += (size_t)passes_thread(ON_C, 0x7000, 2, 2, 1, wrong);
     return passed;
 }
 

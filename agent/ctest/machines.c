@@ -65,26 +65,26 @@ enum { FRAME, THREAD, THREAD_BY_INDEX, CALLS };
 static const uint64_t old_start = OLD, new_start = NEW, index_of_h[2] = {0x1020, 0};
 
 static treskibben_answer call(int which, const struct row *row, const uint8_t *section, size_t length,
-                              uint8_t *image, uint64_t address)
+                              uint8_t *image, uint64_t address, uint64_t *registers)
 {
     const size_t bytes = 8 * SLOTS;
     treskibben_frame frame;
 
     frame.address = address;
-    frame.frame_pointer = FIRST + ABOVE;
-    frame.stack_pointer = FIRST;
     frame.function = 0;
     if (which == FRAME) {
         return treskibben_relocate(section, length, image, bytes, row->first, &old_start, 1,
-                                   &new_start, 1, row->machine, frame);
+                                   &new_start, 1, row->machine, frame, registers,
+                                   TRESKIBBEN_REGISTERS);
     }
     if (which == THREAD) {
         return treskibben_thread(section, length, image, bytes, row->first, &old_start, 1, &new_start,
-                                 1, row->machine, (const uint64_t *)&frame, 4);
+                                 1, row->machine, (const uint64_t *)&frame, 2, registers,
+                                 TRESKIBBEN_REGISTERS);
     }
     return treskibben_thread_by_index(section, length, image, bytes, row->first, &old_start, 1,
-                                      &new_start, 1, row->machine, (const uint64_t *)&frame, 4,
-                                      index_of_h, 2);
+                                      &new_start, 1, row->machine, (const uint64_t *)&frame, 2,
+                                      registers, TRESKIBBEN_REGISTERS, index_of_h, 2);
 }
 
 static void put_slots(uint8_t *image, uint64_t base)
@@ -123,9 +123,10 @@ static int passes(const struct row *row, int which, int older)
 {
     uint8_t section[sizeof row_h], image[8 * SLOTS], after[8 * SLOTS];
     const size_t length = build(section, row, older);
+    uint64_t expected[3], registers[2][TRESKIBBEN_REGISTERS];
     treskibben_answer answer;
-    uint64_t expected[3];
     char name[64];
+    int same;
 
     memcpy(expected, row->answer, sizeof expected);
     if (which != FRAME && expected[0] == 18) {
@@ -142,8 +143,13 @@ static int passes(const struct row *row, int which, int older)
     put_slots(after, expected[0] == 0 ? NEW : OLD);
     sprintf(name, "machine %lx, registers %u and %u, call %d", (unsigned long)row->machine,
             (unsigned)row->reg, (unsigned)row->last, which);
-    answer = call(which, row, section, length, image, older ? 0x20 : 0x1020);
-    return passed(name, expected, answer, memcmp(image, after, sizeof image) == 0);
+    fill_registers(registers[0], 2);
+    put_pointers(registers[0], row->machine, FIRST + ABOVE, FIRST);
+    put_pointers(registers[1], row->machine, FIRST + ABOVE, FIRST);
+    answer = call(which, row, section, length, image, older ? 0x20 : 0x1020, registers[0]);
+    same = memcmp(image, after, sizeof image) == 0 &&
+           memcmp(registers[0], registers[1], sizeof registers[0]) == 0;
+    return passed(name, expected, answer, same);
 }
 
 int main(void)

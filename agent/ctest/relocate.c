@@ -17,11 +17,9 @@
                                    ? 1                                                             \
                                    : -1]
 
-typedef char whole_frame[sizeof(treskibben_frame) == 32 ? 1 : -1];
+typedef char whole_frame[sizeof(treskibben_frame) == 16 ? 1 : -1];
 FIELD(address, 0);
-FIELD(frame_pointer, 8);
-FIELD(stack_pointer, 16);
-FIELD(function, 24);
+FIELD(function, 8);
 
 /* Where the first pair of row H stands, and the bytes of a location and of a pair. */
 enum { PAIRS = 92, LOCATION = 12, PAIR = 24, LAST_OFFSET = 136, SLOTS = 3 };
@@ -39,12 +37,13 @@ struct row {
     size_t old_count, new_count;
     uint64_t first;
     treskibben_frame frame;
+    uint64_t rsp;
     uint64_t answer[3];
     uint64_t after[2];
 };
 
-/* A frame of version 3, whose function is not read: there is none of this number. */
-#define FRAME(address, rsp) {address, 0, rsp, 9}
+/* A frame of version 3 and its RSP. The function is not read: there is none of this number. */
+#define FRAME(address, rsp) {address, 9}, rsp
 #define AT_I 0x7000, FRAME(0x1020, 0x7000)
 
 static const struct row rows[] = {
@@ -80,11 +79,20 @@ static void put_slots(uint8_t *image, const uint64_t *slots)
     put(image + 16, slots[1]);
 }
 
-/* Moves the row's frame; the section must stay as it is. */
+/* A frame's registers of which no pair here is one: what they hold before a move and after it. */
+static void put_both(uint64_t registers[2][TRESKIBBEN_REGISTERS], uint64_t rsp)
+{
+    fill_registers(registers[0], 2);
+    put_pointers(registers[0], TRESKIBBEN_AMD64, 0, rsp);
+    put_pointers(registers[1], TRESKIBBEN_AMD64, 0, rsp);
+}
+
+/* Moves the row's frame; the section and the registers must stay as they are. */
 static int passes(const struct row *row)
 {
     static const uint64_t old_start = 0x50000;
     uint8_t section[sizeof row_h], copy[sizeof row_h], image[8 * SLOTS], after[8 * SLOTS];
+    uint64_t registers[2][TRESKIBBEN_REGISTERS];
     treskibben_answer answer;
     int same;
 
@@ -99,10 +107,12 @@ static int passes(const struct row *row)
     memcpy(copy, section, sizeof copy);
     put_slots(image, row->slots);
     put_slots(after, row->after);
+    put_both(registers, row->rsp);
     answer = treskibben_relocate(section, sizeof section, image, sizeof image, row->first,
                                  &old_start, row->old_count, &row->new_start, row->new_count,
-                                 TRESKIBBEN_AMD64, row->frame);
-    same = memcmp(image, after, sizeof image) == 0 && memcmp(section, copy, sizeof copy) == 0;
+                                 TRESKIBBEN_AMD64, row->frame, registers[0], TRESKIBBEN_REGISTERS);
+    same = memcmp(image, after, sizeof image) == 0 && memcmp(section, copy, sizeof copy) == 0 &&
+           memcmp(registers[0], registers[1], sizeof registers[0]) == 0;
     return passed(row->name, row->answer, answer, same);
 }
 
@@ -110,11 +120,12 @@ static int passes(const struct row *row)
 static int passes_with(size_t count, uint64_t number)
 {
     static const uint64_t old_start = 0x50000, new_start = 0x90000, slots[2] = {0x50000, 0x54e20};
-    static const treskibben_frame frame = FRAME(0x1020, 0x7000);
+    static const treskibben_frame frame = {0x1020, 9};
     const size_t locations = 3 + 2 * count, length = PAIRS + PAIR * count + LOCATION;
     const uint64_t moved[2] = {count > 0 && number == 0 ? new_start : slots[0], slots[1]};
     const uint64_t expected[3] = {number, 0, number == 0 ? count : 0};
     uint8_t *section = calloc(length, 1), image[8 * SLOTS], after[8 * SLOTS];
+    uint64_t registers[2][TRESKIBBEN_REGISTERS];
     treskibben_answer answer;
     char name[32];
     size_t i;
@@ -131,8 +142,10 @@ static int passes_with(size_t count, uint64_t number)
     }
     put_slots(image, slots);
     put_slots(after, moved);
+    put_both(registers, 0x7000);
     answer = treskibben_relocate(section, length, image, sizeof image, 0x7000, &old_start, 1,
-                                 &new_start, 1, TRESKIBBEN_AMD64, frame);
+                                 &new_start, 1, TRESKIBBEN_AMD64, frame, registers[0],
+                                 TRESKIBBEN_REGISTERS);
     free(section);
     sprintf(name, "%u pairs", (unsigned)count);
     return passed(name, expected, answer, memcmp(image, after, sizeof image) == 0);
@@ -166,8 +179,9 @@ static const struct wide wides[] = {
 static int passes_wide(const struct wide *wide)
 {
     static const uint64_t old_start = 0x50000, new_start = 0x90000;
-    static const treskibben_frame frame = FRAME(0x1020, 0x7000);
+    static const treskibben_frame frame = {0x1020, 9};
     uint8_t section[sizeof row_h], image[8 * SLOTS], after[8 * SLOTS];
+    uint64_t registers[2][TRESKIBBEN_REGISTERS];
     treskibben_answer answer;
     char name[32];
     size_t i;
@@ -182,8 +196,10 @@ static int passes_wide(const struct wide *wide)
     }
     put_slots(image, wide->slots);
     put_slots(after, wide->after);
+    put_both(registers, 0x7000);
     answer = treskibben_relocate(section, sizeof section, image, sizeof image, 0x7000, &old_start, 1,
-                                 &new_start, 1, TRESKIBBEN_AMD64, frame);
+                                 &new_start, 1, TRESKIBBEN_AMD64, frame, registers[0],
+                                 TRESKIBBEN_REGISTERS);
     sprintf(name, "sizes %u and %u", (unsigned)wide->sizes[0], (unsigned)wide->sizes[1]);
     return passed(name, wide->answer, answer, memcmp(image, after, sizeof image) == 0);
 }

@@ -13,7 +13,7 @@ int main(void)
 
     TRESKIBBEN_REQUIRE_VERSION();
     versions[0] = treskibben_version();
-    versions[1] = treskibben_version_2();
+    versions[1] = treskibben_version_3();
     for (i = 0; i < count; i++) {
         if (versions[i] == TRESKIBBEN_VERSION) {
             passed++;

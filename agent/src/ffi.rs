@@ -95,15 +95,14 @@ const _: () = {
     assert!(offset_of!(Location, content) == 33);
     assert!(size_of::<LiveOut>() == 24 && offset_of!(LiveOut, register) == 16);
     assert!(offset_of!(LiveOut, size) == 18);
-    assert!(size_of::<Frame>() == 32 && offset_of!(Frame, address) == 0);
-    assert!(offset_of!(Frame, frame_pointer) == 8 && offset_of!(Frame, stack_pointer) == 16);
-    assert!(offset_of!(Frame, function) == 24);
+    assert!(size_of::<Frame>() == 16 && offset_of!(Frame, address) == 0);
+    assert!(offset_of!(Frame, function) == 8);
     assert!(align_of::<Frame>() == align_of::<u64>());
 };
 
 extern "C" {
     fn treskibben_version() -> u32;
-    fn treskibben_version_2() -> u32;
+    fn treskibben_version_3() -> u32;
     fn treskibben_check(section: *const u8, length: usize) -> Answer;
     fn treskibben_find(section: *const u8, length: usize, address: u64) -> Found;
     fn treskibben_find_in_function(
@@ -149,6 +148,8 @@ extern "C" {
         new_count: usize,
         machine: u64,
         frame: Frame,
+        registers: *mut u64,
+        registers_length: usize,
     ) -> Answer;
     fn treskibben_thread(
         section: *const u8,
@@ -163,13 +164,15 @@ extern "C" {
         machine: u64,
         frames: *const u64,
         frames_length: usize,
+        registers: *mut u64,
+        registers_length: usize,
     ) -> Answer;
 }
 
 /// The name is of the version that this crate is written for alone: with a library of another version,
 /// what uses the crate can't be linked. `build.rs` says so earlier and in words.
 #[used]
-static OF_THIS_VERSION: unsafe extern "C" fn() -> u32 = treskibben_version_2;
+static OF_THIS_VERSION: unsafe extern "C" fn() -> u32 = treskibben_version_3;
 
 /// The version of the library.
 pub(crate) fn version() -> u32 {
@@ -236,6 +239,7 @@ pub(crate) fn to_section(listing: &[u8], output: &mut [u8]) -> Answer {
 }
 
 /// The move of one frame, on the machine of this number.
+#[allow(clippy::too_many_arguments)] // Those of the function that it calls.
 pub(crate) fn relocate(
     section: &[u8],
     image: &mut [u8],
@@ -244,14 +248,18 @@ pub(crate) fn relocate(
     news: &[u64],
     machine: u64,
     frame: Frame,
+    registers: &mut [u64],
 ) -> Answer {
     let (stack, bytes) = (image.as_mut_ptr(), image.len());
     // SAFETY: of the section as in `check`, and of the image as of the output in `to_listing`: it
     // shares no byte with the section or with a list. Each list's pointer and number of entries are
     // those of one slice of `u64`, which is borrowed for the whole call; the pointer is aligned and
     // never null. The two numbers are handed over each by itself, so that lists of unequal length
-    // are read as far as each goes. Every first address, every number of a machine and every frame
-    // may be asked for, and the frame, a struct of `treskibben.h`, is handed over by value.
+    // are read as far as each goes. The registers are one more slice of `u64`, of any length, which is
+    // borrowed as the image is: its numbers can be written, nobody else reads or writes them, and no byte
+    // of theirs is the image's, the section's or a list's. All bits will do for a `u64`. Every first
+    // address, every number of a machine and every frame may be asked for, and the frame, a struct of
+    // `treskibben.h`, is handed over by value.
     unsafe {
         treskibben_relocate(
             section.as_ptr(),
@@ -265,11 +273,14 @@ pub(crate) fn relocate(
             news.len(),
             machine,
             frame,
+            registers.as_mut_ptr(),
+            registers.len(),
         )
     }
 }
 
 /// The move of a whole thread, on the machine of this number.
+#[allow(clippy::too_many_arguments)] // Those of the function that it calls.
 pub(crate) fn thread(
     section: &[u8],
     image: &mut [u8],
@@ -278,10 +289,11 @@ pub(crate) fn thread(
     news: &[u64],
     machine: u64,
     frames: &[u64],
+    registers: &mut [u64],
 ) -> Answer {
     let (stack, bytes) = (image.as_mut_ptr(), image.len());
-    // SAFETY: as in `relocate`. The frames are one more list, of any length: it is lent as the other
-    // two are.
+    // SAFETY: as in `relocate`. The frames are one more list, of any length: it is lent as those of the
+    // starts are.
     unsafe {
         treskibben_thread(
             section.as_ptr(),
@@ -296,14 +308,16 @@ pub(crate) fn thread(
             machine,
             frames.as_ptr(),
             frames.len(),
+            registers.as_mut_ptr(),
+            registers.len(),
         )
     }
 }
 
 /// The numbers of frames, in the order of the struct.
 pub(crate) fn numbers(frames: &[Frame]) -> &[u64] {
-    // SAFETY: a `Frame` is four `u64` one after the other and nothing else, as asserted above, and is
-    // aligned as a `u64` is: so the bytes of the slice are those of four times as many `u64`, in the
-    // same allocation, borrowed for as long. Their length in bytes is the slice's own.
-    unsafe { std::slice::from_raw_parts(frames.as_ptr().cast(), 4 * frames.len()) }
+    // SAFETY: a `Frame` is two `u64` one after the other and nothing else, as asserted above, and is
+    // aligned as a `u64` is: so the bytes of the slice are those of twice as many `u64`, in the same
+    // allocation, borrowed for as long. Their length in bytes is the slice's own.
+    unsafe { std::slice::from_raw_parts(frames.as_ptr().cast(), 2 * frames.len()) }
 }

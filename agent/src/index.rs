@@ -213,7 +213,7 @@ impl<'a> Index<'a> {
     }
 
     /// Moves the pointers of a whole thread as [`relocate_thread`](crate::relocate_thread) does, with this
-    /// index of the section. With the right index the answer and the image are the same.
+    /// index of the section. With the right index the answer, the image and the registers are the same.
     ///
     /// # Errors
     ///
@@ -230,8 +230,10 @@ impl<'a> Index<'a> {
     /// let table = MoveTable::new(&[0x50000], &[0x90000]);
     /// let mut image = [7, 0x50000, 0x54e20_u64].map(u64::to_le_bytes).concat();
     ///
-    /// let frames = [Frame::new(0x1020, 0, 0x7000)];
-    /// let moved = index.relocate_thread(&mut image, 0x7000, table, Machine::Amd64, &frames);
+    /// let (frames, machine) = ([Frame::new(0x1020)], Machine::Amd64);
+    /// let mut registers = machine.registers(0, 0x7000);
+    /// let moved =
+    ///     index.relocate_thread(&mut image, 0x7000, table, machine, &frames, &mut registers);
     /// assert_eq!(moved, Ok(2));
     /// assert_eq!(image, [7, 0x90000, 0x94e20_u64].map(u64::to_le_bytes).concat());
     /// # Ok(())
@@ -244,12 +246,13 @@ impl<'a> Index<'a> {
         table: MoveTable,
         machine: Machine,
         frames: impl Into<Frames<'f>>,
+        registers: &mut [u64],
     ) -> Result<usize, ThreadRefusal> {
         let (olds, news) = (table.old_starts(), table.new_starts());
         let (machine, frames) = (machine.number(), frames.into().numbers());
         let (section, index) = (self.section, &self.entries);
         thread::pointers(ffi::index::thread(
-            section, image, first, olds, news, machine, frames, index,
+            section, image, first, olds, news, machine, frames, registers, index,
         ))
     }
 }

@@ -6,9 +6,10 @@
 //! address, [`record()`] its bytes, [`location()`] and [`live_out`] what they say. An [`Index`] of a
 //! section is for many addresses at a time. [`to_listing`] writes a section as a plain row of items,
 //! and [`to_section`] writes the section again.
-//! [`relocate()`] moves the pointers of one stopped frame in a copy of its stack, and
-//! [`relocate_thread`] those of a whole thread, all of its frames or none, on either [`Machine`]. Every slice of bytes gets
-//! an answer; none makes a function panic, read or write beyond its slices or run without end.
+//! [`relocate()`] moves the pointers of one stopped frame in a copy of its stack and of its [`Registers`],
+//! and [`relocate_thread`] those of a whole thread, all of its frames or none, on either [`Machine`]. Every
+//! slice of bytes gets an answer; none makes a function panic, read or write beyond its slices or run
+//! without end.
 //!
 //! A section's first byte is its version. Version 1 doesn't say which function has a record: there
 //! [`find_in_function`] takes the place of [`find`], and a [`Frame`] tells its function. All else is
@@ -50,7 +51,7 @@ mod thread;
 pub use answers::{ContentPlace, Found, LiveOut, Location, LocationKind};
 pub use conversions::{listing_of, section_of, to_listing, to_section};
 pub use index::{fill_index, Index};
-pub use machine::Machine;
+pub use machine::{Machine, Registers, REGISTERS};
 pub use questions::{find, find_in_function, live_out, location, record};
 pub use refusal::Refusal;
 pub use relocate::{relocate, Frame, MoveTable};
@@ -60,7 +61,7 @@ pub use thread::{relocate_thread, Frames, ThreadRefusal};
 ///
 /// A library of another version is refused: by the build, or else by the linker, as
 /// it lacks a name that the crate refers to.
-pub const VERSION: u32 = 2;
+pub const VERSION: u32 = 3;
 
 /// The version of the library that is linked, as it tells itself; it is [`VERSION`].
 ///

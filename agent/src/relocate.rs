@@ -2,7 +2,7 @@
 
 use crate::{ffi, Machine, Refusal};
 
-/// A frame of a stopped thread: where its record is, and what two registers hold.
+/// A frame of a stopped thread: where its record is. What its registers hold is lent beside it.
 ///
 /// The two versions of a section name a record each in its own way. For version 3 a frame has the
 /// record's address, as [`Frame::new`] makes it; for version 1 it has the number of the function and
@@ -13,12 +13,8 @@ use crate::{ffi, Machine, Refusal};
 /// ```
 /// use treskibben::Frame;
 ///
-/// let frame = Frame::new(0x1020, 0, 0x7000);
-/// let whole = Frame { address: 0x1020, frame_pointer: 0, stack_pointer: 0x7000, function: 0 };
-/// assert_eq!(frame, whole);
-///
-/// let frame = Frame::in_function(5, 0x20, 0, 0x7000);
-/// assert_eq!(frame, Frame { address: 0x20, function: 5, ..whole });
+/// assert_eq!(Frame::new(0x1020), Frame { address: 0x1020, function: 0 });
+/// assert_eq!(Frame::in_function(5, 0x20), Frame { address: 0x20, function: 5 });
 /// ```
 #[derive(Clone, Copy, Debug, PartialEq, Eq, Hash)]
 #[repr(C)]
@@ -26,11 +22,6 @@ pub struct Frame {
     /// For version 3 the address of its record: the one that the call in it returns to. For version 1
     /// the instruction offset of its record: that address less the function's.
     pub address: u64,
-    /// The content of the frame pointer: of RBP on AMD64, and of X29 on AArch64.
-    pub frame_pointer: u64,
-    /// The content of the stack pointer, where the frame's part of the stack begins: of RSP on AMD64, and
-    /// of SP on AArch64.
-    pub stack_pointer: u64,
     /// For version 1 the number of its function in the section, counted from 0. For version 3 it is not
     /// read.
     pub function: u64,
@@ -39,27 +30,18 @@ pub struct Frame {
 impl Frame {
     /// The frame whose record has this address, for a section of version 3. Its function is 0, which is
     /// not read.
-    pub const fn new(address: u64, frame_pointer: u64, stack_pointer: u64) -> Frame {
+    pub const fn new(address: u64) -> Frame {
         Frame {
             address,
-            frame_pointer,
-            stack_pointer,
             function: 0,
         }
     }
 
     /// The frame of the function with this number whose record is at this offset, for a section of
     /// version 1.
-    pub const fn in_function(
-        function: u64,
-        offset: u64,
-        frame_pointer: u64,
-        stack_pointer: u64,
-    ) -> Frame {
+    pub const fn in_function(function: u64, offset: u64) -> Frame {
         Frame {
             address: offset,
-            frame_pointer,
-            stack_pointer,
             function,
         }
     }
@@ -124,41 +106,47 @@ impl<'a> From<&'a (Vec<u64>, Vec<u64>)> for MoveTable<'a> {
 /// Moves the pointers of one frame, and gives its statepoint's number of pointers, null pairs counting
 /// one each.
 ///
-/// `image` is a copy of the stack, from the address `first` on. The frame's record is a statepoint:
-/// after three constants, the last of which says how many deoptimisation values follow, it lists
-/// pairs of locations, a base and what is derived from it. In version 3 a pair of size 8N is N pointers
-/// one after another: pointer i has its base in the slot 8i bytes after the first location's beginning,
-/// and stands itself in the slot 8i bytes after the second one's. A pair of version 1 is one pointer,
-/// and a null pair, two constants of 0, counts as one in both versions and has no slots.
+/// `image` is a copy of the stack, from the address `first` on, and `registers` are the frame's
+/// [`Registers`](crate::Registers). The frame's record is a statepoint: after three constants, the last of
+/// which says how many deoptimisation values follow, it lists pairs of locations, a base and what is derived
+/// from it. Each location is in memory (kind 3) or in a register (kind 1), in any mix. In version 3 a pair of
+/// size 8N in memory is N pointers one after another: pointer i has its base in the slot 8i bytes after the
+/// first location's beginning, and stands itself in the slot 8i bytes after the second one's. A pair with a
+/// register is one pointer, and so is a pair of version 1; a null pair, two constants of 0, counts as one in
+/// both versions and has no slots.
 ///
 /// Each derived slot is set to its content plus the new start of its base minus the old one, modulo
-/// 2^64; everything is taken from the image as it was before the call. A base of 0 stays 0. All other
-/// bytes of the image are left as they are, also those of a base slot that no pointer is derived in.
+/// 2^64; everything is taken from the image and the registers as they were before the call. A base of 0 stays
+/// 0. All other bytes of the image and all other registers are left as they are, also those of a base slot
+/// that no pointer is derived in.
 ///
-/// Slots are counted from the frame pointer or the stack pointer of the machine; a pair with any other
-/// register is of wrong form, also with one of the other machine. The frame's part of the stack begins
-/// at the stack pointer and is as long as the stack size of its function says.
+/// Slots in memory are counted from the frame pointer or the stack pointer of the machine, which are read
+/// from `registers`; a pair with any other register is of wrong form, also with one of the other machine. The
+/// registers that can be slots are those of [`Machine::is_slot`]; the two pointers never change. The frame's
+/// part of the stack begins at the stack pointer and is as long as the stack size of its function says.
 /// The function is that of the record in version 3, and the one that the frame names in version 1, which
-/// doesn't say whether the record is that function's: the caller has to know. Both locations of a pair have
-/// the same size, 8 to 2,048 by eights; in version 1 each has 0 or 8.
+/// doesn't say whether the record is that function's: the caller has to know. In version 3 both locations of
+/// a pair have the same size: 8 to 2,048 by eights in memory, and 8 in a register; in version 1 each has 0
+/// or 8. The offset of a register is 0.
 ///
 /// # Errors
 ///
 /// The first of these that holds, and 18 to 21 each over all pairs before the next; in version 1, 17 comes
-/// before 18. A refusal leaves all of the image unchanged.
+/// before 18. A refusal leaves all of the image and all registers unchanged.
 ///
 /// | Number | Cause | Place |
 /// |---|---|---|
 /// | 1 to 9 | the refusal of [`check`](crate::check) | as there |
 /// | 13 | image over 1,048,576 bytes, or first address + length over 2^64 - 1 | 0 |
 /// | 14 | lists unequal, over 65,536 entries, old starts not strictly rising, or a 0 in either | 0 |
+/// | 25 | not 32 registers | 0 |
 /// | 10 | no record of that address; of version 1, no such function, or no record at the offset | 0 |
 /// | 15 | more than one record at the address; of version 1, at the offset | 0 |
 /// | 12 | not a statepoint | 0 |
 /// | 16 | stack size unknown, or the frame not inside the image | 0 |
 /// | 18 | pair of wrong form | the pair |
 /// | 17 | over 256 pointers, null pairs counting one each | 0 |
-/// | 19 | a slot not wholly inside the frame | the pair |
+/// | 19 | a slot in memory not wholly inside the frame | the pair |
 /// | 20 | two slots overlap without being equal, or one is derived from bases that differ | the pair |
 /// | 21 | base neither 0 nor an old start | the pair |
 ///
@@ -173,31 +161,58 @@ impl<'a> From<&'a (Vec<u64>, Vec<u64>)> for MoveTable<'a> {
 /// // A statepoint of AMD64 at 0x1020 in a function with 24 bytes of stack. It has two pairs: the slot
 /// // at RSP + 8 with itself as base, and the one at RSP + 16, which is derived from that.
 /// let section = std::fs::read("../samples/h-statepoint.section")?;
-/// let frame = Frame::new(0x1020, 0, 0x7000);
+/// let frame = Frame::new(0x1020);
+/// let mut registers = Machine::Amd64.registers(0, 0x7000);
 ///
 /// // The object at 0x50000 has been moved to 0x90000.
 /// let table = MoveTable::new(&[0x50000], &[0x90000]);
 /// let stack = |slots: [u64; 3]| slots.map(u64::to_le_bytes).concat();
 /// let mut image = stack([7, 0x50000, 0x54e20]);
-/// assert_eq!(relocate(&section, &mut image, 0x7000, table, Machine::Amd64, frame), Ok(2));
+/// let mut moved = |image: &mut [u8], machine| {
+///     relocate(&section, image, 0x7000, table, machine, frame, &mut registers)
+/// };
+/// assert_eq!(moved(&mut image, Machine::Amd64), Ok(2));
 /// assert_eq!(image, stack([7, 0x90000, 0x94e20]));
 ///
 /// // The frame is moved now: its base is no old start any more.
-/// let moved = relocate(&section, &mut image, 0x7000, table, Machine::Amd64, frame);
-/// let refusal = moved.unwrap_err();
+/// let refusal = moved(&mut image, Machine::Amd64).unwrap_err();
 /// assert_eq!(refusal.to_string(), "refused 21 at 0: base neither 0 nor an old start");
 /// assert_eq!(image, stack([7, 0x90000, 0x94e20]));
 ///
-/// // RSP is no register that AArch64 counts slots from.
-/// let moved = relocate(&section, &mut image, 0x7000, table, Machine::Aarch64, frame);
-/// assert_eq!(moved.unwrap_err().to_string(), "refused 18 at 0: pair of wrong form");
-///
 /// // The same statepoint in a section of version 1, at offset 0x20 of function 0.
 /// let older = std::fs::read("../samples/h-version-1.section")?;
-/// let frame = Frame::in_function(0, 0x20, 0, 0x7000);
+/// let frame = Frame::in_function(0, 0x20);
 /// let mut image = stack([7, 0x50000, 0x54e20]);
-/// assert_eq!(relocate(&older, &mut image, 0x7000, table, Machine::Amd64, frame), Ok(2));
+/// let machine = Machine::Amd64;
+/// assert_eq!(relocate(&older, &mut image, 0x7000, table, machine, frame, &mut registers), Ok(2));
 /// assert_eq!(image, stack([7, 0x90000, 0x94e20]));
+/// # Ok(())
+/// # }
+/// ```
+///
+/// Pointers in registers:
+///
+/// ```
+/// use treskibben::{relocate, Frame, Machine, MoveTable};
+/// # fn main() -> Result<(), Box<dyn std::error::Error>> {
+/// // The same function. Its two pairs are RBX with itself as base, and the slot at RSP + 16, which is
+/// // derived from RBX.
+/// let section = std::fs::read("../samples/r-registers.section")?;
+/// let frame = Frame::new(0x1020);
+/// let (table, machine) = (MoveTable::new(&[0x50000], &[0x90000]), Machine::Amd64);
+/// let mut image = [7, 8, 0x54e20_u64].map(u64::to_le_bytes).concat();
+///
+/// const RBX: usize = 3;
+/// let mut registers = machine.registers(0, 0x7000);
+/// registers[RBX] = 0x50000;
+/// let pointers = relocate(&section, &mut image, 0x7000, table, machine, frame, &mut registers);
+/// assert_eq!(pointers, Ok(2));
+/// assert_eq!(registers[RBX], 0x90000);
+/// assert_eq!(image, [7, 8, 0x94e20_u64].map(u64::to_le_bytes).concat());
+///
+/// let few = &mut registers[..31];
+/// let refusal = relocate(&section, &mut image, 0x7000, table, machine, frame, few).unwrap_err();
+/// assert_eq!(refusal.number(), 25);
 /// # Ok(())
 /// # }
 /// ```
@@ -208,9 +223,10 @@ pub fn relocate(
     table: MoveTable,
     machine: Machine,
     frame: Frame,
+    registers: &mut [u64],
 ) -> Result<usize, Refusal> {
-    let machine = machine.number();
-    let answer = ffi::relocate(section, image, first, table.old, table.new, machine, frame);
+    let (olds, news, machine) = (table.old, table.new, machine.number());
+    let answer = ffi::relocate(section, image, first, olds, news, machine, frame, registers);
     Ok(number(answer.outcome()?, 1))
 }
 

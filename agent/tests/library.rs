@@ -16,8 +16,8 @@ const LIBRARY: &str = concat!(
     "/../target/staticlib/libtreskibben.a"
 );
 
-const NAME: &[u8] = b"treskibben_version_2";
-const OTHER_NAME: &[u8] = b"treskibben_version_3";
+const NAME: &[u8] = b"treskibben_version_3";
+const OTHER_NAME: &[u8] = b"treskibben_version_4";
 
 /// A program that asks the library two things.
 const MAIN: &str = r#"fn main() {
@@ -25,7 +25,7 @@ const MAIN: &str = r#"fn main() {
 }
 "#;
 
-const ANSWER: &str = "version 2: Err(1)\n";
+const ANSWER: &str = "version 3: Err(1)\n";
 
 /// A fresh folder for a test.
 fn folder(name: &str) -> PathBuf {
@@ -118,10 +118,10 @@ fn a_relative_folder_counts_from_where_cargo_is_called() {
     let said = text(&ran.stderr);
     assert!(!ran.status.success(), "{said}");
     let path = there.join("lib/libtreskibben.a");
-    let words = format!("{} is of version 3,", path.display());
+    let words = format!("{} is of version 4,", path.display());
     assert!(said.contains(&words), "{said}");
     assert!(
-        said.contains("and this crate is written for version 2."),
+        said.contains("and this crate is written for version 3."),
         "{said}"
     );
     let ran = cargo_run(&here, &manifest, &target, Some("../here/lib"));
@@ -240,7 +240,7 @@ fn another_version_cannot_be_linked() {
     let other = link(NAME, OTHER_NAME);
     let said = text(&other.stderr);
     assert!(!other.status.success(), "{said}");
-    assert!(said.contains("treskibben_version_2"), "{said}");
+    assert!(said.contains("treskibben_version_3"), "{said}");
 }
 
 /// In C a program with TRESKIBBEN_REQUIRE_VERSION() is refused by the linker, and only such a one.
@@ -274,17 +274,18 @@ fn another_version_cannot_be_linked_in_c() {
     assert!(compile("", "libtreskibben.a").status.success());
     let other = compile("TRESKIBBEN_REQUIRE_VERSION();", "libtreskibben.a");
     assert!(!other.status.success());
-    assert!(text(&other.stderr).contains("treskibben_version_2"));
+    assert!(text(&other.stderr).contains("treskibben_version_3"));
 }
 
 /// What the README's lines of Rust leave open.
 const AROUND_RUST: [&str; 2] = [
     "fn restore(section: Vec<u8>, mut image: Vec<u8>, first: u64, old_starts: Vec<u64>, new_starts: Vec<u64>,
-         frame: Frame, frames: Vec<Frame>) -> Result<usize, Box<dyn std::error::Error>> {",
+         address: u64, rbp: u64, rsp: u64, frames: Vec<Frame>, mut registers_of_all: Vec<treskibben::Registers>)
+         -> Result<usize, Box<dyn std::error::Error>> {",
     "    Ok(bytes.len() + listing.len() + pointers)
      }
      fn main() {
-         let answer = restore(vec![], vec![], 0, vec![], vec![], Frame::new(0, 0, 0), vec![]);
+         let answer = restore(vec![], vec![], 0, vec![], vec![], 0, 0, 0, vec![], vec![]);
          println!(\"{}\", answer.unwrap_err());
      }",
 ];
@@ -293,7 +294,7 @@ const AROUND_RUST: [&str; 2] = [
 const AROUND_C: [&str; 2] = [
     "uint64_t restore(const uint8_t *bytes, size_t length, uint8_t *image, size_t image_length, uint64_t first,
                       const uint64_t *old_starts, const uint64_t *new_starts, size_t count, uint64_t address,
-                      uint64_t rbp, uint64_t rsp, uint64_t caller_address, uint64_t caller_rbp, uint64_t caller_rsp) {",
+                      uint64_t rbp, uint64_t rsp, uint64_t rbx, uint64_t caller_address, uint64_t *registers_of_both) {",
     "return a.value; }",
 ];
 
@@ -305,7 +306,7 @@ fn the_readmes_lines_of_rust_compile() {
     let lines = readme::code("From Rust");
     let begin = lines.iter().position(|line| line.starts_with("if let"));
     let (uses, body) = lines.split_at(begin.unwrap());
-    assert_eq!(body.len(), 9);
+    assert_eq!(body.len(), 12);
     let program = [
         &uses.join("\n"),
         AROUND_RUST[0],
@@ -329,7 +330,7 @@ fn the_readmes_lines_of_c_compile() {
     let folder = folder("readme-c");
     let lines = readme::code("From C");
     let (include, body) = lines.split_first().unwrap();
-    assert_eq!(body.len(), 10);
+    assert_eq!(body.len(), 12);
     let program = [include, AROUND_C[0], &body.join("\n"), AROUND_C[1], ""].join("\n");
     fs::write(folder.join("yours.c"), program).unwrap();
     let mut cc = Command::new("cc");

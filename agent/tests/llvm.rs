@@ -1,5 +1,5 @@
 //! Sections that LLVM itself wrote. `llvm/build` compiles small programs for two targets at two levels, with and without
-//! frame pointers, and for each section the proved check, questions, index and conversions, the second implementation and
+//! frame pointers and pointers in registers, and for each section the proved check, questions, index and conversions, the second implementation and
 //! llvm-readobj must agree. So must the moves of its statepoints, each in a hand-made frame.
 
 #[path = "llvm/asked.rs"]
@@ -20,9 +20,9 @@ mod readobj;
 mod sections;
 
 use compare::compare;
-use planned::{Seen, Target};
+use planned::{Seen, Sort, Target};
 use reference::section::{self, Section};
-use sections::{Built, LEVELS, TARGETS};
+use sections::{Built, LEVELS, REGISTERS, TARGETS};
 
 /// The section as the second implementation reads it; it must accept it.
 fn read(name: &str, bytes: &[u8]) -> Section {
@@ -94,12 +94,11 @@ fn every_section_has_the_index_that_llvm_prints() {
     assert!(records > 100, "only {records} records");
 }
 
-/// What came of all statepoints of the sections of a target with this beginning of their names. The same must come of
-/// them where all their slots are addressed by the frame pointer.
-fn planned(target: &str, beginning: &str) -> Seen {
+/// What came of all statepoints of the sections of a target with such names. The same must come of them where all their
+/// slots in memory are addressed by the frame pointer.
+fn planned(target: &str, wanted: impl Fn(&str) -> bool) -> Seen {
     let mut all = Seen::default();
-    let sections = sections::single()
-        .filter(|built| built.target == target && built.name.starts_with(beginning));
+    let sections = sections::single().filter(|built| built.target == target && wanted(&built.name));
     for Built {
         name,
         bytes,
@@ -114,14 +113,17 @@ fn planned(target: &str, beginning: &str) -> Seen {
         let (changed, text) = planned::by_frame_pointer(bytes, printed, target);
         let again = planned::compare(&changed, &text, target);
         let again = again.unwrap_or_else(|fault| panic!("{name}, by the frame pointer: {fault}"));
-        assert_eq!(
-            changed != *bytes,
-            seen.pointers > 0,
-            "{name}: whether a slot is addressed by the stack pointer"
+        let mut moved = seen.pointers.keys();
+        let in_memory = moved.any(|sorts| sorts.contains(&Sort::Memory));
+        assert!(
+            changed != *bytes || !in_memory,
+            "{name}: no slot is addressed by the stack pointer"
         );
         assert_eq!(again, seen, "{name}, by the frame pointer");
         all.moved += seen.moved;
-        all.pointers += seen.pointers;
+        for (sorts, count) in seen.pointers {
+            *all.pointers.entry(sorts).or_default() += count;
+        }
         all.most = all.most.max(seen.most);
         for (number, count) in seen.refused {
             *all.refused.entry(number).or_default() += count;
@@ -134,11 +136,13 @@ fn planned(target: &str, beginning: &str) -> Seen {
 #[test]
 fn every_statepoint_is_moved_as_llvm_prints_it() {
     for target in TARGETS {
-        let seen = planned(target, "");
-        assert!(seen.moved > 60, "{target}: {seen:?}");
+        let seen = planned(target, |_| true);
+        assert!(seen.moved > 100, "{target}: {seen:?}");
         // The address of an alloca among the values before the pairs is no pair: nothing is refused but some vectors of
-        // pointers, and a slot that lies outside because a vector of unknown length is left out of the stack size.
-        let mut refused = planned(target, "vectors.").refused;
+        // pointers, a pointer in the frame pointer, and a slot that lies outside because a vector of unknown length is
+        // left out of the stack size.
+        let mut refused = planned(target, |name| name.starts_with("vectors.")).refused;
+        *refused.entry(18).or_default() += 1;
         refused.extend((*target == "aarch64").then_some((19, 1)));
         assert_eq!(seen.refused, refused, "{target}");
     }
@@ -149,12 +153,12 @@ fn every_statepoint_is_moved_as_llvm_prints_it() {
 #[test]
 fn vectors_of_pointers_are_moved_pointer_by_pointer() {
     for target in TARGETS {
-        let seen = planned(target, "vectors.");
-        let each = LEVELS.len();
+        let seen = planned(target, |name| name.starts_with("vectors."));
+        let each = LEVELS.len() + REGISTERS.len();
         assert_eq!(seen.moved, 5 * each, "{target}: {seen:?}");
         assert_eq!(seen.most, 256, "{target}: {seen:?}");
         assert_eq!(
-            seen.pointers,
+            seen.pointers.values().sum::<usize>(),
             (5 + 3 + 8 + 256 + 4) * each,
             "{target}: {seen:?}"
         );
@@ -163,6 +167,39 @@ fn vectors_of_pointers_are_moved_pointer_by_pointer() {
             [(16, each), (17, each), (18, each)].into(),
             "{target}: {seen:?}"
         );
+    }
+}
+
+/// Where LLVM may leave pointers in registers it does, base and derived of one sort or of two. Elsewhere all are in memory.
+#[test]
+fn pointers_in_registers_are_moved() {
+    use Sort::{Memory, Register};
+    for target in TARGETS {
+        let seen = planned(target, |name| name.ends_with("-registers"));
+        for base in [Memory, Register] {
+            for derived in [Memory, Register] {
+                let sorts = [base, derived];
+                assert!(seen.pointers.contains_key(&sorts), "{target}: no {sorts:?}");
+            }
+        }
+        let plain = planned(target, |name| !name.ends_with("-registers"));
+        let sorts: Vec<_> = plain.pointers.into_keys().collect();
+        assert_eq!(sorts, [[Memory, Memory]], "{target}");
+    }
+}
+
+/// Without frame pointers LLVM keeps a pointer in RBP or x29 too where it runs out of others. With them it does not.
+#[test]
+fn a_pointer_in_the_frame_pointer_is_refused() {
+    for target in TARGETS {
+        let seen = |level| {
+            let name = format!("registers.{target}.{level}");
+            planned(target, |own| own == name)
+        };
+        let without = seen("O2-registers");
+        assert_eq!((without.moved, without.refused), (1, [(18, 1)].into()));
+        let with = seen("O2-fp-registers");
+        assert_eq!((with.moved, with.refused), (2, [].into()));
     }
 }
 

@@ -72,11 +72,6 @@ fn by_library(section: &[u8], question: Question) -> Answer {
     })
 }
 
-/// The content place of a location with this kind: 1 a register, 2 memory, 0 none.
-fn content(kind: u8) -> u8 {
-    u8::from(kind == 1) + 2 * u8::from(kind == 3)
-}
-
 fn by_second(section: &[u8], question: Question) -> Answer {
     let found = |it: reference::Found| Answer::Found {
         record: it.record,
@@ -98,7 +93,7 @@ fn by_second(section: &[u8], question: Question) -> Answer {
                 register: it.register,
                 offset: it.offset,
                 constant: it.constant,
-                content: content(it.kind),
+                content: it.content.number(),
             })
         }
         Question::LiveOut(record, number) => {

@@ -160,13 +160,8 @@ fn refused_frames() -> Vec<Refusal> {
         if aim(&mut rng, number, &mut scene, 0).is_some() {
             let (section, stop) = (scene.section.encode(), scene.stops[0]);
             let frame = match section[0] {
-                1 => Frame::in_function(
-                    stop.named,
-                    stop.address,
-                    stop.frame_pointer,
-                    stop.stack_pointer,
-                ),
-                _ => Frame::new(stop.address, stop.frame_pointer, stop.stack_pointer),
+                1 => Frame::in_function(stop.named, stop.address),
+                _ => Frame::new(stop.address),
             };
             let table = MoveTable::new(&scene.table.olds, &scene.table.news);
             let first = scene.first;
@@ -174,8 +169,10 @@ fn refused_frames() -> Vec<Refusal> {
                 0 => Machine::Amd64,
                 _ => Machine::Aarch64,
             };
-            let image = &mut scene.image;
-            break treskibben::relocate(&section, image, first, table, machine, frame).unwrap_err();
+            let (image, registers) = (&mut scene.image, &mut stop.lent());
+            let moved =
+                treskibben::relocate(&section, image, first, table, machine, frame, registers);
+            break moved.unwrap_err();
         }
     };
     let safe = NUMBERS.into_iter().filter(|number| *number != NO_MACHINE);
@@ -187,10 +184,11 @@ fn refused_threads() -> [Refusal; 2] {
     let section = include_bytes!("../../samples/h-statepoint.section");
     let table = MoveTable::new(&[0x50000], &[0x90000]);
     let refused = |count| {
-        let frames = vec![Frame::new(0x1020, 0, 0x7000); count];
-        let machine = Machine::Amd64;
+        let (frames, machine) = (vec![Frame::new(0x1020); count], Machine::Amd64);
+        let registers = &mut vec![machine.registers(0, 0x7000); count];
+        let (image, registers) = (&mut [0; 24], registers.as_flattened_mut());
         let moved =
-            treskibben::relocate_thread(section, &mut [0; 24], 0x7000, table, machine, &frames);
+            treskibben::relocate_thread(section, image, 0x7000, table, machine, &frames, registers);
         Refusal::from(moved.unwrap_err())
     };
     [refused(4_097), refused(2)]

@@ -2,8 +2,8 @@
 //! versions: random frames, frames with faults of every number, frames at the limits, and lists of
 //! moves.
 //!
-//! Answers and whole images are compared, also where a frame is refused. Of a frame without fault,
-//! and of one with a fault that was aimed at, the generator knows both beforehand, and that is
+//! Answers, whole images and all registers are compared, also where a frame is refused. Of a frame without
+//! fault, and of one with a fault that was aimed at, the generator knows them beforehand, and that is
 //! compared too. The random frames follow from a seed. It is printed; `TRESKIBBEN_SEED` sets it.
 
 mod common;
@@ -20,6 +20,10 @@ mod machines;
 mod orders;
 #[path = "relocate/pointers.rs"]
 mod pointers;
+#[path = "relocate/register_shapes.rs"]
+mod register_shapes;
+#[path = "relocate/registers.rs"]
+mod registers;
 #[path = "relocate/shapes.rs"]
 mod shapes;
 #[path = "relocate/wide.rs"]
@@ -30,7 +34,8 @@ mod worked;
 use calls::{Call, Outcome};
 use common::{count_random, nth_version, say};
 use generator::frames::faults::{aim, other_machine, NUMBERS};
-use generator::frames::{plain, Scene};
+use generator::frames::plain::{self, Slot};
+use generator::frames::Scene;
 use generator::{aimed, damage, section_in, Rng, Version};
 use shapes::SHAPES;
 use treskibben::Frame;
@@ -41,12 +46,12 @@ const FRAMES_A_PART: u64 = 400;
 
 /// The faults of a frame, those first that the library looks for last: of several, the one that was
 /// made last is given. 17 is looked for after 18 in version 3, and before it in version 1.
-fn last_first(version: Version) -> [u64; 12] {
+fn last_first(version: Version) -> [u64; 13] {
     let [one, two] = match version {
         Version::One => [18, 17],
         Version::Three => [17, 18],
     };
-    [21, 20, 19, one, two, 16, 12, 15, 10, 14, 13, 33]
+    [21, 20, 19, one, two, 16, 12, 15, 10, 25, 14, 13, 33]
 }
 
 /// How often each number was the answer, 0 to 33, for each version that sections were made of; and then
@@ -120,12 +125,23 @@ fn case(rng: &mut Rng) -> (Scene, Vec<u8>, Known) {
 fn disturb(rng: &mut Rng, scene: &mut Scene) {
     let near =
         |rng: &mut Rng, number: u64| number.wrapping_add(rng.below(33) as u64).wrapping_sub(16);
-    match rng.below(9) {
+    match rng.below(11) {
         8 => scene.machine = rng.pick(&[0, 1, 2]),
+        9 => scene.stops[0].listed = near(rng, 32) as usize,
+        10 => {
+            let register = &mut scene.stops[0].registers[rng.below(32)];
+            *register = near(rng, *register);
+        }
         6 => scene.stops[0].named = near(rng, scene.stops[0].named),
         7 => scene.stops[0].address = near(rng, scene.stops[0].address),
-        0 => scene.stops[0].stack_pointer = near(rng, scene.stops[0].stack_pointer),
-        1 => scene.stops[0].frame_pointer = near(rng, scene.stops[0].frame_pointer),
+        0 => {
+            let content = near(rng, scene.stack_pointer(0));
+            scene.set_stack_pointer(0, content);
+        }
+        1 => {
+            let content = near(rng, scene.frame_pointer(0));
+            scene.set_frame_pointer(0, content);
+        }
         2 => scene.first = near(rng, scene.first),
         3 => drop(scene.image.pop()),
         4 => {
@@ -175,21 +191,24 @@ fn compare(scene: &Scene, section: &[u8], known: Known) -> u64 {
     outcome.number
 }
 
-/// What holds of an accepted frame: the count, the image, and how far each pointer is from its base
-/// where the base is moved too.
+/// What holds of an accepted frame: the count, the image, the registers, and how far each pointer is from
+/// its base where the base is moved too.
 fn accepted(scene: &Scene, call: &Call<Frame>, outcome: &Outcome) {
     let slots = plain::slots(scene, 0).concat();
     let count = plain::pointers(scene, 0) as u64;
-    if outcome.count != count || outcome.image != plain::moved(scene, [0]) {
+    let registers = plain::moved_registers(scene, 0);
+    let lent = outcome.image == plain::moved(scene, [0]) && outcome.registers == registers;
+    if outcome.count != count || !lent {
         call.fail(&format!(
             "{outcome:?}, which is not what was worked out beforehand"
         ));
     }
-    let after = Scene {
+    let mut after = Scene {
         image: outcome.image.clone(),
         ..scene.clone()
     };
-    let distance = |scene: &Scene, [base, derived]: [i128; 2]| {
+    after.stops[0].registers = registers;
+    let distance = |scene: &Scene, [base, derived]: [Slot; 2]| {
         let base = plain::content(scene, 0, base);
         plain::content(scene, 0, derived).wrapping_sub(base)
     };

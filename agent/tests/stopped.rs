@@ -203,6 +203,20 @@ fn the_section_in_memory_is_right_where_the_file_is_not() {
     }
 }
 
+/// The program of the README in two objects, which this call of llc makes.
+fn build_in_two(place: &Place, llc: &str) {
+    for function in ["inner", "outer"] {
+        place.says(&format!(
+            "llvm-extract -func={function} samples/stopped/sum.ll -o {function}.ll"
+        ));
+        place.says(&format!(
+            "opt -passes=rewrite-statepoints-for-gc -spp-rematerialization-threshold=0 {function}.ll -o {function}.bc"
+        ));
+        place.says(&format!("{llc} {function}.bc -o {function}.o"));
+    }
+    place.says("cc -no-pie samples/stopped/main.c inner.o outer.o -o program");
+}
+
 /// Two objects, each with a map of its own, which the linker puts one after the other: of each map the
 /// section and its frames are saved.
 #[test]
@@ -211,18 +225,7 @@ fn frames_of_several_maps_are_saved_by_map() {
         return;
     }
     let place = Place::new("maps");
-    for function in ["inner", "outer"] {
-        place.says(&format!(
-            "llvm-extract -func={function} samples/stopped/sum.ll -o {function}.ll"
-        ));
-        place.says(&format!(
-            "opt -passes=rewrite-statepoints-for-gc {function}.ll -o {function}.bc"
-        ));
-        place.says(&format!(
-            "llc -filetype=obj -no-x86-call-frame-opt {function}.bc -o {function}.o"
-        ));
-    }
-    place.says("cc -no-pie samples/stopped/main.c inner.o outer.o -o program");
+    build_in_two(&place, "llc -filetype=obj -no-x86-call-frame-opt");
     let saved = "gdb --batch -x tools/stopped.py -ex 'break stop' -ex run -ex 'treskibben-save saved' program";
     let said = place.says(saved);
     assert!(said.contains("saved: 2 frames, an image of "), "{said}");
@@ -237,4 +240,89 @@ fn frames_of_several_maps_are_saved_by_map() {
         let address = u64::from_str_radix(address, 16).unwrap();
         assert_eq!(treskibben::find(&section, address).unwrap().sharing, 1);
     }
+}
+
+/// Whether the command itself is there, which alone can write registers; if not, says that a test is skipped.
+fn command(test: &str) -> bool {
+    let there = std::env::var_os("TRESKIBBEN_COMMAND").is_some();
+    if !there {
+        let why = "TRESKIBBEN_COMMAND names no program";
+        let _ = writeln!(std::io::stderr(), "SKIPPED {test}: {why}");
+    }
+    there
+}
+
+/// llc for a program that keeps up to so many pointers of a call in registers.
+fn in_registers(pointers: u64) -> String {
+    format!(
+        "llc -filetype=obj -no-x86-call-frame-opt -frame-pointer=all \
+         -max-registers-for-gc-values={pointers} -fixup-allow-gcptr-in-csr"
+    )
+}
+
+/// Pointers in registers, all of them or some. gdb reads each frame's registers, and sets them, by the program's unwind
+/// tables. With the image alone put back, the program dies.
+#[test]
+fn a_program_with_pointers_in_registers_is_moved() {
+    let test = "a_program_with_pointers_in_registers_is_moved";
+    if !gdb(test) || !command(test) {
+        return;
+    }
+    let session = "gdb --batch -x tools/stopped.py -x samples/stopped/registers.gdb program";
+    for (pointers, registers) in [(8, 4), (1, 2)] {
+        let place = Place::new(&format!("registers-{pointers}"));
+        place.says("opt -passes=rewrite-statepoints-for-gc -spp-rematerialization-threshold=0 samples/stopped/sum.ll -o sum.bc");
+        place.says(&format!("{} sum.bc -o sum.o", in_registers(pointers)));
+        place.says("cc -no-pie samples/stopped/main.c sum.o -o program");
+        assert_eq!(place.says("./program"), "the sum is 93\n");
+        let said = place.says(session);
+        let changed = format!("{registers} registers changed");
+        for words in ["2 frames moved, 4 pointers", &changed, "the sum is 93"] {
+            assert!(said.contains(words), "{said}");
+        }
+        assert_eq!(said.matches(&changed).count(), 2, "{said}");
+        place.says("rm -r saved");
+        place.says("sed 's/^treskibben-load.*/restore saved\\/moved\\/image binary $first/' samples/stopped/registers.gdb >left.gdb");
+        let said = place.says("gdb --batch -x tools/stopped.py -x left.gdb program");
+        assert!(said.contains("Restoring binary file"), "{said}");
+        assert!(said.contains("Program received signal SIGSEGV"), "{said}");
+        assert!(!said.contains("the sum is"), "{said}");
+    }
+}
+
+/// As before, with a map for each of the two frames: one restore after the other, each on the image before, and all registers
+/// put back with the last image.
+#[test]
+fn registers_of_several_maps_are_put_back_together() {
+    let test = "registers_of_several_maps_are_put_back_together";
+    if !gdb(test) || !command(test) {
+        return;
+    }
+    let place = Place::new("register-maps");
+    build_in_two(&place, &in_registers(8));
+    let restore = |map: u64, image: &str, more: &str| {
+        format!(
+            "shell treskibben restore --section saved/{map}.section --image {image} --into saved/moved{map} \
+             --first $(cat saved/first) --moves moves --frames saved/{map}.frames{more}\n"
+        )
+    };
+    let session = |load: &str| {
+        let first = restore(0, "saved/image", "");
+        let second = restore(1, "saved/moved0/image", " --again");
+        let begin = "break stop\nrun\ntreskibben-save saved\ncall (void)move_heap()\n";
+        let script = format!("{begin}{first}{second}treskibben-load {load}\ncontinue\n");
+        fs::write(place.0.join("session.gdb"), script).unwrap();
+        place.says("rm -rf saved; gdb --batch -x tools/stopped.py -x session.gdb program")
+    };
+    let said = session("saved/moved0 saved/moved1");
+    assert_eq!(
+        said.matches("1 frame moved, 2 pointers").count(),
+        2,
+        "{said}"
+    );
+    assert!(said.contains("saved/moved1: 4 registers changed"), "{said}");
+    assert!(said.contains("the sum is 93"), "{said}");
+    let said = session("saved/moved1");
+    assert!(said.contains("saved/moved1: 2 registers changed"), "{said}");
+    assert!(said.contains("Program received signal SIGSEGV"), "{said}");
 }

@@ -2,9 +2,9 @@
 //! both versions: random lists, lists with faults in any frame, extents that share bytes, and lists at
 //! their limits.
 //!
-//! Answers and whole images are compared, also where a list is refused. Where the section is not
-//! damaged at random the generator knows both beforehand, and that is compared too. The random lists
-//! follow from a seed. It is printed; `TRESKIBBEN_SEED` sets it.
+//! Answers, whole images and the registers of all frames are compared, also where a list is refused. Where the
+//! section is not damaged at random the generator knows them beforehand, and that is compared too. The random
+//! lists follow from a seed. It is printed; `TRESKIBBEN_SEED` sets it.
 
 mod common;
 
@@ -12,6 +12,8 @@ mod common;
 mod calls;
 #[path = "thread/limits.rs"]
 mod limits;
+#[path = "thread/registers.rs"]
+mod registers;
 #[path = "thread/shapes.rs"]
 mod shapes;
 #[path = "thread/worked.rs"]
@@ -83,7 +85,7 @@ fn case(rng: &mut Rng) -> (Thread, Vec<u8>, Option<(u64, u64)>) {
 fn run(rng: &mut Rng, counts: &mut Counts) {
     let (thread, section, known) = case(rng);
     let list = thread.list();
-    let call = Call::with(&thread.scene, &section, &list[..]);
+    let call = Call::with(&thread.scene, &section, &list[..], thread.registers());
     let outcome = call.compare();
     let version = nth_version(thread.scene.section.version);
     counts[ANSWERS * version + outcome.number as usize] += 1;
@@ -108,15 +110,17 @@ fn run(rng: &mut Rng, counts: &mut Counts) {
     }
 }
 
-/// What holds of an accepted list: the sum of the pointers and the image are those worked out beforehand,
-/// those of the frames moved one by one, and those of the list in another order.
+/// What holds of an accepted list: the sum of the pointers, the image and the registers are those worked out
+/// beforehand, those of the frames moved one by one, and those of the list in another order.
 fn accepted(rng: &mut Rng, thread: &Thread, call: &Call<&[u64]>, outcome: &Outcome) {
-    if outcome.count != thread.pointers() || outcome.image != thread.moved() {
+    let lent = outcome.image == thread.moved() && outcome.registers == thread.moved_registers();
+    if outcome.count != thread.pointers() || !lent {
         call.fail(&format!("{outcome:?}, worked out otherwise beforehand"));
     }
     let mut single = Outcome {
         count: 0,
         image: call.image.to_vec(),
+        registers: Vec::new(),
         ..outcome.clone()
     };
     for stop in thread.order.iter().copied() {
@@ -124,13 +128,16 @@ fn accepted(rng: &mut Rng, thread: &Thread, call: &Call<&[u64]>, outcome: &Outco
         let image = &single.image;
         let moved = Call { image, ..one }.by_library();
         single.count += moved.count;
+        single.registers.extend(moved.registers);
         (single.number, single.image) = (moved.number, moved.image);
     }
     let mut other = thread.clone();
     shuffle(rng, &mut other.order);
     let list = other.list();
-    let shuffled = Call::with(&other.scene, call.section, &list[..]).compare();
-    if single != *outcome || shuffled != *outcome {
+    let shuffled = Call::with(&other.scene, call.section, &list[..], other.registers()).compare();
+    let as_before = shuffled.answer() == outcome.answer() && shuffled.image == outcome.image;
+    let own = shuffled.registers == other.moved_registers();
+    if single != *outcome || !as_before || !own {
         call.fail(&format!(
             "{outcome:?}, one by one {single:?}, in another order {shuffled:?}"
         ));

@@ -200,6 +200,16 @@ fn listings_of_version_1_that_are_refused() {
     assert_eq!(with(&[size, count, kind, (1, 2)]), Some((22, 0)));
 }
 
+/// Row H with RBX (DWARF 3) in place of its base slot: the first three of the four locations of its pairs, from
+/// byte 92 on.
+fn with_base_in_rbx() -> Vec<u8> {
+    let mut section = H.to_vec();
+    for location in section[92..128].chunks_exact_mut(12) {
+        location.copy_from_slice(&[1, 0, 8, 0, 3, 0, 0, 0, 0, 0, 0, 0]);
+    }
+    section
+}
+
 #[test]
 fn samples_are_the_rows() {
     let samples = Path::new(env!("CARGO_MANIFEST_DIR")).join("../samples");
@@ -212,6 +222,7 @@ fn samples_are_the_rows() {
         ("g-function-missing", c_with(4, 1)),
         ("h-statepoint", H.to_vec()),
         ("h-version-1", H_1.to_vec()),
+        ("r-registers", with_base_in_rbx()),
     ];
     for (name, bytes) in rows {
         let sample = fs::read(samples.join(name).with_extension("section")).expect(name);

@@ -12,7 +12,8 @@
      ON 0 0 0                  lets the stopped program run on
 
    What is told: BEGUN entered top 0, where `entered` is the return address of the program's call and `top` is above its
-   frames; STOPPED address fp sp; ENDED checksum 0 0; and FAULT address 0 0 before the program dies of a bad address. */
+   frames; STOPPED address saved sp, where x19 to x29 stand from `saved` on and are taken up again from there; ENDED
+   checksum 0 0; and FAULT address 0 0 before the program dies of a bad address. */
 
 typedef unsigned long word;
 
@@ -93,9 +94,9 @@ static void serve(word asked[4]) {
 }
 
 /* Called by live_stop. */
-void stopped(word address, word fp, word sp) {
+void stopped(word address, word saved, word sp) {
     word asked[4];
-    tell(STOPPED, address, fp, sp);
+    tell(STOPPED, address, saved, sp);
     serve(asked);
     if (asked[0] != ON) leave(4);
 }
@@ -138,14 +139,24 @@ __asm__(".globl live_enter, live_entered\n"
         "  ldp x29, x30, [sp], #16\n"
         "  ret\n");
 
-/* Hands over the return address, and x29 and sp as the caller has them after the call. What a callee has to keep, `stopped`
-   keeps. */
+/* Hands over the return address, where it saved what a callee has to keep, and sp as the caller has it after the call. The
+   general registers are taken up again from there: who writes there changes the caller's. The others `stopped` keeps. */
 __asm__(".globl live_stop\n"
         "live_stop:\n"
+        "  stp x19, x20, [sp, #-96]!\n"
+        "  stp x21, x22, [sp, #16]\n"
+        "  stp x23, x24, [sp, #32]\n"
+        "  stp x25, x26, [sp, #48]\n"
+        "  stp x27, x28, [sp, #64]\n"
+        "  stp x29, x30, [sp, #80]\n"
         "  mov x0, x30\n"
-        "  mov x1, x29\n"
-        "  mov x2, sp\n"
-        "  str x30, [sp, #-16]!\n"
+        "  mov x1, sp\n"
+        "  add x2, sp, #96\n"
         "  bl stopped\n"
-        "  ldr x30, [sp], #16\n"
+        "  ldp x21, x22, [sp, #16]\n"
+        "  ldp x23, x24, [sp, #32]\n"
+        "  ldp x25, x26, [sp, #48]\n"
+        "  ldp x27, x28, [sp, #64]\n"
+        "  ldp x29, x30, [sp, #80]\n"
+        "  ldp x19, x20, [sp], #96\n"
         "  ret\n");

@@ -4,7 +4,7 @@
 use crate::measure::{measure, say, table, Row};
 use crate::section::{statepoint_of_selves, statepoint_with_pairs, STATEPOINT};
 use std::hint::black_box;
-use treskibben::{Frame, Machine, MoveTable};
+use treskibben::{Frame, Machine, MoveTable, Registers};
 
 const CHECK: &str = "treskibben check";
 const LARGE: &str = "one frame on the large section";
@@ -36,6 +36,7 @@ struct Stack {
     olds: Vec<u64>,
     news: Vec<u64>,
     frame: Frame,
+    registers: Registers,
 }
 
 /// Rows on the large section and on a small one.
@@ -64,8 +65,9 @@ fn on_large(rounds: usize, bytes: &[u8]) -> Vec<Row> {
         panic!("the second implementation refuses the section")
     };
     let mut image = vec![0; 1_048_576];
+    let mut registers = Machine::Amd64.registers(0, STACK);
     let mut relocate = |address: u64| {
-        let frame = Frame::new(black_box(address), 0, STACK);
+        let frame = Frame::new(black_box(address));
         treskibben::relocate(
             black_box(bytes),
             &mut image,
@@ -73,6 +75,7 @@ fn on_large(rounds: usize, bytes: &[u8]) -> Vec<Row> {
             MoveTable::default(),
             Machine::Amd64,
             frame,
+            &mut registers,
         )
     };
     let addresses = read.records.iter().rev().map(|record| record.address);
@@ -114,7 +117,8 @@ impl Stack {
             image,
             olds,
             news,
-            frame: Frame::new(STATEPOINT, 0, STACK),
+            frame: Frame::new(STATEPOINT),
+            registers: Machine::Amd64.registers(0, STACK),
         }
     }
 
@@ -132,24 +136,15 @@ impl Stack {
         for _ in 0..TIMES {
             let section = black_box(&self.section);
             let (image, machine) = (&mut self.image, Machine::Amd64);
-            let moved = treskibben::relocate(section, image, STACK, table, machine, self.frame);
+            let (frame, lent) = (self.frame, &mut self.registers);
+            let moved = treskibben::relocate(section, image, STACK, table, machine, frame, lent);
             assert!(black_box(moved).is_ok(), "the library refuses the frame");
         }
     }
 
     fn by_reference(&mut self) {
-        let Frame {
-            address,
-            frame_pointer,
-            stack_pointer,
-            function,
-        } = self.frame;
-        let frame = reference::Frame {
-            address,
-            frame_pointer,
-            stack_pointer,
-            function,
-        };
+        let Frame { address, function } = self.frame;
+        let frame = reference::Frame { address, function };
         for _ in 0..TIMES {
             let section = black_box(&self.section);
             let moved = reference::relocate(
@@ -160,6 +155,7 @@ impl Stack {
                 &self.news,
                 Machine::Amd64.number(),
                 frame,
+                &mut self.registers,
             );
             assert!(
                 black_box(moved).is_ok(),
@@ -175,7 +171,8 @@ fn on_small(rounds: usize) -> Vec<Row> {
     let before = many.image.clone();
     let table = MoveTable::new(&many.olds, &many.news);
     let (image, machine) = (&mut many.image, Machine::Amd64);
-    let moved = treskibben::relocate(&many.section, image, STACK, table, machine, many.frame);
+    let (section, frame, lent) = (&many.section, many.frame, &mut many.registers);
+    let moved = treskibben::relocate(section, image, STACK, table, machine, frame, lent);
     assert_eq!(moved, Ok(PAIRS), "the frame on the small section");
     assert!(many
         .image

@@ -3,7 +3,7 @@
 
 use crate::measure::{measure, ratio, say, table, Row};
 use crate::section::{self, Numbers};
-use crate::thread::Stack;
+use crate::thread::{List, Stack};
 use std::hint::black_box;
 use treskibben::Index;
 
@@ -156,13 +156,13 @@ fn measured<'a>(rounds: usize, bytes: &'a [u8], index: &'a Index, stack: &'a Sta
     let mut list = vec![0; index.entries().len()];
     let (asked, mut answers) = (addresses(index.entries()), vec![0; 5 * ADDRESSES]);
     let [one, _, _, all] = stack.lists();
-    let last = one[0].address;
-    let action = |index: Option<&'a Index>, frames| {
-        let mut image = stack.image.clone();
+    let last = one.frames[0].address;
+    let action = |index: Option<&'a Index>, list: &List| {
+        let (mut image, mut list) = (stack.image.clone(), list.clone());
         move || {
             black_box(match index {
-                Some(index) => stack.moved_by(index, frames, &mut image),
-                None => stack.moved(bytes, frames, &mut image),
+                Some(index) => stack.moved_by(index, &mut list, &mut image),
+                None => stack.moved(bytes, &mut list, &mut image),
             });
         }
     };

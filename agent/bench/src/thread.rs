@@ -4,7 +4,7 @@
 use crate::measure::{measure, say, table};
 use crate::section;
 use std::hint::black_box;
-use treskibben::{Frame, Index, Machine, MoveTable};
+use treskibben::{Frame, Index, Machine, MoveTable, Registers};
 
 const CHECK: &str = "treskibben check";
 const FIND: &str = "question by address";
@@ -37,8 +37,33 @@ const MOST_BYTES: u64 = 320;
 pub struct Stack {
     pub image: Vec<u8>,
     objects: Vec<u64>,
-    frames: Vec<Frame>,
+    frames: List,
     pairs: usize,
+}
+
+/// A list of frames, and their registers, which no move here changes.
+#[derive(Clone, Default)]
+pub struct List {
+    pub frames: Vec<Frame>,
+    registers: Vec<Registers>,
+}
+
+impl List {
+    fn push(&mut self, frame: Frame, stack_pointer: u64) {
+        self.frames.push(frame);
+        let registers = Machine::Amd64.registers(0, stack_pointer);
+        self.registers.push(registers);
+    }
+
+    /// The frames of these numbers.
+    fn of(&self, numbers: impl Iterator<Item = usize>) -> List {
+        let mut list = List::default();
+        for nth in numbers {
+            list.frames.push(self.frames[nth]);
+            list.registers.push(self.registers[nth]);
+        }
+        list
+    }
 }
 
 /// Rows on the large section and on one of short records.
@@ -58,10 +83,11 @@ fn extents(rounds: usize) {
     let bytes = section::statepoint_with_pairs(1);
     let stack = Stack::at_one_record();
     let [_, rising, falling, mixed] = stack.lists();
-    let action = |list| {
+    let action = |list: &List| {
         let (stack, bytes, mut image) = (&stack, &bytes, stack.image.clone());
+        let mut list = list.clone();
         move || {
-            black_box(stack.moved(bytes, list, &mut image));
+            black_box(stack.moved(bytes, &mut list, &mut image));
         }
     };
     let rows = measure(
@@ -93,17 +119,17 @@ fn on(rounds: usize, name: &str, bytes: &[u8]) {
     [&rising, &falling, &mixed]
         .iter()
         .for_each(|list| stack.assert_moved(name, bytes, list));
-    let action = |list| {
-        let (stack, mut image) = (&stack, stack.image.clone());
+    let action = |list: &List| {
+        let (stack, mut list, mut image) = (&stack, list.clone(), stack.image.clone());
         move || {
-            black_box(stack.moved(bytes, list, &mut image));
+            black_box(stack.moved(bytes, &mut list, &mut image));
         }
     };
-    let ([_, crossed, ..], mut others) = (other.lists(), other.image.clone());
+    let ([_, mut crossed, ..], mut others) = (other.lists(), other.image.clone());
     let mut crossed = || {
-        black_box(other.moved(bytes, &crossed, &mut others));
+        black_box(other.moved(bytes, &mut crossed, &mut others));
     };
-    let mut image = stack.image.clone();
+    let (mut image, mut registers) = (stack.image.clone(), one.registers[0]);
     let mut alone = || {
         let _ = black_box(treskibben::relocate(
             black_box(bytes),
@@ -111,7 +137,8 @@ fn on(rounds: usize, name: &str, bytes: &[u8]) {
             STACK,
             stack.table(),
             Machine::Amd64,
-            one[0],
+            one.frames[0],
+            &mut registers,
         ));
     };
     let rows = measure(
@@ -121,7 +148,7 @@ fn on(rounds: usize, name: &str, bytes: &[u8]) {
             (
                 FIND,
                 &mut crate::on(bytes, |bytes| {
-                    treskibben::find(bytes, black_box(one[0].address))
+                    treskibben::find(bytes, black_box(one.frames[0].address))
                 }),
             ),
             (ALONE, &mut alone),
@@ -161,10 +188,10 @@ impl Stack {
             "only {} statepoints can be moved",
             all.len()
         );
-        let (mut frames, mut bytes, mut pairs) = (Vec::new(), 0, 0);
+        let (mut frames, mut bytes, mut pairs) = (List::default(), 0, 0);
         for nth in 0..FRAMES {
             let (address, size, own) = all[order(nth) * all.len() / FRAMES];
-            frames.push(Frame::new(address, 0, STACK + bytes));
+            frames.push(Frame::new(address), STACK + bytes);
             bytes += size;
             pairs += own;
         }
@@ -173,15 +200,14 @@ impl Stack {
 
     /// Frames of one word, all at the record of a section with one pair.
     fn at_one_record() -> Stack {
-        let frame = |nth| Frame::new(section::STATEPOINT, 0, STACK + WORD * nth);
-        Stack::of(
-            (0..FRAMES as u64).map(frame).collect(),
-            WORD * FRAMES as u64,
-            FRAMES,
-        )
+        let mut frames = List::default();
+        for nth in 0..FRAMES as u64 {
+            frames.push(Frame::new(section::STATEPOINT), STACK + WORD * nth);
+        }
+        Stack::of(frames, WORD * FRAMES as u64, FRAMES)
     }
 
-    fn of(frames: Vec<Frame>, bytes: u64, pairs: usize) -> Stack {
+    fn of(frames: List, bytes: u64, pairs: usize) -> Stack {
         let objects: Vec<u64> = (1..=OBJECTS).map(|nth| 0x10_0000 + 64 * nth).collect();
         let base = objects[OBJECTS as usize / 3];
         let image = (0..bytes / WORD).flat_map(|_| base.to_le_bytes()).collect();
@@ -194,29 +220,34 @@ impl Stack {
     }
 
     /// The last frame alone, and all of them: rising, falling and in any order.
-    pub fn lists(&self) -> [Vec<Frame>; 4] {
-        let rising = self.frames.clone();
-        let falling: Vec<Frame> = rising.iter().rev().copied().collect();
-        let mixed = (0..FRAMES).map(|nth| rising[any_order(nth)]).collect();
-        [falling[..1].to_vec(), rising, falling, mixed]
+    pub fn lists(&self) -> [List; 4] {
+        let all = &self.frames;
+        [
+            all.of(FRAMES - 1..FRAMES),
+            all.clone(),
+            all.of((0..FRAMES).rev()),
+            all.of((0..FRAMES).map(any_order)),
+        ]
     }
 
     fn table(&self) -> MoveTable<'_> {
         MoveTable::new(&self.objects, &self.objects)
     }
 
-    pub fn moved(&self, section: &[u8], frames: &[Frame], image: &mut [u8]) -> usize {
+    pub fn moved(&self, section: &[u8], list: &mut List, image: &mut [u8]) -> usize {
         let (table, machine) = (self.table(), Machine::Amd64);
         let section = black_box(section);
-        let moved = treskibben::relocate_thread(section, image, STACK, table, machine, frames);
+        let (frames, registers) = (&list.frames, list.registers.as_flattened_mut());
+        let moved =
+            treskibben::relocate_thread(section, image, STACK, table, machine, frames, registers);
         moved.unwrap_or_else(|refusal| panic!("the library refuses the thread: {refusal}"))
     }
 
     /// All pairs of the list are moved, and no byte changes: the objects stay where they were.
-    fn assert_moved(&self, name: &str, section: &[u8], frames: &[Frame]) {
+    fn assert_moved(&self, name: &str, section: &[u8], list: &List) {
         let mut image = self.image.clone();
         assert_eq!(
-            self.moved(section, frames, &mut image),
+            self.moved(section, &mut list.clone(), &mut image),
             self.pairs,
             "the pairs on {name}"
         );
@@ -227,9 +258,10 @@ impl Stack {
     }
 
     /// Moves the frames with an index of the section.
-    pub fn moved_by(&self, index: &Index, frames: &[Frame], image: &mut [u8]) -> usize {
+    pub fn moved_by(&self, index: &Index, list: &mut List, image: &mut [u8]) -> usize {
         let (table, machine) = (self.table(), Machine::Amd64);
-        let moved = black_box(index).relocate_thread(image, STACK, table, machine, frames);
+        let (frames, lent) = (&list.frames, list.registers.as_flattened_mut());
+        let moved = black_box(index).relocate_thread(image, STACK, table, machine, frames, lent);
         moved.unwrap_or_else(|refusal| panic!("the library refuses the thread: {refusal}"))
     }
 }
@@ -277,8 +309,8 @@ mod tests {
         for (bytes, stack) in all {
             assert!(stack.pairs >= FRAMES && stack.image.len() <= 1_048_576);
             for list in stack.lists() {
-                let numbers = treskibben::Frames::new(&list).numbers();
-                let mut image = stack.image.clone();
+                let numbers = treskibben::Frames::new(&list.frames).numbers();
+                let (mut image, mut registers) = (stack.image.clone(), list.registers.clone());
                 let moved = reference::thread(
                     &bytes,
                     &mut image,
@@ -287,12 +319,14 @@ mod tests {
                     &stack.objects,
                     Machine::Amd64.number(),
                     numbers,
+                    registers.as_flattened_mut(),
                 );
+                let one = list.frames.len() == 1;
                 assert!(
-                    moved.is_ok_and(|pairs| list.len() == 1 || pairs == stack.pairs as u64),
+                    moved.is_ok_and(|pairs| one || pairs == stack.pairs as u64),
                     "{moved:?}"
                 );
-                assert!(image == stack.image);
+                assert!(image == stack.image && registers == list.registers);
             }
         }
     }

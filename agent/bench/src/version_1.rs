@@ -4,7 +4,7 @@
 use crate::measure::{measure, say, table, Row};
 use reference::{RecordData, Section};
 use std::hint::black_box;
-use treskibben::{Frame, Machine, MoveTable};
+use treskibben::{Frame, Machine, MoveTable, Registers};
 
 const CHECK_3: &str = "check, version 3";
 const CHECK: &str = "check, version 1";
@@ -23,6 +23,7 @@ const STACK: u64 = 0x7fff_0000_0000;
 struct Stack {
     image: Vec<u8>,
     frame: Frame,
+    registers: Registers,
 }
 
 /// The check of the section in both versions, and questions and a move on version 1.
@@ -162,11 +163,12 @@ impl Stack {
     fn on(older: &[u8], section: &Section) -> Stack {
         let mut stack = Stack {
             image: vec![0; 1_048_576],
-            frame: Frame::in_function(0, 0, 0, STACK),
+            frame: Frame::in_function(0, 0),
+            registers: Machine::Amd64.registers(0, STACK),
         };
         for number in (0..section.records.len()).rev().take(100) {
             let place = Place::of(section, number);
-            stack.frame = Frame::in_function(place.function, place.offset, 0, STACK);
+            stack.frame = Frame::in_function(place.function, place.offset);
             if let Some(count) = stack.moved(older).filter(|count| *count > 0) {
                 println!("\nthe frame on the version 1 section has {count} pointers");
                 return stack;
@@ -183,6 +185,7 @@ impl Stack {
             MoveTable::default(),
             Machine::Amd64,
             self.frame,
+            &mut self.registers,
         )
         .ok()
     }

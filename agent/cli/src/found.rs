@@ -1,13 +1,14 @@
 //! What was found where something was refused. The library tells number and place; this is the wording
 //! beside it, worked out from the same files, and decides nothing.
 
-use crate::frames::Naming;
+use crate::frames::{Line, Naming};
 use crate::json;
-use crate::library::{Frame, Index, Refusal};
+use crate::library::{Index, Refusal};
 use crate::listing::{functions, Listing};
 use crate::lists::Entry;
 use crate::names::shown;
 use crate::numbers::count;
+use crate::registers::Machine;
 use crate::text::UNKNOWN;
 use crate::trouble::{say, Voice};
 use crate::{files, library, output};
@@ -155,12 +156,13 @@ pub fn not_in_function(section: &[u8], function: u64, offset: u64) -> String {
 pub struct Sizes<'a> {
     section: &'a [u8],
     naming: Naming,
+    machine: Machine,
     /// Of version 3: the function of each record's address.
     owners: HashMap<u64, u64>,
 }
 
 impl<'a> Sizes<'a> {
-    pub fn of(section: &'a [u8], naming: Naming) -> Sizes<'a> {
+    pub fn of(section: &'a [u8], naming: Naming, machine: Machine) -> Sizes<'a> {
         let mut owners = HashMap::new();
         let listing = library::listing_of(section).unwrap_or_default();
         let listing = Listing::read(&listing);
@@ -174,15 +176,16 @@ impl<'a> Sizes<'a> {
         Sizes {
             section,
             naming,
+            machine,
             owners,
         }
     }
 
     /// The function of a frame and its stack size.
-    fn function(&self, frame: &Frame) -> Option<(u64, u64)> {
+    fn function(&self, line: &Line) -> Option<(u64, u64)> {
         let function = match self.naming {
-            Naming::Address => *self.owners.get(&frame.address)?,
-            Naming::InFunction => frame.function,
+            Naming::Address => *self.owners.get(&line.frame.address)?,
+            Naming::InFunction => line.frame.function,
         };
         let mut functions = functions(self.section);
         let (_, size) = functions.nth(usize::try_from(function).ok()?)?;
@@ -190,16 +193,17 @@ impl<'a> Sizes<'a> {
     }
 
     /// The first byte of a frame's extent and the first after it.
-    fn extent(&self, frame: &Frame) -> Option<(u128, u128)> {
-        let (_, size) = self.function(frame).filter(|(_, size)| *size != UNKNOWN)?;
-        let first = u128::from(frame.stack_pointer);
+    fn extent(&self, line: &Line) -> Option<(u128, u128)> {
+        let (_, size) = self.function(line).filter(|(_, size)| *size != UNKNOWN)?;
+        let [_, of_stack] = library::pointers_of(self.machine);
+        let first = u128::from(line.registers[usize::from(of_stack)]);
         Some((first, first + u128::from(size)))
     }
 
     /// What 16 found: the extent and the image.
-    pub fn outside(&self, frame: &Frame, first: u64, length: usize) -> Option<String> {
-        let Some((from, to)) = self.extent(frame) else {
-            let (function, _) = self.function(frame)?;
+    pub fn outside(&self, line: &Line, first: u64, length: usize) -> Option<String> {
+        let Some((from, to)) = self.extent(line) else {
+            let (function, _) = self.function(line)?;
             return Some(format!(
                 "the stack size of function {function} is not known"
             ));
@@ -211,10 +215,10 @@ impl<'a> Sizes<'a> {
     }
 
     /// What 26 found: the earlier frame, by its position.
-    pub fn shared(&self, frames: &[Frame], position: usize) -> Option<usize> {
-        let (from, to) = self.extent(frames.get(position)?)?;
-        frames[..position].iter().position(|earlier| {
-            let extent = self.extent(earlier);
+    pub fn shared(&self, lines: &[Entry<Line>], position: usize) -> Option<usize> {
+        let (from, to) = self.extent(&lines.get(position)?.value)?;
+        lines[..position].iter().position(|earlier| {
+            let extent = self.extent(&earlier.value);
             extent.is_some_and(|(other, end)| from < end && other < to && other < end)
         })
     }

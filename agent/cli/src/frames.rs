@@ -1,13 +1,17 @@
 //! The list of stopped frames. Where a frame stands is told by an address or, for a section of version
-//! 1, by the number of its function and an offset: each version has lines of its own.
+//! 1, by the number of its function and an offset: each version has lines of its own. What its registers hold
+//! is told by their names; the frame pointer and the stack pointer may stand without, as the first two numbers.
 
 use crate::found::not_in_function;
-use crate::library::{self, Frame};
+use crate::library::{self, Frame, Registers};
 use crate::lists::{is_not, number, read, Entry, Form};
-use crate::numbers::in_function;
+use crate::numbers::{count, in_function};
 use crate::registers::Machine;
 use crate::trouble::Trouble;
 use std::path::Path;
+
+#[cfg(test)]
+mod tests;
 
 /// How a section names the place of a frame.
 #[derive(Clone, Copy, Debug, PartialEq, Eq)]
@@ -16,8 +20,108 @@ pub enum Naming {
     InFunction,
 }
 
-/// The numbers of a line in the library's order: address or offset, frame pointer, stack pointer, function.
-type Numbers = [u64; 4];
+/// A line of the list.
+#[derive(Clone, Copy, Debug, PartialEq, Eq)]
+pub struct Line {
+    pub frame: Frame,
+    /// What the registers hold, by their numbers; 0 where the line doesn't tell it.
+    pub registers: Registers,
+    /// Which registers the line tells: a bit for each.
+    told: u32,
+    /// How many of them stand there without a name.
+    unnamed: usize,
+}
+
+impl Default for Line {
+    fn default() -> Line {
+        Line {
+            frame: Frame::new(0),
+            registers: Registers::default(),
+            told: 0,
+            unnamed: 0,
+        }
+    }
+}
+
+impl Line {
+    /// Whether the line tells what a register holds.
+    pub fn tells(&self, register: u16) -> bool {
+        self.told.checked_shr(register.into()).unwrap_or(0) & 1 == 1
+    }
+
+    fn tell(&mut self, register: u16, content: u64) {
+        self.told |= 1 << register;
+        self.registers[usize::from(register)] = content;
+    }
+}
+
+/// What a line looks like, by the section's version and the machine.
+struct Lines(Naming, Machine);
+
+impl Form for Lines {
+    type Value = Line;
+
+    fn names(&self) -> String {
+        format!("{} [REGISTER=VALUE..]", self.first_names())
+    }
+
+    fn take(&self, line: &mut Line, nth: usize, word: &[u8]) -> Result<(), String> {
+        let Lines(naming, machine) = *self;
+        if nth == 0 {
+            line.frame = naming.place(word)?;
+            return Ok(());
+        }
+        let (register, content) = match word.iter().position(|byte| *byte == b'=') {
+            Some(equals) => {
+                let name = &word[..equals];
+                let what = format!("a register of {}", machine.name());
+                let register = machine.named(name).ok_or_else(|| is_not(name, &what))?;
+                (register, number(&word[equals + 1..])?)
+            }
+            None => {
+                let content = number(word)?;
+                let Some(register) = library::pointers_of(machine).get(line.unnamed).copied()
+                else {
+                    line.unnamed += 1;
+                    return Ok(());
+                };
+                line.unnamed += 1;
+                (register, content)
+            }
+        };
+        if line.tells(register) {
+            return Err(format!("{} is told twice", machine.register(register)));
+        }
+        line.tell(register, content);
+        Ok(())
+    }
+
+    /// A line has two numbers without a name, or none and names the two pointers.
+    fn whole(&self, line: &Line, words: usize) -> Result<(), String> {
+        let Lines(_, machine) = *self;
+        if line.unnamed != 2 && (line.unnamed != 0 || words == 1) {
+            return Err(count(1 + line.unnamed as u64, "word"));
+        }
+        let mut pointers = library::pointers_of(machine).into_iter();
+        match pointers.find(|pointer| !line.tells(*pointer)) {
+            Some(pointer) => Err(format!("{} is not told", machine.register(pointer))),
+            None => Ok(()),
+        }
+    }
+}
+
+impl Lines {
+    /// The names of the words that stand without one.
+    fn first_names(&self) -> String {
+        let Lines(naming, machine) = *self;
+        let place = match naming {
+            Naming::Address => "ADDRESS",
+            Naming::InFunction => "FUNCTION+OFFSET",
+        };
+        let [of_frame, of_stack] = library::pointers_of(machine).map(|one| machine.register(one));
+        format!("{place} {of_frame} {of_stack}")
+    }
+}
 
 impl Naming {
     /// The naming of a section, which its first byte, the version, decides. Whether it is a section at all
@@ -29,50 +133,52 @@ impl Naming {
         }
     }
 
-    /// What a line looks like.
-    fn form(self, machine: Machine) -> Form<Numbers> {
-        let names = match (self, machine) {
-            (Naming::Address, Machine::X86_64) => "ADDRESS RBP RSP",
-            (Naming::Address, Machine::Aarch64) => "ADDRESS X29 SP",
-            (Naming::InFunction, Machine::X86_64) => "FUNCTION+OFFSET RBP RSP",
-            (Naming::InFunction, Machine::Aarch64) => "FUNCTION+OFFSET X29 SP",
-        };
-        match self {
-            Naming::Address => Form {
-                names,
-                words: 3,
-                take: other_word,
-            },
-            Naming::InFunction => Form {
-                names,
-                words: 3,
-                take: |numbers, nth, word| match nth {
-                    0 => first_word(numbers, word),
-                    _ => other_word(numbers, nth, word),
-                },
-            },
-        }
-    }
-
     /// The frames of a list.
     pub fn read(
         self,
         machine: Machine,
         path: &Path,
         text: &[u8],
-    ) -> Result<Vec<Entry<Frame>>, Trouble> {
-        let entries = read(path, text, &self.form(machine))?;
-        let frame = |Entry { line, value }: Entry<Numbers>| {
-            let [address, frame_pointer, stack_pointer, function] = value;
-            let value = Frame {
-                address,
-                frame_pointer,
-                stack_pointer,
-                function,
+    ) -> Result<Vec<Entry<Line>>, Trouble> {
+        read(path, text, &Lines(self, machine))
+    }
+
+    /// The frame whose place a word tells.
+    fn place(self, word: &[u8]) -> Result<Frame, String> {
+        match self {
+            Naming::Address => Ok(Frame::new(number(word)?)),
+            Naming::InFunction => {
+                let what = "a function's decimal number, '+' and a hexadecimal offset";
+                let (function, offset) = in_function(word).ok_or_else(|| is_not(word, what))?;
+                Ok(Frame::in_function(function, offset))
+            }
+        }
+    }
+
+    /// The list of frames whose registers hold these now: what every line tells, in the form that
+    /// [`read`](Naming::read) takes.
+    pub fn text(self, machine: Machine, lines: &[Entry<Line>], registers: &[Registers]) -> String {
+        let names = Lines(self, machine).first_names();
+        let mut text = format!("# The frames after the move: {names} REGISTER=VALUE..\n");
+        for (Entry { value: line, .. }, now) in lines.iter().zip(registers) {
+            let Frame { address, function } = line.frame;
+            text += &match self {
+                Naming::Address => format!("{address:#x}"),
+                Naming::InFunction => format!("{function}+{address:#x}"),
             };
-            Entry { line, value }
-        };
-        Ok(entries.into_iter().map(frame).collect())
+            let content = |register: u16| now[usize::from(register)];
+            let pointers = library::pointers_of(machine);
+            for pointer in pointers {
+                text += &format!(" {:#x}", content(pointer));
+            }
+            let told = |register: &u16| line.tells(*register) && !pointers.contains(register);
+            for register in machine.of_frames().filter(told) {
+                let name = machine.register(register).to_lowercase();
+                text += &format!(" {name}={:#x}", content(register));
+            }
+            text.push('\n');
+        }
+        text
     }
 
     /// What 10 found of a frame, as it was read.
@@ -83,105 +189,18 @@ impl Naming {
         }
     }
 
-    /// A frame in words, with the machine's names of its registers.
-    pub fn words(self, machine: Machine, frame: &Frame) -> String {
-        let Frame {
-            address,
-            frame_pointer,
-            stack_pointer,
-            function,
-        } = frame;
-        let [of_frame, of_stack] = library::pointers_of(machine);
-        let of_frame = machine.register(of_frame);
-        let of_stack = machine.register(of_stack);
+    /// A frame in words, with the machine's names of its two pointers.
+    pub fn words(self, machine: Machine, line: &Line) -> String {
+        let Frame { address, function } = line.frame;
         let place = match self {
             Naming::Address => format!("address {address:#x}"),
             Naming::InFunction => format!("function {function}, offset {address:#x}"),
         };
-        format!("{place}, {of_frame} {frame_pointer:#x}, {of_stack} {stack_pointer:#x}")
-    }
-}
-
-/// Takes the first word of a line that names a function.
-fn first_word(numbers: &mut Numbers, word: &[u8]) -> Result<(), String> {
-    let what = "a function's decimal number, '+' and a hexadecimal offset";
-    let (function, offset) = in_function(word).ok_or_else(|| is_not(word, what))?;
-    (numbers[0], numbers[3]) = (offset, function);
-    Ok(())
-}
-
-/// Takes a word that is a hexadecimal number. No word beyond the third is kept.
-fn other_word(numbers: &mut Numbers, nth: usize, word: &[u8]) -> Result<(), String> {
-    let number = number(word)?;
-    if let Some(place) = numbers[..3].get_mut(nth) {
-        *place = number;
-    }
-    Ok(())
-}
-
-#[cfg(test)]
-mod tests {
-    use super::*;
-    use crate::lists::entry;
-
-    fn numbers(naming: Naming, line: &str) -> Result<Option<Numbers>, String> {
-        entry(line.as_bytes(), &naming.form(Machine::Aarch64))
-    }
-
-    #[test]
-    fn the_version_decides() {
-        for (section, naming) in [
-            (&[][..], Naming::Address),
-            (&[3], Naming::Address),
-            (&[1, 3], Naming::InFunction),
-            (&[2], Naming::Address),
-        ] {
-            assert_eq!(Naming::of(section), naming, "{section:?}");
-        }
-    }
-
-    #[test]
-    fn each_version_has_its_lines() {
-        let address = |line| numbers(Naming::Address, line);
-        let function = |line| numbers(Naming::InFunction, line);
-        assert_eq!(address("1020 1 0x7000"), Ok(Some([0x1020, 1, 0x7000, 0])));
-        assert_eq!(
-            function("10+20 1 0x7000 # 5"),
-            Ok(Some([0x20, 1, 0x7000, 10]))
-        );
-        assert_eq!(address(" # 1 2 3"), Ok(None));
-        assert_eq!(function(" # 1+2 3 4"), Ok(None));
-        assert_eq!(address("1 2 3 4"), Err("4 words".to_string()));
-        assert_eq!(function("1+2 3"), Err("2 words".to_string()));
-        assert_eq!(function("1+2 3 4 5"), Err("4 words".to_string()));
-        for (line, bad) in [("0+20 0 7000", "0+20"), ("20 0 7000+1", "7000+1")] {
-            let start = format!("'{bad}' is not a hexadecimal number");
-            assert!(
-                address(line).is_err_and(|why| why.starts_with(&start)),
-                "{line}"
-            );
-        }
-        for (line, bad) in [
-            ("1020 0 7000", "1020"),
-            ("a+20 0 7000", "a+20"),
-            ("0+ 20 0", "0+"),
-        ] {
-            let start = format!("'{bad}' is not a function's decimal number");
-            assert!(
-                function(line).is_err_and(|why| why.starts_with(&start)),
-                "{line}"
-            );
-        }
-    }
-
-    #[test]
-    fn frames_in_words() {
-        let frame = Frame::in_function(10, 0x20, 1, 0x7000);
-        let words = Naming::InFunction.words(Machine::X86_64, &frame);
-        assert_eq!(words, "function 10, offset 0x20, RBP 0x1, RSP 0x7000");
-        let words = Naming::Address.words(Machine::X86_64, &frame);
-        assert_eq!(words, "address 0x20, RBP 0x1, RSP 0x7000");
-        let words = Naming::Address.words(Machine::Aarch64, &frame);
-        assert_eq!(words, "address 0x20, X29 0x1, SP 0x7000");
+        let pointer = |register: u16| {
+            let content = line.registers[usize::from(register)];
+            format!("{} {content:#x}", machine.register(register))
+        };
+        let [of_frame, of_stack] = library::pointers_of(machine).map(pointer);
+        format!("{place}, {of_frame}, {of_stack}")
     }
 }

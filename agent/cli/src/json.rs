@@ -78,9 +78,12 @@ pub enum Answer<'a> {
     Restored {
         image: &'a str,
         output: &'a str,
+        #[serde(skip_serializing_if = "Option::is_none")]
+        new_frames: Option<String>,
         receipt: &'a str,
         frames: u64,
         pointers: u64,
+        registers: u64,
     },
 }
 

@@ -13,8 +13,8 @@ pub struct Refusal {
     pub cause: &'static str,
 }
 
-/// The record that is found, a stopped frame, and an index with its section.
-pub use treskibben::{Found, Frame, Index};
+/// The record that is found, a stopped frame and its registers, and an index with its section.
+pub use treskibben::{Found, Frame, Index, Registers};
 
 impl From<treskibben::Refusal> for Refusal {
     fn from(refusal: treskibben::Refusal) -> Refusal {
@@ -96,8 +96,13 @@ pub fn pointers_of(machine: registers::Machine) -> [u16; 2] {
     [machine.frame_pointer(), machine.stack_pointer()]
 }
 
-/// Moves all frames of a thread or none, and gives the sum of their pointers. A refusal comes with the
-/// position of the frame to blame, if it is one frame.
+/// Whether a register can hold a pointer of a pair.
+pub fn is_slot(machine: registers::Machine, register: u16) -> bool {
+    self::machine(machine).is_slot(register)
+}
+
+/// Moves all frames of a thread or none, each with its own registers, and gives the sum of their pointers. A
+/// refusal comes with the position of the frame to blame, if it is one frame.
 pub fn relocate_thread(
     section: &[u8],
     image: &mut [u8],
@@ -105,12 +110,15 @@ pub fn relocate_thread(
     table: &Table,
     machine: registers::Machine,
     frames: &[Frame],
+    registers: &mut [Registers],
 ) -> Result<u64, (Refusal, Option<usize>)> {
     let (moves, machine) = (
         MoveTable::new(&table.old, &table.new),
         self::machine(machine),
     );
-    let pointers = treskibben::relocate_thread(section, image, first, moves, machine, frames);
+    let registers = registers.as_flattened_mut();
+    let pointers =
+        treskibben::relocate_thread(section, image, first, moves, machine, frames, registers);
     let told = |refusal: ThreadRefusal| {
         (
             treskibben::Refusal::from(refusal).into(),
@@ -121,7 +129,7 @@ pub fn relocate_thread(
 }
 
 /// The pair that a frame is refused by where it is moved by itself, which the refusal of a thread
-/// doesn't tell. The image stays as it is.
+/// doesn't tell. Image and registers stay as they are.
 pub fn pair_at_fault(
     section: &[u8],
     image: &[u8],
@@ -129,13 +137,15 @@ pub fn pair_at_fault(
     table: &Table,
     machine: registers::Machine,
     frame: Frame,
+    mut registers: Registers,
 ) -> Option<u64> {
     let (moves, machine) = (
         MoveTable::new(&table.old, &table.new),
         self::machine(machine),
     );
-    let image = &mut image.to_vec();
-    let refused = treskibben::relocate(section, image, first, moves, machine, frame).err()?;
+    let (image, registers) = (&mut image.to_vec(), &mut registers);
+    let moved = treskibben::relocate(section, image, first, moves, machine, frame, registers);
+    let refused = moved.err()?;
     matches!(refused.number(), 18..=21).then_some(refused.place())
 }
 

@@ -19,29 +19,46 @@ pub struct Entry<T> {
 }
 
 /// What the lines of a list look like.
-pub struct Form<T> {
+pub trait Form {
+    /// What a line says.
+    type Value: Default;
+
     /// The names of the words, as they are told where a line is bad.
-    pub names: &'static str,
-    /// How many words a line has.
-    pub words: usize,
+    fn names(&self) -> String;
+
     /// Takes a word to the line's value, by its number in the line, which may be any. Says why it is bad
     /// where it is.
-    pub take: fn(&mut T, usize, &[u8]) -> Result<(), String>,
+    fn take(&self, value: &mut Self::Value, nth: usize, word: &[u8]) -> Result<(), String>;
+
+    /// Says what is wrong with a line of so many words, each of which is taken, if it isn't whole.
+    fn whole(&self, value: &Self::Value, words: usize) -> Result<(), String>;
 }
 
-impl<const N: usize> Form<[u64; N]> {
-    /// Lines of `N` hexadecimal numbers with these names.
-    pub fn numbers(names: &'static str) -> Self {
-        Form {
-            names,
-            words: N,
-            take: |numbers, nth, word| {
-                let number = number(word)?;
-                if let Some(place) = numbers.get_mut(nth) {
-                    *place = number;
-                }
-                Ok(())
-            },
+/// Lines of `N` hexadecimal numbers with these names.
+pub struct Numbers<const N: usize>(pub &'static str);
+
+impl<const N: usize> Form for Numbers<N>
+where
+    [u64; N]: Default,
+{
+    type Value = [u64; N];
+
+    fn names(&self) -> String {
+        self.0.to_string()
+    }
+
+    fn take(&self, numbers: &mut [u64; N], nth: usize, word: &[u8]) -> Result<(), String> {
+        let number = number(word)?;
+        if let Some(place) = numbers.get_mut(nth) {
+            *place = number;
+        }
+        Ok(())
+    }
+
+    fn whole(&self, _: &[u64; N], words: usize) -> Result<(), String> {
+        match words {
+            words if words == N => Ok(()),
+            words => Err(count(words as u64, "word")),
         }
     }
 }
@@ -57,13 +74,9 @@ pub fn text(path: &Path) -> Result<Vec<u8>, Trouble> {
 }
 
 /// Reads a list whose lines look so.
-pub fn read<T: Default>(
-    path: &Path,
-    text: &[u8],
-    form: &Form<T>,
-) -> Result<Vec<Entry<T>>, Trouble> {
+pub fn read<F: Form>(path: &Path, text: &[u8], form: &F) -> Result<Vec<Entry<F::Value>>, Trouble> {
     let bad = |line: usize, why: String| {
-        let names = form.names;
+        let names = form.names();
         Trouble::line(path, line, format!("{why}; a line has the form {names}"))
     };
     let mut entries = Vec::new();
@@ -77,21 +90,20 @@ pub fn read<T: Default>(
 }
 
 /// The value of a line; nothing where it is blank, and why it is bad where it is.
-pub fn entry<T: Default>(line: &[u8], form: &Form<T>) -> Result<Option<T>, String> {
+pub fn entry<F: Form>(line: &[u8], form: &F) -> Result<Option<F::Value>, String> {
     let text = line.split(|&byte| byte == b'#').next().unwrap_or(line);
     let words = text
         .split(u8::is_ascii_whitespace)
         .filter(|word| !word.is_empty());
-    let mut value = T::default();
+    let mut value = F::Value::default();
     let mut length = 0;
     for word in words {
-        (form.take)(&mut value, length, word)?;
+        form.take(&mut value, length, word)?;
         length += 1;
     }
     match length {
         0 => Ok(None),
-        length if length == form.words => Ok(Some(value)),
-        length => Err(count(length as u64, "word")),
+        length => form.whole(&value, length).map(|()| Some(value)),
     }
 }
 
@@ -115,7 +127,7 @@ mod tests {
 
     #[test]
     fn lines() {
-        let good = |text: &str| entry(text.as_bytes(), &Form::<[u64; 2]>::numbers("")).unwrap();
+        let good = |text: &str| entry(text.as_bytes(), &Numbers::<2>("")).unwrap();
         for text in ["", "   ", "# 1 2", "\t#", "\r", "#"] {
             assert_eq!(good(text), None, "{text:?}");
         }
@@ -134,7 +146,7 @@ mod tests {
 
     #[test]
     fn bad_lines() {
-        let bad = |text: &[u8]| entry(text, &Form::<[u64; 2]>::numbers("")).unwrap_err();
+        let bad = |text: &[u8]| entry(text, &Numbers::<2>("")).unwrap_err();
         assert_eq!(bad(b"1"), "1 word");
         assert_eq!(bad(b"1 2 3"), "3 words");
         assert_eq!(bad(b"1 2 3 4 # 5"), "4 words");

@@ -11,6 +11,7 @@ mod commands;
 mod editions;
 mod files;
 mod flat;
+mod folder;
 mod found;
 mod frames;
 mod index;

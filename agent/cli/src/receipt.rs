@@ -29,11 +29,18 @@ pub struct Receipt {
     pub first: String,
     pub before: Entry,
     pub after: Entry,
+    /// The list of the frames after the move, where it stands beside the image.
+    #[serde(default, skip_serializing_if = "Option::is_none")]
+    pub frames_after: Option<Entry>,
     /// How many frames were moved, and how many pointers they have. Receipts from before pairs of several
     /// pointers name the pairs, each of which was one.
     pub moved_frames: u64,
     #[serde(alias = "moved_pairs")]
     pub moved_pointers: u64,
+    /// How many registers of the frames hold another number than before. Receipts from before pointers in
+    /// registers have none.
+    #[serde(default)]
+    pub moved_registers: u64,
 }
 
 /// A file by its name, its length and its digest.
@@ -78,6 +85,13 @@ impl Receipt {
     /// nothing makes none.
     pub fn made(&self, digest: &str) -> bool {
         self.after.sha256 == digest && self.before.sha256 != digest
+    }
+
+    /// Whether this is the receipt of the restore that made this list of frames, with registers that it
+    /// changed.
+    pub fn made_frames(&self, digest: &str) -> bool {
+        let made = self.frames_after.as_ref();
+        self.moved_registers > 0 && made.is_some_and(|made| made.sha256 == digest)
     }
 }
 

@@ -114,6 +114,23 @@ impl Machine {
         let name = numbered.next();
         name.unwrap_or_else(|| format!("register {number}"))
     }
+
+    /// The numbers of the registers that a frame brings: the general ones, and the stack pointer.
+    pub fn of_frames(self) -> std::ops::Range<u16> {
+        match self {
+            Machine::X86_64 => 0..16,
+            Machine::Aarch64 => 0..32,
+        }
+    }
+
+    /// The register of a frame that has this name, in whichever letters.
+    pub fn named(self, name: &[u8]) -> Option<u16> {
+        let is_it = |number: &u16| {
+            let own = self.register(*number);
+            own.as_bytes().eq_ignore_ascii_case(name)
+        };
+        self.of_frames().find(is_it)
+    }
 }
 
 #[cfg(test)]
@@ -136,6 +153,35 @@ mod tests {
                 assert_eq!(machine.register(number), pair[1]);
             }
         }
+    }
+
+    #[test]
+    fn registers_of_a_frame_by_their_names() {
+        for (machine, last) in [(Machine::X86_64, "R15"), (Machine::Aarch64, "SP")] {
+            let numbers = machine.of_frames();
+            assert_eq!(machine.register(numbers.end - 1), last);
+            for number in numbers {
+                let name = machine.register(number);
+                assert_eq!(machine.named(name.as_bytes()), Some(number));
+                let name = name.to_lowercase();
+                assert_eq!(machine.named(name.as_bytes()), Some(number));
+            }
+            for name in [
+                "",
+                "rip",
+                "PC",
+                "register 5",
+                "5",
+                "x32",
+                "r16",
+                "eax",
+                "xmm0",
+            ] {
+                assert_eq!(machine.named(name.as_bytes()), None, "{name}");
+            }
+        }
+        assert_eq!(Machine::X86_64.named(b"x0"), None);
+        assert_eq!(Machine::Aarch64.named(b"rbx"), None);
     }
 
     #[test]

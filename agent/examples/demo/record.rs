@@ -39,8 +39,8 @@ impl Place {
     /// The sample frame there.
     fn frame(&self) -> Frame {
         match *self {
-            Place::At(address) => Frame::new(address, STACK, STACK),
-            Place::In(function, offset) => Frame::in_function(function, offset, STACK, STACK),
+            Place::At(address) => Frame::new(address),
+            Place::In(function, offset) => Frame::in_function(function, offset),
         }
     }
 }
@@ -129,7 +129,8 @@ pub fn moved(section: &[u8], place: &Place, table: &Moved) -> Result<String, Ref
     let mut image = SLOTS.map(u64::to_le_bytes).concat();
     let moves = MoveTable::new(&table[..1], &table[1..]);
     let (machine, frame) = (Machine::Amd64, place.frame());
-    let pointers = treskibben::relocate(section, &mut image, STACK, moves, machine, frame)?;
+    let lent = &mut machine.registers(STACK, STACK);
+    let pointers = treskibben::relocate(section, &mut image, STACK, moves, machine, frame, lent)?;
     let mut text =
         format!("{pointers} pointers moved, as the object at {old:#x} is at {new:#x} now");
     for (nth, (before, after)) in SLOTS.iter().zip(image.chunks_exact(8)).enumerate() {

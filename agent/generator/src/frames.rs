@@ -1,14 +1,16 @@
-//! Stopped frames: sections with statepoints, the image of a stack with frames on it, and a move
-//! table. In version 1 a frame names its function, and has its offset in place of the address; the
-//! records then stand in any order, whatever that of the functions is. A scene is made whole, so that every frame of it is accepted; [`faults`] aims at the
-//! refusals of a frame, [`guests`] adds frames that share bytes with others, and [`plain`] says how a
-//! frame is answered and what becomes of the image. [`thread`] makes lists of frames.
+//! Stopped frames: sections with statepoints, the image of a stack with frames on it, the registers
+//! of each frame, and a move table. In version 1 a frame names its function, and has its offset in
+//! place of the address; the records then stand in any order, whatever that of the functions is. A
+//! scene is made whole, so that every frame of it is accepted; [`faults`] aims at the refusals of a
+//! frame, [`guests`] adds frames that share bytes with others, and [`plain`] says how a frame is
+//! answered and what becomes of the image and of the registers. [`thread`] makes lists of frames.
 
 mod building;
 mod cells;
 pub mod faults;
 mod functions;
 pub mod guests;
+mod machines;
 pub mod plain;
 mod pool;
 mod table;
@@ -17,6 +19,7 @@ pub mod thread;
 use crate::layout::{Section, Version};
 use crate::questions::addresses;
 use crate::rng::Rng;
+pub use machines::{registers, slot_registers, MACHINES};
 use pool::Pool;
 pub use table::Table;
 
@@ -29,29 +32,35 @@ pub const MOST_POINTERS: usize = 256;
 /// The most frames of a thread.
 pub const MOST_FRAMES: usize = 4_096;
 
-/// The numbers of the machines, AMD64 and AArch64, each with the DWARF numbers of its frame pointer and its
-/// stack pointer.
-pub const MACHINES: [(u64, [u16; 2]); 2] = [(0, [6, 7]), (1, [29, 31])];
-
-/// The DWARF numbers of frame pointer and stack pointer of the machine with this number.
-pub fn registers(machine: u64) -> [u16; 2] {
-    let own = MACHINES.iter().find(|(number, _)| *number == machine);
-    own.expect("a machine").1
-}
+/// How many numbers the list of a frame's registers has.
+pub const REGISTERS: usize = 32;
 
 /// A frame, and where its statepoint stands in the section.
 #[derive(Clone, Copy, Debug, PartialEq, Eq)]
 pub struct Stop {
     /// The address of its record; in version 1 the offset.
     pub address: u64,
-    pub frame_pointer: u64,
-    pub stack_pointer: u64,
+    /// What its registers hold, by DWARF number, frame pointer and stack pointer among them.
+    pub registers: [u64; REGISTERS],
+    /// How many numbers the list of registers has that is lent where the frame is moved alone: 32, or
+    /// it is refused by 25.
+    pub listed: usize,
     /// The number of its record, and that of its function.
     pub record: usize,
     pub function: usize,
     /// The function number that is handed in: in version 1 that of its function, and in version 3,
     /// which doesn't read it, any.
     pub named: u64,
+}
+
+impl Stop {
+    /// The list of registers that is lent where the frame is moved alone: the first ones, or all and
+    /// more behind them, which are like the last.
+    pub fn lent(&self) -> Vec<u64> {
+        let mut list = self.registers.to_vec();
+        list.resize(self.listed, self.registers[REGISTERS - 1]);
+        list
+    }
 }
 
 /// Frames on a stack.
@@ -68,15 +77,21 @@ pub struct Scene {
     pub stops: Vec<Stop>,
 }
 
-/// How large a frame is: how many slots it has, and how many pointers its pairs have, null pairs one
-/// each.
+/// How large a frame is: how many slots it has on the stack and how many in registers, as far as its
+/// machine has so many, and how many pointers its pairs have, null pairs one each.
 #[derive(Clone, Copy, Debug)]
 pub struct Size {
     pub cells: usize,
+    pub registers: usize,
     pub pointers: usize,
-    /// Whether the slots stand one after the other and all hold bases, so that a pair of version 3 finds
-    /// room for many pointers.
+    /// Whether the slots on the stack stand one after the other and all hold bases, so that a pair of
+    /// version 3 finds room for many pointers.
     pub wide: bool,
+}
+
+/// How many slots a frame has in registers: often none, mostly a few, now and then all.
+fn in_registers(rng: &mut Rng) -> usize {
+    rng.pick(&[0, 0, 0, 1, 1, 2, 3, 5, 14, REGISTERS])
 }
 
 impl Size {
@@ -92,6 +107,7 @@ impl Size {
         };
         Size {
             cells,
+            registers: in_registers(rng),
             pointers,
             wide: rng.one_in(4),
         }
@@ -109,6 +125,7 @@ impl Size {
         };
         Size {
             cells,
+            registers: in_registers(rng),
             pointers,
             wide: true,
         }
@@ -118,6 +135,7 @@ impl Size {
     pub fn few(rng: &mut Rng) -> Size {
         Size {
             cells: rng.pick(&[0, 1, 1, 2, 3, 4, 6, 9]),
+            registers: in_registers(rng),
             pointers: rng.below(10),
             wide: rng.one_in(4),
         }
@@ -182,17 +200,41 @@ impl Scene {
         }
     }
 
-    /// The place of a frame's first byte in the image, as a whole number.
-    pub(crate) fn start(&self, stop: usize) -> i128 {
-        i128::from(self.stops[stop].stack_pointer) - i128::from(self.first)
+    /// What the frame pointer of a frame holds.
+    pub fn frame_pointer(&self, stop: usize) -> u64 {
+        let [of_frame, _] = registers(self.machine);
+        self.stops[stop].registers[usize::from(of_frame)]
     }
 
-    /// The constants of the section, its version, and the machine's registers.
+    /// What the stack pointer of a frame holds.
+    pub fn stack_pointer(&self, stop: usize) -> u64 {
+        let [_, of_stack] = registers(self.machine);
+        self.stops[stop].registers[usize::from(of_stack)]
+    }
+
+    /// Sets the frame pointer of a frame.
+    pub fn set_frame_pointer(&mut self, stop: usize, content: u64) {
+        let [of_frame, _] = registers(self.machine);
+        self.stops[stop].registers[usize::from(of_frame)] = content;
+    }
+
+    /// Sets the stack pointer of a frame.
+    pub fn set_stack_pointer(&mut self, stop: usize, content: u64) {
+        let [_, of_stack] = registers(self.machine);
+        self.stops[stop].registers[usize::from(of_stack)] = content;
+    }
+
+    /// The place of a frame's first byte in the image, as a whole number.
+    pub(crate) fn start(&self, stop: usize) -> i128 {
+        i128::from(self.stack_pointer(stop)) - i128::from(self.first)
+    }
+
+    /// The constants of the section, its version, and the machine.
     pub(crate) fn pool(&self) -> Pool<'_> {
         Pool {
             version: self.section.version,
             constants: &self.section.constants,
-            registers: registers(self.machine),
+            machine: self.machine,
         }
     }
 
@@ -206,25 +248,6 @@ impl Scene {
         };
         let function = handed_in.and_then(|named| functions.get(named));
         function.unwrap_or(&functions[own.function]).stack_size
-    }
-
-    /// The same frames on the other machine: its frame pointer stands in every location where this one's
-    /// did, and its stack pointer likewise, and the other way round. All is answered as before.
-    pub fn on_other_machine(&self) -> Scene {
-        let mut scene = self.clone();
-        faults::other_machine(&mut scene);
-        let (own, other) = (registers(self.machine), registers(scene.machine));
-        let exchanged = |register: u16| {
-            let both = own.into_iter().zip(other);
-            let mut both = both.flat_map(|(one, two)| [(one, two), (two, one)]);
-            let found = both.find(|(from, _)| *from == register);
-            found.map_or(register, |(_, to)| to)
-        };
-        let records = scene.section.records.iter_mut();
-        for location in records.flat_map(|record| &mut record.locations) {
-            location.register = exchanged(location.register);
-        }
-        scene
     }
 
     /// The section with the pairs of every statepoint in another order.
@@ -251,3 +274,7 @@ pub fn shuffle<T>(rng: &mut Rng, items: &mut [T]) {
 
 #[cfg(test)]
 mod tests;
+#[cfg(test)]
+mod tests_registers;
+#[cfg(test)]
+mod tests_shapes;

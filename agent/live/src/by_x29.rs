@@ -58,9 +58,7 @@ fn above_sp(section: &Section, number: usize, memory: &dyn Memory) -> i32 {
     // SAFETY: the map says that a function of the program is there, and each has more bytes.
     unsafe { memory.read(function.address, &mut code) };
     let saved = prologue::saved(Machine::Aarch64, &code);
-    let below = saved
-        .return_address
-        .expect("a function that calls saves x30")
-        + 8;
+    let return_address = saved.return_address();
+    let below = return_address.expect("a function that calls saves x30") + 8;
     i32::try_from(function.stack_size - below).expect("frames are small")
 }

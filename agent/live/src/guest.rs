@@ -1,7 +1,7 @@
 //! A program for AArch64, which runs under qemu-aarch64 and is led through a pipe to it and one from
 //! it. `llvm/live/guest.c` is the other end, and says what the messages are.
 
-use crate::library::Frame;
+use crate::frames::Deepest;
 use crate::memory::Memory;
 use crate::system::{OTHER_FAULT, RETIRED_FAULT};
 use std::cell::RefCell;
@@ -51,7 +51,7 @@ struct Pipes {
 /// What a program that runs comes to.
 pub(crate) enum Told {
     /// It was stopped.
-    Stopped(Frame),
+    Stopped(Deepest),
     /// It came to its end, with this checksum.
     Ended(u64),
 }
@@ -97,7 +97,11 @@ impl Guest {
         let mut pipes = self.pipes.borrow_mut();
         pipes.ask(asked, &[]);
         match pipes.told() {
-            [STOPPED, address, fp, sp] => Told::Stopped(Frame::new(address, fp, sp)),
+            [STOPPED, address, saved, stack_pointer] => Told::Stopped(Deepest {
+                address,
+                stack_pointer,
+                saved,
+            }),
             [ENDED, checksum, _, _] => {
                 let status = pipes.child.wait().expect("it can be waited for");
                 assert!(status.success(), "{EMULATOR}: {status}");

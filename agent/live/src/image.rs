@@ -16,7 +16,8 @@ impl Image {
     ///
     /// # Safety
     ///
-    /// The bytes belong to frames of the program that wait for a call to return.
+    /// The bytes belong to frames of the program that wait for a call to return, or to the stop that they
+    /// wait for.
     pub unsafe fn take(memory: &dyn Memory, first: u64, end: u64) -> Image {
         let length = usize::try_from(end - first).expect("the end is above the first byte");
         let mut bytes = vec![0; length];
@@ -31,7 +32,8 @@ impl Image {
     /// # Safety
     ///
     /// As for [`Image::take`]; and the image differs from the stack only in slots that the
-    /// compiler expects to change during the calls that the frames wait for.
+    /// compiler expects to change during the calls that the frames wait for, and in the words from which
+    /// such slots are taken up again that are registers.
     pub unsafe fn put_back(&self, memory: &dyn Memory) {
         // SAFETY: as in `take`, and the caller's.
         unsafe { memory.write(self.first, &self.bytes) };

@@ -5,13 +5,13 @@
 
 use crate::heap::Table;
 use crate::image::Image;
-use treskibben::{Frames, MoveTable};
+use treskibben::{Frame, Frames, MoveTable};
 
 /// The machine that a program runs on.
 pub use treskibben::Machine;
 
-/// A stopped frame. The maps are of version 3, which reads no function of it.
-pub use treskibben::Frame;
+/// The registers of a stopped frame, by DWARF number.
+pub use treskibben::Registers;
 
 /// A refusal: its number and its place.
 pub type Refusal = (u64, u64);
@@ -77,17 +77,19 @@ pub fn location(map: &[u8], record: u64, number: u64) -> Result<Location, Refusa
     })
 }
 
-/// The library's move of one frame: its number of pointers.
+/// The library's move of one frame, by its address and its registers: its number of pointers.
 pub fn relocate(
     map: &[u8],
     image: &mut Image,
     table: &Table,
     machine: Machine,
-    frame: Frame,
+    address: u64,
+    registers: &mut Registers,
 ) -> Result<u64, Refusal> {
     let Image { first, bytes } = image;
     let table = MoveTable::new(&table.old, &table.new);
-    let moved = treskibben::relocate(map, bytes, *first, table, machine, frame);
+    let frame = Frame::new(address);
+    let moved = treskibben::relocate(map, bytes, *first, table, machine, frame, registers);
     let pointers = moved.map_err(plain)?;
     Ok(pointers as u64)
 }
@@ -98,11 +100,13 @@ pub fn thread(
     image: &mut Image,
     table: &Table,
     machine: Machine,
-    frames: &[Frame],
+    addresses: &[u64],
+    registers: &mut [Registers],
 ) -> Result<u64, Refusal> {
     let Image { first, bytes } = image;
     let table = MoveTable::new(&table.old, &table.new);
-    let moved = treskibben::relocate_thread(map, bytes, *first, table, machine, frames);
+    let (list, registers) = (frames(addresses), registers.as_flattened_mut());
+    let moved = treskibben::relocate_thread(map, bytes, *first, table, machine, &list, registers);
     let pointers = moved.map_err(|refusal| plain(refusal.into()))?;
     Ok(pointers as u64)
 }
@@ -113,13 +117,21 @@ pub fn second_thread(
     image: &mut Image,
     table: &Table,
     machine: Machine,
-    frames: &[Frame],
+    addresses: &[u64],
+    registers: &mut [Registers],
 ) -> Result<u64, Refusal> {
     let Image { first, bytes } = image;
-    let list = Frames::new(frames).numbers();
     let Table { old, new } = table;
-    let moved = reference::thread(map, bytes, *first, old, new, machine.number(), list);
+    let (frames, registers) = (frames(addresses), registers.as_flattened_mut());
+    let list = Frames::new(&frames).numbers();
+    let machine = machine.number();
+    let moved = reference::thread(map, bytes, *first, old, new, machine, list, registers);
     moved.map_err(second_plain)
+}
+
+/// Frames at these addresses. The maps are of version 3, which reads no function of a frame.
+fn frames(addresses: &[u64]) -> Vec<Frame> {
+    addresses.iter().copied().map(Frame::new).collect()
 }
 
 fn plain(refusal: treskibben::Refusal) -> Refusal {

@@ -1,9 +1,9 @@
 //! Shows a live restore to people, or does one run for the tests.
 //!
-//! `live [PROGRAM]` stops a program (O0, O0-fp, O2, O2-fp, each also with `vectors-`, `aarch64-` or
-//! `aarch64-vectors-` before it), moves its heap and its frames, and prints what it does. `live brief
-//! PROGRAM` stops it once, with the move and without, and says in a few lines how both end; exit
-//! status 0 where they end as they should, else 1.
+//! `live [PROGRAM]` stops a program (O0, O0-fp, O2, O2-fp, each also with `registers-` before it, with
+//! `vectors-` before that, and with `aarch64-` before all), moves its heap and its frames, and prints what
+//! it does. `live brief PROGRAM` stops it once, with the move and without, and says in a few lines how both
+//! end; exit status 0 where they end as they should, else 1.
 //!
 //! `live run PROGRAM MOVER STOPS` does one run and prints its counts. STOPS is `all`, or the
 //! number of one stop. Exit status: 0 where the checksum is that of a run without any stop, 1 where
@@ -60,7 +60,7 @@ fn one_run(program: &str, mover: &str, stops: &str) -> Option<ExitCode> {
         return Some(ExitCode::from(1));
     }
     if let Some(Err(trouble)) = moved.stops.iter().find(|stop| stop.is_err()) {
-        println!("{}", report::trouble(*trouble));
+        println!("{}", report::trouble(trouble));
         return Some(ExitCode::from(3));
     }
     let kept = moved

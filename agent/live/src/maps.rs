@@ -23,6 +23,8 @@ pub enum Place {
     /// The memory at a register (DWARF number) plus an offset, and how many pointers are there, one
     /// after another.
     Memory(u16, i32, u16),
+    /// A register (DWARF number) that holds one pointer itself.
+    Register(u16),
     /// Anything else, which a move refuses.
     Other,
 }
@@ -123,6 +125,7 @@ fn location(map: &[u8], record: u64, number: u64) -> Option<Location> {
 fn place(location: Location) -> Place {
     match (location.kind, location.size) {
         (4 | 5, _) => Place::Constant(location.constant),
+        (1, POINTER) if location.offset == 0 => Place::Register(location.register),
         (3, size) if size > 0 && size % POINTER == 0 => {
             Place::Memory(location.register, location.offset, size / POINTER)
         }

@@ -19,7 +19,8 @@ pub trait Memory {
     /// # Safety
     ///
     /// The bytes are of a mapping that is not retired, of frames of the program that wait for a
-    /// call to return, or of the program's code; and none of them is among `bytes`.
+    /// call to return or of the stop that they wait for, or of the program's code; and none of them is
+    /// among `bytes`.
     unsafe fn read(&self, first: u64, bytes: &mut [u8]);
 
     /// Writes the bytes from an address on.
@@ -27,7 +28,8 @@ pub trait Memory {
     /// # Safety
     ///
     /// As for [`Memory::read`], but no code; and of frames nothing changes but slots that the
-    /// compiler expects to change during the calls that the frames wait for.
+    /// compiler expects to change during the calls that the frames wait for, and the words from which
+    /// such slots are taken up again that are registers.
     unsafe fn write(&self, first: u64, bytes: &[u8]);
 }
 

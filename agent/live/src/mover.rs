@@ -6,7 +6,10 @@
 use crate::frames::Stopped;
 use crate::heap::{Object, Table};
 use crate::image::Image;
-use crate::library::{self, Frame, Machine, Refusal};
+use crate::library::{self, Machine, Refusal, Registers};
+use crate::maps::Site;
+use crate::state::State;
+use crate::wrong;
 use std::collections::BTreeSet;
 
 /// Who moves the frames.
@@ -16,6 +19,8 @@ pub enum Mover {
     Library,
     /// The library, from the uppermost frame down: the order must not count.
     Backwards,
+    /// The library, each frame in a call of its own.
+    Singly,
     /// The second implementation.
     Second,
     /// The library, with a table in which the first object is missing.
@@ -38,10 +43,19 @@ pub enum Mover {
     InTurn,
     /// Finds the object by the derived pointer.
     ByDerived,
+    /// Moves all, and leaves the registers as they were.
+    RegistersLeft,
+    /// Takes the registers at the stop for those of every frame.
+    StopRegisters,
 }
 
 /// The movers that do it right.
-pub const RIGHT: [Mover; 3] = [Mover::Library, Mover::Backwards, Mover::Second];
+pub const RIGHT: [Mover; 4] = [
+    Mover::Library,
+    Mover::Backwards,
+    Mover::Singly,
+    Mover::Second,
+];
 
 /// The movers that are refused.
 pub const REFUSED: [Mover; 3] = [Mover::ShortTable, Mover::Twice, Mover::OtherMachine];
@@ -63,11 +77,19 @@ pub const FATAL_TO_VECTORS: Mover = Mover::FirstPointer;
 /// The mover that makes wrong pointers where a pair has several.
 pub const WRONG_FOR_VECTORS: Mover = Mover::Falling;
 
+/// The mover that leaves old pointers where one is in a register.
+pub const FATAL_TO_REGISTERS: Mover = Mover::RegistersLeft;
+
+/// The mover that is right only where no frame saves a register that one above has a pointer in.
+pub const WRONG_FOR_REGISTERS: Mover = Mover::StopRegisters;
+
 /// A refused frame: its number in the walk, and the refusal.
-#[derive(Clone, Copy, Debug, PartialEq, Eq)]
+#[derive(Clone, Debug)]
 pub struct RefusedFrame {
     /// The frame, counted from the deepest.
     pub frame: usize,
+    /// What the maps say of it.
+    pub site: Site,
     /// Number and place; of a list, the place is the frame's position among those of its map.
     pub refusal: Refusal,
 }
@@ -77,7 +99,8 @@ impl Mover {
     pub fn named(name: &str) -> Option<Mover> {
         let all = RIGHT.into_iter().chain(FATAL).chain(REFUSED);
         let vectors = [FATAL_TO_VECTORS, WRONG_FOR_VECTORS];
-        let mut all = all.chain([WRONG]).chain(vectors);
+        let registers = [FATAL_TO_REGISTERS, WRONG_FOR_REGISTERS];
+        let mut all = all.chain([WRONG]).chain(vectors).chain(registers);
         all.find(|mover| mover.name() == name)
     }
 
@@ -86,6 +109,7 @@ impl Mover {
         match self {
             Mover::Library => "library",
             Mover::Backwards => "backwards",
+            Mover::Singly => "singly",
             Mover::Second => "second",
             Mover::ShortTable => "short-table",
             Mover::Twice => "twice",
@@ -97,14 +121,16 @@ impl Mover {
             Mover::FirstFrame => "first-frame",
             Mover::InTurn => "in-turn",
             Mover::ByDerived => "by-derived",
+            Mover::RegistersLeft => "registers-left",
+            Mover::StopRegisters => "stop-registers",
         }
     }
 
-    /// Moves the frames on the image, and gives the number of their pointers. After a refusal the
-    /// image is to be thrown away.
+    /// Moves the frames, and gives the number of their pointers. After a refusal the state is to be thrown
+    /// away.
     pub fn apply(
         self,
-        image: &mut Image,
+        state: &mut State,
         frames: &[Stopped],
         table: &Table,
         objects: &[Object],
@@ -113,48 +139,55 @@ impl Mover {
         let backwards = || all.iter().rev().copied().collect::<Vec<usize>>();
         let twice = || [&all[..], &all[..1]].concat();
         match self {
-            Mover::Library => by_map(library::thread, image, frames, &all, table),
-            Mover::Backwards => by_map(library::thread, image, frames, &backwards(), table),
-            Mover::Second => by_map(library::second_thread, image, frames, &all, table),
+            Mover::Library => by_map(library::thread, state, frames, &all, table),
+            Mover::Backwards => by_map(library::thread, state, frames, &backwards(), table),
+            Mover::Second => by_map(library::second_thread, state, frames, &all, table),
             Mover::ShortTable => {
-                by_map(library::thread, image, frames, &all, &table.without_first())
+                by_map(library::thread, state, frames, &all, &table.without_first())
             }
-            Mover::Twice => by_map(library::thread, image, frames, &twice(), table),
-            Mover::OtherMachine => by_map(of_the_other, image, frames, &all, table),
-            _ => one_by_one(frames, |frame, stopped| match self {
-                Mover::PairZero => some(image, stopped, table, |pair, _| pair == 0),
-                Mover::FirstPointer => some(image, stopped, table, |_, pointer| pointer == 0),
-                Mover::Falling => Ok(falling(image, stopped, table)),
-                Mover::InTurn => Ok(in_turn(image, stopped, table)),
-                Mover::ByDerived => Ok(by_derived(image, stopped, table, objects)),
-                Mover::FirstFrame if frame == 0 => relocate(image, stopped, table),
-                _ => Ok(stopped.pointer_count()),
+            Mover::Twice => by_map(library::thread, state, frames, &twice(), table),
+            Mover::OtherMachine => by_map(of_the_other, state, frames, &all, table),
+            _ => one_by_one(frames, |at| match self {
+                Mover::Singly => singly(state, at, table),
+                Mover::PairZero => wrong::some(state, at, table, |pair, _| pair == 0),
+                Mover::FirstPointer => wrong::some(state, at, table, |_, pointer| pointer == 0),
+                Mover::Falling => Ok(wrong::falling(state, at, table)),
+                Mover::InTurn => Ok(wrong::in_turn(state, at, table)),
+                Mover::ByDerived => Ok(wrong::by_derived(state, at, table, objects)),
+                Mover::RegistersLeft => wrong::registers_left(state, at, table),
+                Mover::StopRegisters => {
+                    wrong::stop_registers(state, &frames[0].registers, at, table)
+                }
+                Mover::FirstFrame if at.0 == 0 => singly(state, at, table),
+                _ => Ok(at.1.pointer_count()),
             }),
         }
     }
 }
 
-/// A move of all frames of a list by the map that they are in.
-type Thread = fn(&[u8], &mut Image, &Table, Machine, &[Frame]) -> Result<u64, Refusal>;
+/// A move of all frames of a list by the map that they are in: their addresses, and their registers.
+type Thread =
+    fn(&[u8], &mut Image, &Table, Machine, &[u64], &mut [Registers]) -> Result<u64, Refusal>;
 
 fn of_the_other(
     map: &[u8],
     image: &mut Image,
     table: &Table,
     machine: Machine,
-    frames: &[Frame],
+    addresses: &[u64],
+    registers: &mut [Registers],
 ) -> Result<u64, Refusal> {
     let other = match machine {
         Machine::Amd64 => Machine::Aarch64,
         Machine::Aarch64 => Machine::Amd64,
     };
-    library::thread(map, image, table, other, frames)
+    library::thread(map, image, table, other, addresses, registers)
 }
 
 /// Moves the frames of each map in one call, in this order.
 fn by_map(
     thread: Thread,
-    image: &mut Image,
+    state: &mut State,
     frames: &[Stopped],
     order: &[usize],
     table: &Table,
@@ -164,87 +197,56 @@ fn by_map(
     for map in maps {
         let in_map = |frame: &usize| frames[*frame].site.map == map;
         let own: Vec<usize> = order.iter().copied().filter(in_map).collect();
-        let list: Vec<Frame> = own.iter().map(|frame| frames[*frame].frame).collect();
+        let addresses: Vec<u64> = own.iter().map(|frame| frames[*frame].address).collect();
+        let mut registers: Vec<Registers> =
+            own.iter().map(|frame| state.registers[*frame]).collect();
         let Stopped { machine, site, .. } = &frames[own[0]];
-        let moved = thread(site.bytes, image, table, *machine, &list);
-        pointers += moved.map_err(|refusal| RefusedFrame {
-            frame: own[refusal.1 as usize],
-            refusal,
-        })?;
+        let image = &mut state.image;
+        let moved = thread(
+            site.bytes,
+            image,
+            table,
+            *machine,
+            &addresses,
+            &mut registers,
+        );
+        pointers += moved.map_err(|refusal| refused(frames, own[refusal.1 as usize], refusal))?;
+        for (frame, registers) in own.into_iter().zip(registers) {
+            state.registers[frame] = registers;
+        }
     }
     Ok(pointers)
 }
 
+/// A frame, and its number in the walk.
+pub(crate) type At<'a> = (usize, &'a Stopped);
+
 /// Moves the frames one after the other.
 fn one_by_one(
     frames: &[Stopped],
-    mut moved: impl FnMut(usize, &Stopped) -> Result<u64, Refusal>,
+    mut moved: impl FnMut(At) -> Result<u64, Refusal>,
 ) -> Result<u64, RefusedFrame> {
     let numbered = frames.iter().enumerate();
-    let pointers = numbered.map(|(frame, stopped)| {
-        moved(frame, stopped).map_err(|refusal| RefusedFrame { frame, refusal })
-    });
+    let pointers = numbered.map(|at| moved(at).map_err(|refusal| refused(frames, at.0, refusal)));
     pointers.sum()
 }
 
-fn relocate(image: &mut Image, stopped: &Stopped, table: &Table) -> Result<u64, Refusal> {
-    let Stopped { machine, site, .. } = stopped;
-    library::relocate(site.bytes, image, table, *machine, stopped.frame)
-}
-
-/// Moves a frame, and writes only the pointers for which it is said, by the number of the pair and
-/// by the pointer's number in it.
-fn some(
-    image: &mut Image,
-    stopped: &Stopped,
+/// Moves one frame by the library.
+pub(crate) fn singly(
+    state: &mut State,
+    (frame, stopped): At,
     table: &Table,
-    written: fn(usize, usize) -> bool,
 ) -> Result<u64, Refusal> {
-    let mut moved = image.clone();
-    let count = relocate(&mut moved, stopped, table)?;
-    for (number, &pair) in stopped.site.pairs.iter().enumerate() {
-        for (pointer, [_, derived]) in stopped.slots(pair).into_iter().enumerate() {
-            if written(number, pointer) {
-                image.set(derived, moved.word(derived));
-            }
-        }
-    }
-    Ok(count)
+    let Stopped { machine, site, .. } = stopped;
+    let State { image, registers } = state;
+    let own = &mut registers[frame];
+    library::relocate(site.bytes, image, table, *machine, stopped.address, own)
 }
 
-fn falling(image: &mut Image, stopped: &Stopped, table: &Table) -> u64 {
-    let old = image.clone();
-    for &pair in &stopped.site.pairs {
-        let slots = stopped.slots(pair);
-        for ([base, _], [_, derived]) in slots.iter().rev().zip(&slots) {
-            let start = old.word(*base);
-            let new = table.moved(start).unwrap_or(start);
-            let pointer = old.word(*derived);
-            image.set(*derived, pointer.wrapping_add(new).wrapping_sub(start));
-        }
+fn refused(frames: &[Stopped], frame: usize, refusal: Refusal) -> RefusedFrame {
+    RefusedFrame {
+        frame,
+        site: frames[frame].site.clone(),
+        refusal,
     }
-    stopped.pointer_count()
-}
-
-fn in_turn(image: &mut Image, stopped: &Stopped, table: &Table) -> u64 {
-    for [base, derived] in stopped.all_slots() {
-        let old = image.word(base);
-        let new = table.moved(old).unwrap_or(old);
-        let pointer = image.word(derived);
-        image.set(derived, pointer.wrapping_add(new).wrapping_sub(old));
-    }
-    stopped.pointer_count()
-}
-
-fn by_derived(image: &mut Image, stopped: &Stopped, table: &Table, objects: &[Object]) -> u64 {
-    let old = image.clone();
-    for [_, derived] in stopped.all_slots() {
-        let pointer = old.word(derived);
-        let inside =
-            |object: &&Object| (object.start..object.start + object.length).contains(&pointer);
-        let start = objects.iter().find(inside).map_or(0, |object| object.start);
-        let new = table.moved(start).expect("objects are in the table");
-        image.set(derived, pointer.wrapping_add(new).wrapping_sub(start));
-    }
-    stopped.pointer_count()
 }

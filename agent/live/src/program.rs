@@ -17,6 +17,15 @@ extern "C" {
     fn live_vectors_O0_fp(root: u64, seed: u64) -> u64;
     fn live_vectors_O2(root: u64, seed: u64) -> u64;
     fn live_vectors_O2_fp(root: u64, seed: u64) -> u64;
+    fn live_run_registers_O0(root: u64, seed: u64) -> u64;
+    fn live_run_registers_O0_fp(root: u64, seed: u64) -> u64;
+    fn live_run_registers_O2(root: u64, seed: u64) -> u64;
+    fn live_run_registers_O2_fp(root: u64, seed: u64) -> u64;
+    fn live_run_few_registers_O2_fp(root: u64, seed: u64) -> u64;
+    fn live_vectors_registers_O0(root: u64, seed: u64) -> u64;
+    fn live_vectors_registers_O0_fp(root: u64, seed: u64) -> u64;
+    fn live_vectors_registers_O2(root: u64, seed: u64) -> u64;
+    fn live_vectors_registers_O2_fp(root: u64, seed: u64) -> u64;
     static live_maps_begin: u8;
     static live_maps_end: u8;
 }
@@ -109,10 +118,46 @@ const O2_PUSHED: How = (
     "-O2, without frame pointers and without -no-x86-call-frame-opt",
     false,
 );
+const O0_3: How = (
+    "-O0, without frame pointers, up to 3 pointers a call in registers",
+    false,
+);
+const O0_FP_3: How = (
+    "-O0, with frame pointers, up to 3 pointers a call in registers",
+    true,
+);
+const O2_8: How = (
+    "-O2, without frame pointers, up to 8 pointers a call in registers",
+    false,
+);
+const O2_FP_8: How = (
+    "-O2, with frame pointers, up to 8 pointers a call in registers",
+    true,
+);
+const O2_FP_3: How = (
+    "-O2, with frame pointers, up to 3 pointers a call in registers",
+    true,
+);
 const AARCH64_O0: How = ("for AArch64 at -O0, without frame pointers", false);
 const AARCH64_O0_FP: How = ("for AArch64 at -O0, with frame pointers", true);
 const AARCH64_O2: How = ("for AArch64 at -O2, without frame pointers", false);
 const AARCH64_O2_FP: How = ("for AArch64 at -O2, with frame pointers", true);
+const AARCH64_O0_3: How = (
+    "for AArch64 at -O0, without frame pointers, up to 3 pointers a call in registers",
+    false,
+);
+const AARCH64_O0_FP_3: How = (
+    "for AArch64 at -O0, with frame pointers, up to 3 pointers a call in registers",
+    true,
+);
+const AARCH64_O2_8: How = (
+    "for AArch64 at -O2, without frame pointers, up to 8 pointers a call in registers",
+    false,
+);
+const AARCH64_O2_FP_8: How = (
+    "for AArch64 at -O2, with frame pointers, up to 8 pointers a call in registers",
+    true,
+);
 const AARCH64_O0_X29: How = ("for AArch64 at -O0, with slots at frame pointers", true);
 const AARCH64_O2_X29: How = ("for AArch64 at -O2, with slots at frame pointers", true);
 
@@ -132,11 +177,43 @@ pub static VECTORS: [Program; 4] = [
     Program::here("vectors-O2-fp", O2_FP, live_vectors_O2_fp),
 ];
 
+/// The programs that walk objects, with up to 3 or 8 pointers of each statepoint in registers.
+pub static REGISTERS: [Program; 4] = [
+    Program::here("registers-O0", O0_3, live_run_registers_O0),
+    Program::here("registers-O0-fp", O0_FP_3, live_run_registers_O0_fp),
+    Program::here("registers-O2-fp", O2_FP_8, live_run_registers_O2_fp),
+    Program::here("few-registers-O2-fp", O2_FP_3, live_run_few_registers_O2_fp),
+];
+
+/// The programs with vectors, in which one object of the uppermost frame is in a register.
+pub static REGISTERS_VECTORS: [Program; 4] = [
+    Program::here("vectors-registers-O0", O0_3, live_vectors_registers_O0),
+    Program::here(
+        "vectors-registers-O0-fp",
+        O0_FP_3,
+        live_vectors_registers_O0_fp,
+    ),
+    Program::here("vectors-registers-O2", O2_8, live_vectors_registers_O2),
+    Program::here(
+        "vectors-registers-O2-fp",
+        O2_FP_8,
+        live_vectors_registers_O2_fp,
+    ),
+];
+
+/// The program in which RBP is no frame pointer and holds a pointer: it must not be moved.
+pub static IN_RBP: Program = Program::here("registers-O2", O2_8, live_run_registers_O2);
+
 /// The files for AArch64, beside each of which its section lies.
 const FILE_O0: &str = concat!(env!("OUT_DIR"), "/guest.O0");
 const FILE_O0_FP: &str = concat!(env!("OUT_DIR"), "/guest.O0_fp");
 const FILE_O2: &str = concat!(env!("OUT_DIR"), "/guest.O2");
 const FILE_O2_FP: &str = concat!(env!("OUT_DIR"), "/guest.O2_fp");
+
+const FILE_REGISTERS_O0: &str = concat!(env!("OUT_DIR"), "/guest.registers_O0");
+const FILE_REGISTERS_O0_FP: &str = concat!(env!("OUT_DIR"), "/guest.registers_O0_fp");
+const FILE_REGISTERS_O2: &str = concat!(env!("OUT_DIR"), "/guest.registers_O2");
+const FILE_REGISTERS_O2_FP: &str = concat!(env!("OUT_DIR"), "/guest.registers_O2_fp");
 
 /// The programs that walk objects, for AArch64.
 pub static AARCH64: [Program; 4] = [
@@ -163,6 +240,52 @@ pub static AARCH64_BY_X29: [Program; 4] = [
     Program::guest("aarch64-vectors-O2-fp-x29", AARCH64_O2_X29, FILE_O2_FP, 1).by_x29(),
 ];
 
+/// The programs that walk objects, for AArch64, with up to 3 or 8 pointers of each statepoint in registers.
+pub static AARCH64_REGISTERS: [Program; 4] = [
+    Program::guest("aarch64-registers-O0", AARCH64_O0_3, FILE_REGISTERS_O0, 0),
+    Program::guest(
+        "aarch64-registers-O0-fp",
+        AARCH64_O0_FP_3,
+        FILE_REGISTERS_O0_FP,
+        0,
+    ),
+    Program::guest("aarch64-registers-O2", AARCH64_O2_8, FILE_REGISTERS_O2, 0),
+    Program::guest(
+        "aarch64-registers-O2-fp",
+        AARCH64_O2_FP_8,
+        FILE_REGISTERS_O2_FP,
+        0,
+    ),
+];
+
+/// The programs with vectors, for AArch64, in which one object of the uppermost frame is in a register.
+pub static AARCH64_REGISTERS_VECTORS: [Program; 4] = [
+    Program::guest(
+        "aarch64-vectors-registers-O0",
+        AARCH64_O0_3,
+        FILE_REGISTERS_O0,
+        1,
+    ),
+    Program::guest(
+        "aarch64-vectors-registers-O0-fp",
+        AARCH64_O0_FP_3,
+        FILE_REGISTERS_O0_FP,
+        1,
+    ),
+    Program::guest(
+        "aarch64-vectors-registers-O2",
+        AARCH64_O2_8,
+        FILE_REGISTERS_O2,
+        1,
+    ),
+    Program::guest(
+        "aarch64-vectors-registers-O2-fp",
+        AARCH64_O2_FP_8,
+        FILE_REGISTERS_O2_FP,
+        1,
+    ),
+];
+
 /// The program whose calls push their arguments: the stack size of such a function leaves the
 /// pushed bytes out, so that the frames above cannot be found by it and the program must not be
 /// moved.
@@ -170,7 +293,7 @@ pub static PUSHED: Program = Program::here("O2-pushed", O2_PUSHED, live_run_O2_p
 
 /// How many maps the section of the programs of this machine has: of those that walk objects each is
 /// two objects, of those with vectors one.
-pub const MAPS: usize = 14;
+pub const MAPS: usize = 28;
 
 /// How many maps a section for AArch64 has: one file is both programs.
 pub const GUEST_MAPS: usize = 3;
@@ -210,7 +333,11 @@ impl Program {
             .chain(&AARCH64)
             .chain(&AARCH64_VECTORS)
             .chain(&AARCH64_BY_X29)
-            .chain([&PUSHED])
+            .chain(&REGISTERS)
+            .chain(&REGISTERS_VECTORS)
+            .chain(&AARCH64_REGISTERS)
+            .chain(&AARCH64_REGISTERS_VECTORS)
+            .chain([&PUSHED, &IN_RBP])
             .find(|program| program.name == name)
     }
 

@@ -3,13 +3,34 @@
 use crate::library::Machine;
 
 /// What a function saves.
-#[derive(Clone, Copy, Debug, Default, PartialEq, Eq)]
+#[derive(Clone, Debug, Default, PartialEq, Eq)]
 pub struct Saved {
-    /// How many registers, the frame pointer and the return address not counted.
-    pub registers: usize,
+    /// The general registers by DWARF number, each with how far below the end of the frame it stands.
+    pub general: Vec<(u16, u64)>,
+    /// How many others.
+    pub others: usize,
+}
+
+impl Saved {
+    /// How far below the end of the frame a register stands, where it is saved.
+    pub fn place(&self, register: u16) -> Option<u64> {
+        let mut saved = self.general.iter();
+        let found = saved.find(|(number, _)| *number == register);
+        found.map(|(_, below)| *below)
+    }
+
     /// How far below the end of the frame the return address stands. On AMD64 nothing: there the
     /// call puts it above the frame.
-    pub return_address: Option<u64>,
+    pub fn return_address(&self) -> Option<u64> {
+        self.place(LR)
+    }
+
+    /// How many registers are saved, the frame pointer and the return address not counted.
+    pub fn count(&self) -> usize {
+        let counted = |number: &u16| ![RBP, FP, LR].contains(number);
+        let general = self.general.iter().map(|(number, _)| number);
+        general.filter(|number| counted(number)).count() + self.others
+    }
 }
 
 /// How many bytes of code are looked at. Every function of ours has more.
@@ -23,35 +44,41 @@ pub fn length(machine: Machine) -> usize {
 /// What the function saves that begins with this code.
 pub fn saved(machine: Machine, code: &[u8]) -> Saved {
     match machine {
-        Machine::Amd64 => Saved {
-            registers: pushed(code),
-            return_address: None,
-        },
+        Machine::Amd64 => pushed(code),
         Machine::Aarch64 => stored(code),
     }
 }
 
-/// How many registers other than RBP are pushed.
-fn pushed(code: &[u8]) -> usize {
-    let mut saved = 0;
+/// The DWARF numbers of RBX, RBP and R12.
+const RBX: u16 = 3;
+const RBP: u16 = 6;
+const R12: u16 = 12;
+
+/// The registers that are pushed, one below the other from the end of the frame on.
+fn pushed(code: &[u8]) -> Saved {
+    let mut saved = Saved::default();
     let mut rest = code;
     loop {
-        rest = match rest {
-            [0x55, rest @ ..] => rest,             // push rbp
-            [0x48, 0x89, 0xe5, rest @ ..] => rest, // mov rbp, rsp
-            [0x53, rest @ ..] | [0x41, 0x54..=0x57, rest @ ..] => {
-                saved += 1; // push rbx, r12 to r15
-                rest
+        let (register, after) = match rest {
+            [0x48, 0x89, 0xe5, after @ ..] => {
+                rest = after; // mov rbp, rsp
+                continue;
             }
+            [0x55, after @ ..] => (RBP, after),
+            [0x53, after @ ..] => (RBX, after),
+            [0x41, code @ 0x54..=0x57, after @ ..] => (R12 + u16::from(code - 0x54), after),
             _ => return saved,
         };
+        let depth = 8 * (saved.general.len() as u64 + 1);
+        saved.general.push((register, depth));
+        rest = after;
     }
 }
 
-/// The numbers of x29, x30 and sp in AArch64's instructions.
-const FP: u32 = 29;
-const LR: u32 = 30;
-const SP: u32 = 31;
+/// The numbers of x29, x30 and sp, the same in AArch64's instructions and in DWARF.
+const FP: u16 = 29;
+const LR: u16 = 30;
+const SP: u16 = 31;
 
 /// One of the first instructions of a function for AArch64.
 enum First {
@@ -61,10 +88,10 @@ enum First {
     SetsFramePointer,
     /// `str` or `stp` of registers that a callee has to keep: the general ones, and how many others;
     /// where they go from sp; and whether sp is set to that place first.
-    Stores([Option<u32>; 2], usize, i64, bool),
+    Stores([Option<u16>; 2], usize, i64, bool),
 }
 
-/// What is stored, and where the return address is among it.
+/// What is stored, and where.
 fn stored(code: &[u8]) -> Saved {
     let mut saved = Saved::default();
     let mut depth = 0_u64; // how far sp is below the end of the frame
@@ -78,13 +105,10 @@ fn stored(code: &[u8]) -> Saved {
                     depth = depth.wrapping_sub(at as u64);
                     at = 0;
                 }
-                saved.registers += others;
+                saved.others += others;
                 for (register, at) in general.into_iter().zip([at, at + 8]) {
-                    match register {
-                        Some(LR) => saved.return_address = Some(depth.wrapping_sub(at as u64)),
-                        Some(FP) | None => {}
-                        Some(_) => saved.registers += 1,
-                    }
+                    let below = depth.wrapping_sub(at as u64);
+                    saved.general.extend(register.map(|number| (number, below)));
                 }
             }
             None => break,
@@ -96,10 +120,11 @@ fn stored(code: &[u8]) -> Saved {
 /// An instruction, where it is one of those.
 fn first(code: u32) -> Option<First> {
     let field = |from: u32, bits: u32| (code >> from) & ((1 << bits) - 1);
+    let register = |from: u32| field(from, 5) as u16;
     let signed =
         |from: u32, bits: u32| i64::from((code << (32 - from - bits)) as i32 >> (32 - bits));
     let immediate = u64::from(field(10, 12)) << (12 * field(22, 1));
-    match (code & 0xFF80_0000, field(0, 5), field(5, 5)) {
+    match (code & 0xFF80_0000, register(0), register(5)) {
         (0xD100_0000, SP, SP) => return Some(First::Lowers(immediate)),
         (0x9100_0000, FP, SP) => return Some(First::SetsFramePointer),
         _ => {}
@@ -116,13 +141,13 @@ fn first(code: u32) -> Option<First> {
         (_, 0xFC00_0C00) => (false, false, signed(12, 9), true),
         _ => return None,
     };
-    let registers = [Some(field(0, 5)), pair.then(|| field(10, 5))];
+    let registers = [Some(register(0)), pair.then(|| register(10))];
     let kept = if general { 19..=LR } else { 8..=15 };
     let all_kept = registers
         .iter()
         .flatten()
         .all(|register| kept.contains(register));
-    if field(5, 5) != SP || !all_kept {
+    if register(5) != SP || !all_kept {
         return None;
     }
     let others = if general {
@@ -144,10 +169,11 @@ mod tests {
     }
 
     #[test]
-    fn the_return_address_is_found_where_it_is_stored() {
+    fn registers_are_found_where_they_are_stored() {
         // sub sp, sp, #80; stp x30, x21, [sp, #48]; stp x20, x19, [sp, #64]; ldr x8, [x0]
         let saved = aarch64(&[0xD101_43FF, 0xA903_57FE, 0xA904_4FF4, 0xF940_0008]);
-        assert_eq!((saved.registers, saved.return_address), (3, Some(32)));
+        assert_eq!(saved.general, [(30, 32), (21, 24), (20, 16), (19, 8)]);
+        assert_eq!((saved.count(), saved.return_address()), (3, Some(32)));
         // sub sp, sp, #48; stp x29, x30, [sp, #16]; add x29, sp, #16; str x19, [sp, #32]; str x1, [sp, #8]
         let saved = aarch64(&[
             0xD100_C3FF,
@@ -156,24 +182,27 @@ mod tests {
             0xF900_13F3,
             0xF900_07E1,
         ]);
-        assert_eq!((saved.registers, saved.return_address), (1, Some(24)));
+        assert_eq!(saved.general, [(29, 32), (30, 24), (19, 16)]);
+        assert_eq!((saved.count(), saved.return_address()), (1, Some(24)));
         // stp d15, d14, [sp, #-80]!; stp x29, x30, [sp, #64]; sub sp, sp, #3, lsl #12
         let saved = aarch64(&[0x6DBB_3BEF, 0xA904_7BFD, 0xD140_0FFF]);
-        assert_eq!((saved.registers, saved.return_address), (2, Some(8)));
+        assert_eq!(saved.general, [(29, 16), (30, 8)]);
+        assert_eq!((saved.count(), saved.return_address()), (2, Some(8)));
         // str x30, [sp, #-16]!; bl
         let saved = aarch64(&[0xF81F_0FFE, 0x9400_0000]);
-        assert_eq!((saved.registers, saved.return_address), (0, Some(16)));
+        assert_eq!((saved.count(), saved.return_address()), (0, Some(16)));
         // A leaf saves nothing: add x8, x0, x1, lsl #3
         assert_eq!(aarch64(&[0x8B01_0C08]), Saved::default());
     }
 
     #[test]
-    fn pushed_registers_are_counted() {
-        // push rbp; mov rbp, rsp; push r15; push rbx; sub rsp, 24
+    fn registers_are_found_where_they_are_pushed() {
+        // push rbp; mov rbp, rsp; push r15; push r12; push rbx; push rax
         let code = [
-            0x55, 0x48, 0x89, 0xe5, 0x41, 0x57, 0x53, 0x48, 0x83, 0xec, 0x18,
+            0x55, 0x48, 0x89, 0xe5, 0x41, 0x57, 0x41, 0x54, 0x53, 0x50, 0x48,
         ];
         let saved = saved(Machine::Amd64, &code);
-        assert_eq!((saved.registers, saved.return_address), (2, None));
+        assert_eq!(saved.general, [(6, 8), (15, 16), (12, 24), (3, 32)]);
+        assert_eq!((saved.count(), saved.return_address()), (3, None));
     }
 }

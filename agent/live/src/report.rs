@@ -2,12 +2,12 @@
 
 use live::frames::Stopped;
 use live::guest::DIED;
-use live::image::Image;
 use live::library::Machine;
 use live::maps::Place;
 use live::mover::{Mover, FATAL, WRONG};
 use live::program::{function, Program};
 use live::run::{maps, run, Stop, Stops, Trouble};
+use live::state::State;
 use std::io::Write;
 use std::process::{Command, ExitCode, Output};
 
@@ -15,7 +15,7 @@ use std::process::{Command, ExitCode, Output};
 const SHOWN: usize = 4;
 
 /// Why nothing was moved.
-pub fn trouble(trouble: Trouble) -> String {
+pub fn trouble(trouble: &Trouble) -> String {
     match trouble {
         Trouble::Lost(lost) => format!(
             "lost after {} frames: no record at {:#x}",
@@ -42,7 +42,7 @@ pub fn show(name: &str) -> Option<ExitCode> {
     for stop in &moved.stops {
         match stop {
             Ok(stop) => show_stop(stop),
-            Err(why) => println!("\nnothing moved: {}", trouble(*why)),
+            Err(why) => println!("\nnothing moved: {}", trouble(why)),
         }
     }
     let right = plain.checksum == moved.checksum;
@@ -75,7 +75,7 @@ pub fn brief(name: &str) -> Option<ExitCode> {
     let right = moved.checksum == plain.checksum;
     let told = match moved.stops.first() {
         Some(Ok(stop)) => tell_stop(stop),
-        Some(Err(why)) => format!("Nothing was moved: {}.\n", trouble(*why)),
+        Some(Err(why)) => format!("Nothing was moved: {}.\n", trouble(why)),
         None => "It ended without a stop.\n".to_string(),
     };
     let result = if right {
@@ -110,17 +110,18 @@ fn tell_stop(stop: &Stop) -> String {
         names.join(" > "),
         stop.pointers
     );
-    let pairs = stop.frames.iter().flat_map(|stopped| {
+    let pairs = stop.frames.iter().enumerate().flat_map(|(frame, stopped)| {
         let slots = stopped.all_slots();
-        slots.map(move |slots| (name_of(stopped), slots))
+        slots.map(move |slots| (frame, slots))
     });
-    let mut inside = pairs.filter_map(|(name, [base, derived])| {
-        let [start, pointer] = [base, derived].map(|slot| stop.before.word(slot));
+    let mut inside = pairs.filter_map(|(frame, slots)| {
+        let [start, pointer] = slots.map(|slot| stop.before.content(frame, slot));
         let distance = pointer.checked_sub(start)?;
-        (start != 0 && distance != 0).then_some((name, derived, distance))
+        (start != 0 && distance != 0).then_some((frame, slots[1], distance))
     });
-    if let Some((name, slot, distance)) = inside.next() {
-        let [old, new] = [&stop.before, &stop.after].map(|image| image.word(slot));
+    if let Some((frame, slot, distance)) = inside.next() {
+        let [old, new] = [&stop.before, &stop.after].map(|state| state.content(frame, slot));
+        let name = name_of(&stop.frames[frame]);
         text += &format!(
             " One of `{name}`'s is\n  {old:#x} -> {new:#x}, {distance} bytes into its object"
         );
@@ -162,15 +163,15 @@ fn show_stop(stop: &Stop) {
         println!(
             "  frame {number}: {}, {} {:#x}, size {}, {} pairs, {} pointers",
             function(stopped.site.id),
-            names(stopped.machine)[1],
-            stopped.frame.stack_pointer,
+            register_name(stopped.machine, stopped.machine.stack_pointer()),
+            stopped.stack_pointer(),
             stopped.site.stack_size,
             stopped.site.pairs.len(),
             stopped.pointer_count(),
         );
         if stop.number == 0 {
             for &pair in &stopped.site.pairs {
-                show_pair(stop, stopped, pair);
+                show_pair(stop, number, pair);
             }
         }
     }
@@ -188,15 +189,17 @@ fn show_starts(heap: &str, starts: &[u64]) {
 
 /// Shows a pair: its places, and each derived pointer before and after. Of many pointers only the
 /// first ones.
-fn show_pair(stop: &Stop, stopped: &Stopped, pair: [Place; 2]) {
+fn show_pair(stop: &Stop, frame: usize, pair: [Place; 2]) {
+    let stopped = &stop.frames[frame];
     let [base, derived] = pair.map(|of_pair| place(stopped.machine, of_pair));
     let slots = stopped.slots(pair);
     if slots.is_empty() {
         println!("    {base:>7} {derived:>7}  null");
     }
     for (number, [base_at, derived_at]) in slots.iter().take(SHOWN).enumerate() {
-        let pointer = |image: &Image| image.word(*derived_at);
-        let from_base = pointer(&stop.before).wrapping_sub(stop.before.word(*base_at)) as i64;
+        let pointer = |state: &State| state.content(frame, *derived_at);
+        let old_base = stop.before.content(frame, *base_at);
+        let from_base = pointer(&stop.before).wrapping_sub(old_base) as i64;
         let (base, derived) = match number {
             0 => (&base[..], &derived[..]),
             _ => ("", ""),
@@ -212,22 +215,31 @@ fn show_pair(stop: &Stop, stopped: &Stopped, pair: [Place; 2]) {
     }
 }
 
-/// The names of a machine's frame pointer and of its stack pointer.
-fn names(machine: Machine) -> [&'static str; 2] {
-    match machine {
-        Machine::Amd64 => ["RBP", "RSP"],
-        Machine::Aarch64 => ["x29", "sp"],
-    }
+/// The names of AMD64's registers, by DWARF number.
+const AMD64: [&str; 16] = [
+    "RAX", "RDX", "RCX", "RBX", "RSI", "RDI", "RBP", "RSP", "R8", "R9", "R10", "R11", "R12", "R13",
+    "R14", "R15",
+];
+
+/// The name of a register.
+fn register_name(machine: Machine, register: u16) -> String {
+    let known = match machine {
+        Machine::Amd64 => AMD64
+            .get(usize::from(register))
+            .map(|name| name.to_string()),
+        Machine::Aarch64 if register == machine.stack_pointer() => Some("sp".to_string()),
+        Machine::Aarch64 => (register < 31).then(|| format!("x{register}")),
+    };
+    known.unwrap_or_else(|| format!("R#{register}"))
 }
 
 fn place(machine: Machine, place: Place) -> String {
-    let [by_frame_pointer, by_stack_pointer] = names(machine);
     match place {
         Place::Constant(constant) => constant.to_string(),
-        Place::Memory(register, offset, _) if register == machine.frame_pointer() => {
-            format!("{by_frame_pointer}{offset:+}")
+        Place::Memory(register, offset, _) => {
+            format!("{}{offset:+}", register_name(machine, register))
         }
-        Place::Memory(_, offset, _) => format!("{by_stack_pointer}{offset:+}"),
+        Place::Register(register) => register_name(machine, register),
         Place::Other => "?".to_string(),
     }
 }

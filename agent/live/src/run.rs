@@ -1,16 +1,17 @@
 //! One run of a program: stopped, moved and let go on, or only counted.
 
-use crate::frames::{Lost, Stopped, Thread};
+use crate::frames::{Deepest, Lost, Stopped, Thread};
 use crate::guest::{Guest, Told};
 use crate::heap::{Heap, Object, Table};
 use crate::image::Image;
-use crate::library::Frame;
 use crate::maps::Maps;
 use crate::memory::Memory;
 use crate::mover::{Mover, RefusedFrame};
 use crate::program::{Code, Program};
+use crate::state::{Slot, State};
 use crate::stop;
 use crate::system::Own;
+use std::collections::BTreeSet;
 use std::rc::Rc;
 
 /// The number that takes part in the checksum; odd, so that `choose` takes its first object.
@@ -37,43 +38,75 @@ pub struct Stop {
     pub objects: Vec<Object>,
     /// Where they went.
     pub table: Table,
-    /// The stack before.
-    pub before: Image,
-    /// The stack after.
-    pub after: Image,
+    /// The stack and all registers before.
+    pub before: State,
+    /// The stack and all registers after. In this stack the registers are not written back yet.
+    pub after: State,
     /// The number of pointers of all frames.
     pub pointers: u64,
 }
 
 impl Stop {
-    /// The slots of all pointers of all frames, base first.
-    fn slots(&self) -> impl Iterator<Item = [u64; 2]> + '_ {
-        self.frames.iter().flat_map(Stopped::all_slots)
+    /// The slots of all pointers of all frames, base first, each with its frame.
+    fn slots(&self) -> impl Iterator<Item = (usize, [Slot; 2])> + '_ {
+        let numbered = self.frames.iter().enumerate();
+        numbered.flat_map(|(frame, at)| at.all_slots().map(move |slots| (frame, slots)))
     }
 
     fn assert_only_derived_slots_changed(&self) {
         let mut rest = self.after.clone();
-        for [_, derived] in self.slots() {
-            rest.set(derived, self.before.word(derived));
+        for (frame, [_, derived]) in self.slots() {
+            rest.set(frame, derived, self.before.content(frame, derived));
         }
-        assert_eq!(rest, self.before, "bytes outside the derived slots");
+        assert_eq!(rest, self.before, "what is no derived slot");
     }
 
     /// Whether each derived slot is its old content plus the new start of its old base minus that
     /// old base.
     pub fn keeps_the_rule(&self) -> bool {
-        self.slots().all(|[base, derived]| {
-            let old_base = self.before.word(base);
+        self.slots().all(|(frame, [base, derived])| {
+            let old_base = self.before.content(frame, base);
             let new_base = self.table.moved(old_base);
-            let old = self.before.word(derived);
+            let old = self.before.content(frame, derived);
             let new = new_base.map(|new| old.wrapping_add(new).wrapping_sub(old_base));
-            new == Some(self.after.word(derived))
+            new == Some(self.after.content(frame, derived))
         })
+    }
+
+    /// The stack with the registers that are slots written back to where they are kept, which is where
+    /// their frames take them up when their calls return.
+    ///
+    /// Frames can have one home of a register between them, but no more than one of them can have a
+    /// pointer in it: who uses a register saves it, so that those above have another home. And no slot in
+    /// memory is a home: a compiler spills its pointers elsewhere. Both are asserted, because a move knows
+    /// nothing of homes.
+    fn written_back(&self) -> Image {
+        let mut stack = self.after.image.clone();
+        let mut taken: BTreeSet<u64> = BTreeSet::new();
+        for (_, slots) in self.slots() {
+            let memory = |slot| match slot {
+                Slot::Memory(address) => Some(address),
+                Slot::Register(_) => None,
+            };
+            taken.extend(slots.into_iter().filter_map(memory));
+        }
+        for (frame, stopped) in self.frames.iter().enumerate() {
+            let own: BTreeSet<u16> = stopped.register_slots().collect();
+            for register in own {
+                let home = stopped.homes.of(register);
+                let home = home.expect("a register that a callee has to keep");
+                let mut near = taken.range(home - 7..home + 8);
+                assert_eq!(near.next(), None, "slots that share a byte with {home:#x}");
+                taken.insert(home);
+                stack.set(home, self.after.content(frame, Slot::Register(register)));
+            }
+        }
+        stack
     }
 }
 
 /// Why nothing was moved at a stop. The program runs on as if it had not been stopped.
-#[derive(Clone, Copy, Debug, PartialEq, Eq)]
+#[derive(Clone, Debug)]
 pub enum Trouble {
     /// The frames could not all be found.
     Lost(Lost),
@@ -176,7 +209,7 @@ impl Running {
     /// # Safety
     ///
     /// The frame is of the program, which waits until this returns.
-    pub(crate) unsafe fn stopped(&mut self, deepest: Frame) {
+    pub(crate) unsafe fn stopped(&mut self, deepest: Deepest) {
         let number = self.passed;
         self.passed += 1;
         if self.at == Stops::All || self.at == Stops::Only(number) {
@@ -191,7 +224,7 @@ impl Running {
     /// # Safety
     ///
     /// As for `stopped`.
-    unsafe fn restore(&mut self, number: usize, deepest: Frame) -> Result<Stop, Trouble> {
+    unsafe fn restore(&mut self, number: usize, deepest: Deepest) -> Result<Stop, Trouble> {
         let thread = Thread {
             machine: self.program.machine,
             memory: &*self.memory,
@@ -203,10 +236,14 @@ impl Running {
         // program, and `top` is in those.
         let walked = unsafe { thread.walk(&self.maps, deepest) };
         let frames = walked.map_err(Trouble::Lost)?;
-        let first = deepest.stack_pointer;
+        // From the registers that the stop saved, which are below all frames, to the end of the uppermost.
+        let first = deepest.saved;
         let end = frames.iter().map(Stopped::end).max().unwrap_or(first);
-        // SAFETY: all these bytes are of the frames that were found, which wait.
-        let before = unsafe { Image::take(&*self.memory, first, end) };
+        let before = State {
+            // SAFETY: all these bytes are of the stop and of the frames that were found, which wait.
+            image: unsafe { Image::take(&*self.memory, first, end) },
+            registers: frames.iter().map(|stopped| stopped.registers).collect(),
+        };
         let objects = self.heap.objects().to_vec();
         let (new, table) = self.heap.copy();
         let mut after = before.clone();
@@ -224,10 +261,11 @@ impl Running {
             pointers,
         };
         stop.assert_only_derived_slots_changed();
+        let stack = stop.written_back();
         std::mem::replace(&mut self.heap, new).retire();
-        // SAFETY: as for `take`; nothing but derived slots has changed, which the program reads
-        // again after the calls.
-        unsafe { stop.after.put_back(&*self.memory) };
+        // SAFETY: as for `take`; nothing but derived slots has changed, and the words from which those that
+        // are registers are taken up again. The program reads all of them again after the calls.
+        unsafe { stack.put_back(&*self.memory) };
         Ok(stop)
     }
 }

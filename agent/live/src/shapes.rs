@@ -6,6 +6,7 @@ use crate::heap::Object;
 use crate::maps::Place;
 use crate::program::function;
 use crate::run::Stop;
+use crate::state::Slot;
 use std::collections::BTreeSet;
 
 /// How often each shape occurs, by name.
@@ -45,10 +46,11 @@ impl Shapes {
         self.add("functions", names.len());
         self.add("frames-of-recursion", stop.frames.len() - names.len());
         self.add("maps", maps.len());
-        for stopped in &stop.frames {
+        for (number, stopped) in stop.frames.iter().enumerate() {
             self.add_frame(stopped);
+            self.add_registers(stop, number);
             for &pair in &stopped.site.pairs {
-                self.add_pair(stop, stopped, pair);
+                self.add_pair(stop, number, pair);
             }
         }
     }
@@ -72,11 +74,28 @@ impl Shapes {
             usize::from(stopped.uses_frame_pointer()),
         );
         self.add("deopt-values", stopped.site.deopt as usize);
-        self.add("saved-registers", stopped.saved.registers);
+        self.add("saved-registers", stopped.saved.count());
     }
 
-    fn add_pair(&mut self, stop: &Stop, stopped: &Stopped, pair: [Place; 2]) {
-        let slots = stopped.slots(pair);
+    /// Where the registers are kept that are slots of a frame.
+    fn add_registers(&mut self, stop: &Stop, number: usize) {
+        let (below, rest) = stop.frames.split_at(number);
+        let own: BTreeSet<u16> = rest[0].register_slots().collect();
+        for register in own {
+            let home = rest[0].homes.of(register).unwrap_or(0);
+            let of = |stopped: &Stopped| (stopped.stack_pointer()..stopped.end()).contains(&home);
+            let name = match below.iter().rposition(of) {
+                None if number == 0 => "registers-at-the-stop",
+                Some(frame) if frame + 1 == number => "registers-in-the-callee",
+                None => "registers-through-to-the-stop",
+                Some(_) => "registers-through-frames",
+            };
+            self.add(name, 1);
+        }
+    }
+
+    fn add_pair(&mut self, stop: &Stop, frame: usize, pair: [Place; 2]) {
+        let slots = stop.frames[frame].slots(pair);
         if slots.is_empty() {
             let null = pair == [Place::Constant(0); 2];
             self.add(if null { "null-pair" } else { "other-pair" }, 1);
@@ -84,16 +103,28 @@ impl Shapes {
         self.add("pairs-of-several", usize::from(slots.len() > 1));
         self.add("pairs-of-256", usize::from(slots.len() == 256));
         for slots in slots {
-            self.add_pointer(stop, slots);
+            self.add_pointer(stop, frame, slots);
         }
     }
 
-    fn add_pointer(&mut self, stop: &Stop, [base, derived]: [u64; 2]) {
-        let (old_base, old) = (stop.before.word(base), stop.before.word(derived));
+    fn add_pointer(&mut self, stop: &Stop, frame: usize, slots: [Slot; 2]) {
+        self.add(mix_of(slots), 1);
+        let [old_base, old] = slots.map(|slot| stop.before.content(frame, slot));
         let object = stop.objects.iter().find(|object| object.start == old_base);
         self.add(shape_of(object, old_base, old), 1);
-        let moved = stop.after.word(derived).wrapping_sub(old);
+        let moved = stop.after.content(frame, slots[1]).wrapping_sub(old);
         self.add("slots-moved", usize::from(moved != 0));
+    }
+}
+
+/// Where base and derived are.
+fn mix_of(slots: [Slot; 2]) -> &'static str {
+    match slots {
+        [Slot::Memory(_), Slot::Memory(_)] => "memory-from-memory",
+        [Slot::Memory(_), Slot::Register(_)] => "register-from-memory",
+        [Slot::Register(_), Slot::Memory(_)] => "memory-from-register",
+        [Slot::Register(base), Slot::Register(derived)] if base == derived => "register-itself",
+        [Slot::Register(_), Slot::Register(_)] => "register-from-another",
     }
 }
 

@@ -1,28 +1,17 @@
 //! The two ends of a stopped program's stack: the function that calls it, and the function that
 //! it calls and which stops it.
 
-use crate::library::Frame;
+use crate::frames::Deepest;
+use crate::memory::word;
 use crate::program::Entry;
 use crate::run::Running;
+use crate::system::Own;
 use std::arch::global_asm;
 use std::cell::RefCell;
 
 thread_local! {
     /// The run that is under way on this thread; the stopped program knows nothing of it.
     static RUNNING: RefCell<Option<Running>> = const { RefCell::new(None) };
-}
-
-/// What `live_stop` leaves on the stack: the callee-saved registers, last pushed first, and the
-/// return address that the call put there.
-#[repr(C)]
-struct Saved {
-    r15: u64,
-    r14: u64,
-    r13: u64,
-    r12: u64,
-    rbx: u64,
-    rbp: u64,
-    return_address: u64,
 }
 
 extern "C" {
@@ -45,9 +34,10 @@ global_asm!(
     ".size live_enter, . - live_enter",
 );
 
-// The registers that a callee has to keep are saved, so that RBP of the caller can be seen; the
-// others are the caller's to save. RSP of the caller, as it is when the call has returned, is
-// above the return address. The stack is aligned to 16 bytes at the call.
+// The registers that a callee has to keep are saved, in the order that `Homes` has from the last one pushed
+// on, and taken up again from where they were saved: who writes there changes the caller's registers. The
+// others are the caller's to save. RSP of the caller, as it is when the call has returned, is above the
+// return address. The stack is aligned to 16 bytes at the call.
 global_asm!(
     ".globl live_stop",
     ".type live_stop, @function",
@@ -75,17 +65,17 @@ global_asm!(
 );
 
 /// Called by `live_stop`. A panic in here ends the process, as it must not pass the program.
-extern "C" fn stopped(saved: *const Saved, rsp: u64) {
-    // SAFETY: `live_stop` hands over where it saved the registers, and waits.
-    let Saved {
-        return_address,
-        rbp,
-        ..
-    } = unsafe { saved.read() };
-    let deepest = Frame::new(return_address, rbp, rsp);
+extern "C" fn stopped(saved: u64, stack_pointer: u64) {
+    let return_address = stack_pointer - 8;
+    let deepest = Deepest {
+        // SAFETY: the call of `live_stop` put the word there, and `live_stop` waits.
+        address: unsafe { word(&Own, return_address) },
+        stack_pointer,
+        saved,
+    };
     RUNNING.with_borrow_mut(|running| {
         let running = running.as_mut().expect("a run is under way");
-        // SAFETY: the frame is the one that called `live_stop`, and waits until it returns.
+        // SAFETY: the frame is the one that called `live_stop`, and both wait until it returns.
         unsafe { running.stopped(deepest) };
     });
 }

@@ -53,7 +53,7 @@ fn moved_programs_come_to_the_checksum_of_the_other_machine() {
     }
 }
 
-/// A base that the table lacks, a frame that is named twice, and registers of the other machine: nothing is
+/// A base that the table lacks, a frame that is named twice, and frames of the other machine: nothing is
 /// written, and the program runs on unharmed.
 #[test]
 fn a_refused_restore_leaves_all_as_it_was() {
@@ -72,7 +72,7 @@ fn a_refused_restore_leaves_all_as_it_was() {
             program.name
         );
         assert!(
-            other_machine.starts_with("refused 18 at 0, "),
+            other_machine.starts_with("refused 16 at 0, "),
             "{}: {other_machine}",
             program.name
         );

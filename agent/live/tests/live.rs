@@ -43,10 +43,11 @@ fn a_refused_restore_leaves_all_as_it_was() {
         twice.assert_unmoved();
         assert!(twice.last.starts_with("refused 26 at "), "{twice}");
         assert!(twice.last.ends_with(", frame 0"), "{twice}");
-        // The other machine has other registers. The first frame of the first map is `descend`'s deepest.
+        // The other machine's stack pointer is another register, and leads nowhere. The first frame of the first
+        // map is `descend`'s deepest.
         other_machine.assert_unmoved();
         assert_eq!(
-            other_machine.last, "refused 18 at 0, frame 2",
+            other_machine.last, "refused 16 at 0, frame 2",
             "{other_machine}"
         );
     }
@@ -117,7 +118,7 @@ fn a_refused_restore_of_vectors_leaves_all_as_it_was() {
         assert_eq!(twice.last, "refused 26 at 4, frame 0", "{twice}");
         other_machine.assert_unmoved();
         assert_eq!(
-            other_machine.last, "refused 18 at 0, frame 0",
+            other_machine.last, "refused 16 at 0, frame 0",
             "{other_machine}"
         );
     }

@@ -1,7 +1,8 @@
 //! Sections, frames and random numbers that the tests share.
 
 use crate::editions::AMD64;
-use crate::relocate::{relocate, Frame};
+use crate::machine::Machine;
+use crate::relocate::{extent, relocate, Frame, REGISTERS};
 use crate::section::{encode, write, Function, LiveOut, Location, Record, RecordData, Version};
 use crate::Refusal;
 
@@ -137,6 +138,17 @@ pub(crate) fn rbp(offset: i32) -> Location {
     location(3, 8, 6, offset)
 }
 
+/// A register of this number.
+pub(crate) fn register(number: u16) -> Location {
+    location(1, 8, number, 0)
+}
+
+/// Registers of which each holds something else, and no address that a test
+/// uses.
+pub(crate) fn noise() -> Vec<u64> {
+    (0..REGISTERS as u64).map(|nth| 0xBAD_0000 + nth).collect()
+}
+
 /// A constant of kind 4.
 pub(crate) fn small(value: i32) -> Location {
     location(4, 8, 0, value)
@@ -183,6 +195,7 @@ pub(crate) struct Move {
     pub(crate) new_starts: Vec<u64>,
     pub(crate) machine: u64,
     pub(crate) frame: Frame,
+    pub(crate) registers: Vec<u64>,
 }
 
 impl Move {
@@ -197,11 +210,11 @@ impl Move {
             machine: AMD64,
             frame: Frame {
                 address: 0x1020,
-                frame_pointer: 0,
-                stack_pointer: 0x7000,
                 function: 0,
             },
+            registers: noise(),
         };
+        row.set_pointers(0, 0x7000);
         row.set(8, 0x50000);
         row.set(16, 0x54E20);
         row
@@ -225,6 +238,48 @@ impl Move {
         }
     }
 
+    /// Puts this frame on another machine: its two pointers hold what this
+    /// one's did, which hold something else from then on.
+    pub(crate) fn on(mut self, machine: u64) -> Move {
+        let [frame_pointer, stack_pointer] = self.pointers().map(|own| self.registers[own]);
+        for own in self.pointers() {
+            self.registers[own] = 0xBAD_0000 + own as u64;
+        }
+        self.machine = machine;
+        self.set_pointers(frame_pointer, stack_pointer);
+        self
+    }
+
+    /// The numbers of the machine's frame pointer and stack pointer.
+    fn pointers(&self) -> [usize; 2] {
+        let machine = Machine::of_number(self.machine).unwrap();
+        [machine.frame_pointer(), machine.stack_pointer()].map(usize::from)
+    }
+
+    /// Sets the machine's frame pointer and stack pointer.
+    pub(crate) fn set_pointers(&mut self, frame_pointer: u64, stack_pointer: u64) {
+        let [of_frame, of_stack] = self.pointers();
+        self.registers[of_frame] = frame_pointer;
+        self.registers[of_stack] = stack_pointer;
+    }
+
+    /// Sets the machine's frame pointer.
+    pub(crate) fn set_frame_pointer(&mut self, content: u64) {
+        let [of_frame, _] = self.pointers();
+        self.registers[of_frame] = content;
+    }
+
+    /// Sets the machine's stack pointer.
+    pub(crate) fn set_stack_pointer(&mut self, content: u64) {
+        let [_, of_stack] = self.pointers();
+        self.registers[of_stack] = content;
+    }
+
+    /// The frame's extent.
+    pub(crate) fn extent(&self) -> Option<(u128, u128)> {
+        extent(&self.section, self.machine, self.frame, &self.registers)
+    }
+
     /// Sets the slot at a byte of the image.
     pub(crate) fn set(&mut self, at: usize, content: u64) {
         self.image[at..at + 8].copy_from_slice(&content.to_le_bytes());
@@ -235,9 +290,10 @@ impl Move {
         u64::from_le_bytes(self.image[at..at + 8].try_into().unwrap())
     }
 
-    /// Moves the frame; a refused move must leave the image as it was.
+    /// Moves the frame; a refused move must leave image and registers as they
+    /// were.
     pub(crate) fn run(&mut self) -> Result<u64, Refusal> {
-        let before = self.image.clone();
+        let before = (self.image.clone(), self.registers.clone());
         let (old_starts, new_starts) = (&self.old_starts, &self.new_starts);
         let answer = relocate(
             &self.section,
@@ -247,10 +303,26 @@ impl Move {
             new_starts,
             self.machine,
             self.frame,
+            &mut self.registers,
         );
-        assert!(answer.is_ok() || self.image == before);
+        let same = (&self.image, &self.registers) == (&before.0, &before.1);
+        assert!(answer.is_ok() || same);
         answer
     }
+}
+
+/// The two lists of a thread on a machine: its frames, which are given as
+/// address, frame pointer, stack pointer and function number, and their
+/// registers.
+pub(crate) fn lists(machine: u64, frames: &[[u64; 4]]) -> (Vec<u64>, Vec<u64>) {
+    let (mut list, mut registers) = (vec![], vec![]);
+    for &[address, frame_pointer, stack_pointer, function] in frames {
+        let mut frame = Move::row_i().on(machine);
+        frame.set_pointers(frame_pointer, stack_pointer);
+        list.extend([address, function]);
+        registers.extend(frame.registers);
+    }
+    (list, registers)
 }
 
 /// Random numbers, the same in every run.

@@ -4,9 +4,12 @@
 //! It reads sections in the stack map layouts of versions 1 and 3, answers
 //! questions on them, also through an address index, turns them into listings
 //! and back, relocates the pointers of one stopped frame or of a whole thread,
-//! and holds what the small program writes. It also reads and looks up the flat proposal's sections, which have
-//! a layout of their own ([`flat`]), and keeps settings by edition ([`editions`], and [`history`] for
-//! the same calls answered from a list of events). [`report`] adds up what many sections hold.
+//! on the stack and in registers, says what lists of such moves leave
+//! ([`moves`]), and holds what the small program writes. It also reads and
+//! looks up the flat proposal's sections, which have a layout of their own
+//! ([`flat`]), and keeps settings by edition ([`editions`], and [`history`] for
+//! the same calls answered from a list of events). [`report`] adds up what many
+//! sections hold.
 //!
 //! Every function answers every input: with a result, or with a [`Refusal`]
 //! that has a fixed number and place. A refused call changes no byte of what
@@ -22,6 +25,7 @@ pub mod history;
 pub mod index;
 pub mod listing;
 mod machine;
+pub mod moves;
 pub mod program;
 pub mod questions;
 pub mod relocate;
@@ -35,7 +39,8 @@ mod fixtures;
 pub use index::{all_by_index, by_index, fill_index};
 pub use listing::{to_listing, to_section};
 pub use program::run;
-pub use questions::{by_address, by_function, live_out, location, record, Found, LocationAnswer};
+pub use questions::{by_address, by_function, live_out, location, record};
+pub use questions::{Content, Found, LocationAnswer};
 pub use relocate::{extent, relocate, Frame};
 pub use section::{check, encode, encode_version_1, read};
 pub use section::{Function, LiveOut, Location, Record, RecordData, Section, Version};

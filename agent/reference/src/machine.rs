@@ -1,5 +1,5 @@
-//! The machines whose frames are relocated, and the DWARF numbers of their two
-//! pointers.
+//! The machines whose frames are relocated, the DWARF numbers of their two
+//! pointers, and which registers can hold a pointer of a pair.
 
 use crate::editions::{AARCH64, AMD64};
 use crate::Refusal;
@@ -37,5 +37,16 @@ impl Machine {
             Machine::Amd64 => 7,
             Machine::Aarch64 => 31,
         }
+    }
+
+    /// Whether a register is a slot: under 16 on AMD64 and under 32 on AArch64,
+    /// and neither of the two pointers.
+    pub(crate) fn is_slot(self, register: u16) -> bool {
+        let limit = match self {
+            Machine::Amd64 => 16,
+            Machine::Aarch64 => 32,
+        };
+        let pointers = [self.frame_pointer(), self.stack_pointer()];
+        register < limit && !pointers.contains(&register)
     }
 }

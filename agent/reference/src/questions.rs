@@ -40,6 +40,39 @@ pub struct LocationAnswer {
     pub offset: i32,
     /// The constant of kinds 4 and 5; 0 for kinds 1 to 3.
     pub constant: u64,
+    /// Where the content is.
+    pub content: Content,
+}
+
+/// The content place of a location, which follows from its kind alone.
+#[derive(Clone, Copy, Debug, PartialEq, Eq)]
+pub enum Content {
+    /// Nowhere: kinds 2, 4 and 5.
+    None,
+    /// In a register: kind 1.
+    Register,
+    /// In memory: kind 3.
+    Memory,
+}
+
+impl Content {
+    /// The content place of a location of this kind.
+    fn of(kind: u8) -> Content {
+        match kind {
+            1 => Content::Register,
+            3 => Content::Memory,
+            _ => Content::None,
+        }
+    }
+
+    /// The number that the answer has for it: 0 none, 1 register, 2 memory.
+    pub fn number(self) -> u8 {
+        match self {
+            Content::None => 0,
+            Content::Register => 1,
+            Content::Memory => 2,
+        }
+    }
 }
 
 /// The first record with an address, its function, and how many share it.
@@ -103,6 +136,7 @@ pub fn location(section: &[u8], record: u64, number: u64) -> Result<LocationAnsw
         register: location.register,
         offset: location.offset,
         constant: constant(&section, location).unwrap_or(0),
+        content: Content::of(location.kind),
     })
 }
 

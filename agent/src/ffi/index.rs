@@ -39,6 +39,8 @@ extern "C" {
         machine: u64,
         frames: *const u64,
         frames_length: usize,
+        registers: *mut u64,
+        registers_length: usize,
         index: *const u64,
         index_length: usize,
     ) -> Answer;
@@ -96,11 +98,12 @@ pub(crate) fn thread(
     news: &[u64],
     machine: u64,
     frames: &[u64],
+    registers: &mut [u64],
     index: &[u64],
 ) -> Answer {
     let (stack, bytes) = (image.as_mut_ptr(), image.len());
-    // SAFETY: as in `super::thread`. The index is one more list, of any length: it is lent as the others
-    // are.
+    // SAFETY: as in `super::thread`. The index is one more list, of any length: it is lent as those of the
+    // starts are.
     unsafe {
         treskibben_thread_by_index(
             section.as_ptr(),
@@ -115,6 +118,8 @@ pub(crate) fn thread(
             machine,
             frames.as_ptr(),
             frames.len(),
+            registers.as_mut_ptr(),
+            registers.len(),
             index.as_ptr(),
             index.len(),
         )

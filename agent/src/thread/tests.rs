@@ -23,7 +23,7 @@ fn the_position_stands_behind_the_cause() {
     );
     assert_eq!(
         text(25, 0),
-        "refused 25 at 0: list of frames not a multiple of four numbers, or over 4,096 frames"
+        "refused 25 at 0: list of frames odd or over 4,096 frames, or not 32 registers a frame"
     );
     assert_eq!(text(2, 0), "refused 2 at 0: version neither 1 nor 3");
     assert_eq!(
@@ -33,17 +33,15 @@ fn the_position_stands_behind_the_cause() {
 }
 
 #[test]
-fn frames_are_a_list_of_four_numbers_each() {
+fn frames_are_a_list_of_two_numbers_each() {
     let frame = |number| Frame {
         address: number,
-        frame_pointer: number + 1,
-        stack_pointer: number + 2,
-        function: number + 3,
+        function: number + 1,
     };
-    let frames: Vec<Frame> = (0..5).map(|nth| frame(4 * nth)).collect();
-    let numbers: Vec<u64> = (0..20).collect();
+    let frames: Vec<Frame> = (0..5).map(|nth| frame(2 * nth)).collect();
+    let numbers: Vec<u64> = (0..10).collect();
     assert_eq!(Frames::from(&frames), Frames::of_numbers(&numbers));
-    assert_eq!(Frames::new(&frames[1..3]).numbers(), &numbers[4..12]);
+    assert_eq!(Frames::new(&frames[1..3]).numbers(), &numbers[2..6]);
     assert_eq!(Frames::new(&[]), Frames::default());
-    assert_eq!(Frames::from(&[frame(7)]).numbers(), [7, 8, 9, 10]);
+    assert_eq!(Frames::from(&[frame(7)]).numbers(), [7, 8]);
 }

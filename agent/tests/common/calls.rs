@@ -4,12 +4,12 @@
 pub mod raw;
 
 use crate::common::differ;
-use generator::frames::{Scene, Stop};
+use generator::frames::Scene;
 use std::fmt::Debug;
 use treskibben::{Frame, Frames, Machine, MoveTable};
 
 /// All that a call is given.
-#[derive(Clone, Copy, Debug)]
+#[derive(Clone, Debug)]
 pub struct Call<'a, F> {
     pub section: &'a [u8],
     pub image: &'a [u8],
@@ -20,15 +20,18 @@ pub struct Call<'a, F> {
     pub machine: u64,
     /// A frame, or the list of a thread's frames.
     pub frames: F,
+    /// The list of the frame's registers, or of all frames'.
+    pub registers: Vec<u64>,
 }
 
-/// The answer, and the image after the call.
+/// The answer, and the image and the registers after the call.
 #[derive(Clone, PartialEq, Eq)]
 pub struct Outcome {
     pub number: u64,
     pub place: u64,
     pub count: u64,
     pub image: Vec<u8>,
+    pub registers: Vec<u64>,
 }
 
 impl std::fmt::Debug for Outcome {
@@ -38,47 +41,64 @@ impl std::fmt::Debug for Outcome {
             place,
             count,
             image,
+            registers,
         } = self;
         write!(f, "{number} at {place}, {count} pointers, image ")?;
-        image
-            .iter()
-            .take(4_096)
-            .try_for_each(|byte| write!(f, "{byte:02x}"))
+        let mut bytes = image.iter().take(4_096);
+        bytes.try_for_each(|byte| write!(f, "{byte:02x}"))?;
+        let shown = &registers[..registers.len().min(512)];
+        write!(f, ", {} registers {shown:x?}", registers.len())
     }
 }
 
 impl Outcome {
-    fn new(answer: Result<u64, (u64, u64)>, image: Vec<u8>) -> Outcome {
+    /// The outcome of a call that is lent image and registers.
+    fn of(
+        image: &[u8],
+        registers: &[u64],
+        call: impl FnOnce(&mut [u8], &mut [u64]) -> Result<u64, (u64, u64)>,
+    ) -> Outcome {
+        let (mut image, mut registers) = (image.to_vec(), registers.to_vec());
+        let answer = call(&mut image, &mut registers);
         let (number, place) = answer.err().unwrap_or((0, 0));
-        let count = answer.unwrap_or(0);
         Outcome {
             number,
             place,
-            count,
+            count: answer.unwrap_or(0),
             image,
+            registers,
         }
+    }
+
+    /// Number, place and count.
+    #[allow(dead_code)] // Not every test asks for all three.
+    pub fn answer(&self) -> (u64, u64, u64) {
+        (self.number, self.place, self.count)
     }
 }
 
 /// What a call moves: one frame, or those of a list.
 pub trait Moves: Copy + Debug {
     /// The number of pointers, or number and place of the refusal.
-    fn by_library(call: &Call<Self>, image: &mut [u8]) -> Result<u64, (u64, u64)>;
-    fn by_second(call: &Call<Self>, image: &mut [u8]) -> Result<u64, (u64, u64)>;
+    fn by_library(call: &Call<Self>, image: &mut [u8], registers: &mut [u64]) -> Answer;
+    fn by_second(call: &Call<Self>, image: &mut [u8], registers: &mut [u64]) -> Answer;
 }
 
+type Answer = Result<u64, (u64, u64)>;
+
 impl Moves for Frame {
-    fn by_library(call: &Call<Frame>, image: &mut [u8]) -> Result<u64, (u64, u64)> {
+    fn by_library(call: &Call<Frame>, image: &mut [u8], registers: &mut [u64]) -> Answer {
         let Some(machine) = call.machine() else {
-            return raw::relocate(call, image);
+            return raw::relocate(call, image, registers);
         };
+        let (section, first) = (call.section, call.first);
         let (table, frame) = (call.table(), call.frames);
-        let moved = treskibben::relocate(call.section, image, call.first, table, machine, frame);
+        let moved = treskibben::relocate(section, image, first, table, machine, frame, registers);
         let moved = moved.map(|pointers| pointers as u64);
         moved.map_err(|refusal| (refusal.number(), refusal.place()))
     }
 
-    fn by_second(call: &Call<Frame>, image: &mut [u8]) -> Result<u64, (u64, u64)> {
+    fn by_second(call: &Call<Frame>, image: &mut [u8], registers: &mut [u64]) -> Answer {
         let Call {
             section,
             first,
@@ -87,36 +107,28 @@ impl Moves for Frame {
             machine,
             ..
         } = *call;
-        let Frame {
-            address,
-            frame_pointer,
-            stack_pointer,
-            function,
-        } = call.frames;
-        let frame = reference::Frame {
-            address,
-            frame_pointer,
-            stack_pointer,
-            function,
-        };
-        let moved = reference::relocate(section, image, first, olds, news, machine, frame);
+        let Frame { address, function } = call.frames;
+        let frame = reference::Frame { address, function };
+        let moved =
+            reference::relocate(section, image, first, olds, news, machine, frame, registers);
         moved.map_err(|refusal| (refusal.number, refusal.place))
     }
 }
 
 impl Moves for &[u64] {
-    fn by_library(call: &Call<Self>, image: &mut [u8]) -> Result<u64, (u64, u64)> {
+    fn by_library(call: &Call<Self>, image: &mut [u8], registers: &mut [u64]) -> Answer {
         let Some(machine) = call.machine() else {
-            return raw::thread(call, call.frames, image);
+            return raw::thread(call, call.frames, image, registers);
         };
+        let (section, first) = (call.section, call.first);
         let (table, frames) = (call.table(), Frames::of_numbers(call.frames));
         let moved =
-            treskibben::relocate_thread(call.section, image, call.first, table, machine, frames);
+            treskibben::relocate_thread(section, image, first, table, machine, frames, registers);
         let moved = moved.map(|pointers| pointers as u64);
         moved.map_err(|refusal| (refusal.number(), refusal.place()))
     }
 
-    fn by_second(call: &Call<Self>, image: &mut [u8]) -> Result<u64, (u64, u64)> {
+    fn by_second(call: &Call<Self>, image: &mut [u8], registers: &mut [u64]) -> Answer {
         let Call {
             section,
             first,
@@ -125,7 +137,8 @@ impl Moves for &[u64] {
             machine,
             ..
         } = *call;
-        let moved = reference::thread(section, image, first, olds, news, machine, call.frames);
+        let list = call.frames;
+        let moved = reference::thread(section, image, first, olds, news, machine, list, registers);
         moved.map_err(|refusal| (refusal.number, refusal.place))
     }
 }
@@ -134,26 +147,23 @@ impl<'a> Call<'a, Frame> {
     /// The move of a frame of the scene, whose section has these bytes.
     #[allow(dead_code)] // Not every test moves single frames.
     pub fn of(scene: &'a Scene, section: &'a [u8], stop: usize) -> Call<'a, Frame> {
-        let Stop {
-            address,
-            frame_pointer,
-            stack_pointer,
-            named: function,
-            ..
-        } = scene.stops[stop];
+        let stop = &scene.stops[stop];
         let frame = Frame {
-            address,
-            frame_pointer,
-            stack_pointer,
-            function,
+            address: stop.address,
+            function: stop.named,
         };
-        Call::with(scene, section, frame)
+        Call::with(scene, section, frame, stop.lent())
     }
 }
 
 impl<'a, F> Call<'a, F> {
-    /// The move of these frames on the scene, whose section has these bytes.
-    pub fn with(scene: &'a Scene, section: &'a [u8], frames: F) -> Call<'a, F> {
+    /// The move of these frames with these registers on the scene, whose section has these bytes.
+    pub fn with(
+        scene: &'a Scene,
+        section: &'a [u8],
+        frames: F,
+        registers: Vec<u64>,
+    ) -> Call<'a, F> {
         Call {
             section,
             image: &scene.image,
@@ -162,6 +172,7 @@ impl<'a, F> Call<'a, F> {
             news: &scene.table.news,
             machine: scene.machine,
             frames,
+            registers,
         }
     }
 
@@ -179,17 +190,19 @@ impl<'a, F> Call<'a, F> {
 
 impl<F: Moves> Call<'_, F> {
     pub fn by_library(&self) -> Outcome {
-        let mut image = self.image.to_vec();
-        Outcome::new(F::by_library(self, &mut image), image)
+        Outcome::of(self.image, &self.registers, |image, registers| {
+            F::by_library(self, image, registers)
+        })
     }
 
     pub fn by_second(&self) -> Outcome {
-        let mut image = self.image.to_vec();
-        Outcome::new(F::by_second(self, &mut image), image)
+        Outcome::of(self.image, &self.registers, |image, registers| {
+            F::by_second(self, image, registers)
+        })
     }
 
-    /// Compares both answers and images, and sees that a refusal leaves the image as it was. Gives
-    /// the outcome.
+    /// Compares both answers, images and registers, and sees that a refusal leaves image and registers as
+    /// they were lent. Gives the outcome.
     pub fn compare(&self) -> Outcome {
         let (library, second) = (self.by_library(), self.by_second());
         if library != second {
@@ -197,7 +210,8 @@ impl<F: Moves> Call<'_, F> {
                 "by the library {library:?}, by the second implementation {second:?}"
             ));
         }
-        if library.number != 0 && library.image != self.image {
+        let as_lent = library.image == self.image && library.registers == self.registers;
+        if library.number != 0 && !as_lent {
             self.fail(&format!("{library:?}, though it is refused"));
         }
         library
@@ -209,20 +223,14 @@ impl<F: Moves> Call<'_, F> {
             first,
             machine,
             frames,
-            image,
             ..
         } = *self;
         let many =
             |list: &[u64]| format!("{} entries {:x?}", list.len(), &list[..list.len().min(64)]);
         let (olds, news) = (many(self.olds), many(self.news));
-        let image = Outcome {
-            number: 0,
-            place: 0,
-            count: 0,
-            image: image.to_vec(),
-        };
+        let before = Outcome::of(self.image, &self.registers, |_, _| Ok(0));
         let lent = format!(
-            "machine {machine:#x}, {frames:x?}, first {first:#x}, old starts {olds}, new starts {news}, before {image:?}"
+            "machine {machine:#x}, {frames:x?}, first {first:#x}, old starts {olds}, new starts {news}, before {before:?}"
         );
         differ("a move", self.section, &format!("{why}\n{lent}"));
     }

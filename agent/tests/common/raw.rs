@@ -33,6 +33,8 @@ extern "C" {
         new_count: usize,
         machine: u64,
         frame: Frame,
+        registers: *mut u64,
+        registers_length: usize,
     ) -> Answer;
     fn treskibben_thread(
         section: *const u8,
@@ -47,6 +49,8 @@ extern "C" {
         machine: u64,
         frames: *const u64,
         frames_length: usize,
+        registers: *mut u64,
+        registers_length: usize,
     ) -> Answer;
     fn treskibben_thread_by_index(
         section: *const u8,
@@ -61,15 +65,21 @@ extern "C" {
         machine: u64,
         frames: *const u64,
         frames_length: usize,
+        registers: *mut u64,
+        registers_length: usize,
         index: *const u64,
         index_length: usize,
     ) -> Answer;
 }
 
 /// The move of one frame.
-pub fn relocate(call: &Call<Frame>, image: &mut [u8]) -> Result<u64, (u64, u64)> {
+pub fn relocate(
+    call: &Call<Frame>,
+    image: &mut [u8],
+    registers: &mut [u64],
+) -> Result<u64, (u64, u64)> {
     // SAFETY: each pointer and length are those of one slice, borrowed for the whole call, the image's
-    // alone for writing; the declaration is that of `treskibben.h`.
+    // and the registers' alone for writing; the declaration is that of `treskibben.h`.
     let answer = unsafe {
         treskibben_relocate(
             call.section.as_ptr(),
@@ -83,13 +93,20 @@ pub fn relocate(call: &Call<Frame>, image: &mut [u8]) -> Result<u64, (u64, u64)>
             call.news.len(),
             call.machine,
             call.frames,
+            registers.as_mut_ptr(),
+            registers.len(),
         )
     };
     answer.outcome()
 }
 
 /// The move of a thread with these frames.
-pub fn thread<F>(call: &Call<F>, frames: &[u64], image: &mut [u8]) -> Result<u64, (u64, u64)> {
+pub fn thread<F>(
+    call: &Call<F>,
+    frames: &[u64],
+    image: &mut [u8],
+    registers: &mut [u64],
+) -> Result<u64, (u64, u64)> {
     // SAFETY: as in `relocate`. The frames are one more list.
     let answer = unsafe {
         treskibben_thread(
@@ -105,6 +122,8 @@ pub fn thread<F>(call: &Call<F>, frames: &[u64], image: &mut [u8]) -> Result<u64
             call.machine,
             frames.as_ptr(),
             frames.len(),
+            registers.as_mut_ptr(),
+            registers.len(),
         )
     };
     answer.outcome()
@@ -117,6 +136,7 @@ pub fn thread_by_index<F>(
     frames: &[u64],
     index: &[u64],
     image: &mut [u8],
+    registers: &mut [u64],
 ) -> Result<u64, (u64, u64)> {
     // SAFETY: as in `relocate`. The frames and the index are two more lists.
     let answer = unsafe {
@@ -133,6 +153,8 @@ pub fn thread_by_index<F>(
             call.machine,
             frames.as_ptr(),
             frames.len(),
+            registers.as_mut_ptr(),
+            registers.len(),
             index.as_ptr(),
             index.len(),
         )

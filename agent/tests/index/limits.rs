@@ -114,9 +114,10 @@ fn indexes_with_little_stack() {
         assert_eq!(with(LITTLE, Box::new(find)), 1);
         let moved = move || {
             let index = Index::from_entries(&bytes, entries);
-            let frames = vec![Frame::new(1, 0, 0); 4_096];
-            let moved =
-                index.relocate_thread(&mut [], 0, MoveTable::default(), Machine::Amd64, &frames);
+            let frames = vec![Frame::new(1); 4_096];
+            let (table, registers) = (MoveTable::default(), &mut vec![0; 32 * 4_096]);
+            let machine = Machine::Amd64;
+            let moved = index.relocate_thread(&mut [], 0, table, machine, &frames, registers);
             moved.expect_err("no record is at 1").number() as usize
         };
         assert_eq!(with(OF_THREAD, Box::new(moved)), 10);

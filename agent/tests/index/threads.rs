@@ -30,19 +30,27 @@ struct Indexed<'a> {
 }
 
 impl Moves for Indexed<'_> {
-    fn by_library(call: &Call<Self>, image: &mut [u8]) -> Result<u64, (u64, u64)> {
+    fn by_library(
+        call: &Call<Self>,
+        image: &mut [u8],
+        registers: &mut [u64],
+    ) -> Result<u64, (u64, u64)> {
         let Indexed { frames, index } = call.frames;
         let Some(machine) = call.machine() else {
-            return raw::thread_by_index(call, frames, index, image);
+            return raw::thread_by_index(call, frames, index, image, registers);
         };
         let index = Index::from_entries(call.section, index.to_vec());
-        let frames = Frames::of_numbers(frames);
-        let moved = index.relocate_thread(image, call.first, call.table(), machine, frames);
+        let (table, frames) = (call.table(), Frames::of_numbers(frames));
+        let moved = index.relocate_thread(image, call.first, table, machine, frames, registers);
         let moved = moved.map(|pointers| pointers as u64);
         moved.map_err(|refusal| (refusal.number(), refusal.place()))
     }
 
-    fn by_second(call: &Call<Self>, image: &mut [u8]) -> Result<u64, (u64, u64)> {
+    fn by_second(
+        call: &Call<Self>,
+        image: &mut [u8],
+        registers: &mut [u64],
+    ) -> Result<u64, (u64, u64)> {
         let Call {
             section,
             first,
@@ -52,8 +60,9 @@ impl Moves for Indexed<'_> {
             ..
         } = *call;
         let Indexed { frames, index } = call.frames;
-        let moved =
-            reference::thread_by_index(section, image, first, olds, news, machine, frames, index);
+        let moved = reference::thread_by_index(
+            section, image, first, olds, news, machine, frames, registers, index,
+        );
         moved.map_err(|refusal| (refusal.number, refusal.place))
     }
 }
@@ -131,13 +140,13 @@ fn run(rng: &mut Rng, counts: &mut Counts) {
         frames: &list,
         index: &index,
     };
-    let call = Call::with(&thread.scene, &section, frames);
+    let call = Call::with(&thread.scene, &section, frames, thread.registers());
     let outcome = call.compare();
     counts[outcome.number as usize] += 1;
     if let Some(known) = known.filter(|known| (outcome.number, outcome.place) != *known) {
         call.fail(&format!("{outcome:?}, known beforehand {known:?}"));
     }
-    let plain = Call::with(&thread.scene, &section, &list[..]).by_library();
+    let plain = Call::with(&thread.scene, &section, &list[..], thread.registers()).by_library();
     expect_as_without(&call, &outcome, &plain);
     if known.is_some() {
         counts[NUMBERS] += u64::from(outcome.number == 27 && plain.number != 0);
@@ -145,8 +154,8 @@ fn run(rng: &mut Rng, counts: &mut Counts) {
     }
 }
 
-/// With the right index the answer and the image are those without one; and what comes before 27 and 29 is
-/// no answer without one.
+/// With the right index the answer, the image and the registers are those without one; and what comes before
+/// 27 and 29 is no answer without one.
 fn expect_as_without(call: &Call<Indexed>, outcome: &Outcome, plain: &Outcome) {
     let as_without = match outcome.number {
         27 | 29 => ![1, 2, 3, 4, 5, 6, 7, 8, 9, 13, 14, 33].contains(&plain.number),

@@ -4,15 +4,16 @@
 use crate::compare::{length, owners, same};
 use crate::readobj::{Location, Printed, Record, Value};
 use std::collections::BTreeMap;
-use treskibben::Machine;
+use treskibben::{Machine, Registers};
 
-/// What a target's frames are like: the DWARF numbers of the frame and the stack pointer, and how far below the end of
-/// a frame the frame pointer points, where it is one.
+/// What a target's frames are like: the DWARF numbers of the frame and the stack pointer, the number after those of the
+/// general registers, and how far below the end of a frame the frame pointer points, where it is one.
 #[derive(Clone, Copy)]
 pub struct Target {
     machine: Machine,
     frame_pointer: u16,
     stack_pointer: u16,
+    registers: u16,
     below_end: u64,
 }
 
@@ -23,12 +24,14 @@ impl Target {
                 machine: Machine::Amd64,
                 frame_pointer: 6,
                 stack_pointer: 7,
+                registers: 16,
                 below_end: 8,
             },
             "aarch64" => Target {
                 machine: Machine::Aarch64,
                 frame_pointer: 29,
                 stack_pointer: 31,
+                registers: 32,
                 below_end: 16,
             },
             _ => panic!("no target {name}"),
@@ -36,29 +39,55 @@ impl Target {
     }
 }
 
-/// What came of a section's statepoints: how many were moved, how many pointers they had, the most that one pair had,
-/// and how many were refused by each number.
+/// What came of a section's statepoints: how many were moved, how many pointers they had, of each sort of base and each
+/// sort of derived slot, the most that one pair had, and how many were refused by each number.
 #[derive(Debug, Default, PartialEq, Eq)]
 pub struct Seen {
     pub moved: usize,
-    pub pointers: usize,
+    pub pointers: BTreeMap<[Sort; 2], usize>,
     pub most: u64,
     pub refused: BTreeMap<u64, usize>,
 }
 
-/// A frame of a thread that is made up: its stack and its two registers. Around its part of the stack, image bytes of
-/// others lie.
+/// Where a slot is.
+#[derive(Clone, Copy, Debug, PartialEq, Eq, PartialOrd, Ord)]
+pub enum Sort {
+    Memory,
+    Register,
+}
+
+/// A slot: in the eight bytes from an address on, or in a register.
+#[derive(Clone, Copy, PartialEq, Eq, PartialOrd, Ord)]
+enum Slot {
+    Memory(u64),
+    Register(u16),
+}
+
+impl Slot {
+    fn sort(self) -> Sort {
+        match self {
+            Slot::Memory(_) => Sort::Memory,
+            Slot::Register(_) => Sort::Register,
+        }
+    }
+}
+
+/// A frame of a thread that is made up: its stack and its registers. Around its part of the stack, image bytes of others
+/// lie.
+#[derive(Clone)]
 struct Made {
     address: u64,
-    frame_pointer: u64,
-    stack_pointer: u64,
     first: u64,
     image: Vec<u8>,
+    registers: Registers,
 }
 
 /// Where frames are made, and the bytes of others below and above.
 const STACK: u64 = 0x7ffd_0000_4000;
 const BEYOND: u64 = 48;
+
+/// What register 0 holds where it is no slot; the others hold one more each.
+const NO_POINTER: u64 = 0x4000_0000_0000;
 
 /// The stack size that says that it is not known.
 const UNKNOWN: u64 = u64::MAX;
@@ -93,40 +122,45 @@ impl Made {
         let image = (0..made_length(stack_size) + 2 * BEYOND)
             .map(|at| (at * 37 + 11) as u8)
             .collect();
-        let frame_pointer = STACK + above(target, stack_size);
+        let mut registers = std::array::from_fn(|number| NO_POINTER + number as u64);
+        registers[usize::from(target.frame_pointer)] = STACK + above(target, stack_size);
+        registers[usize::from(target.stack_pointer)] = STACK;
         Made {
             address,
-            frame_pointer,
-            stack_pointer: STACK,
             first: STACK - BEYOND,
             image,
+            registers,
         }
     }
 
-    fn set(&mut self, address: u64, word: u64) {
-        let at = (address - self.first) as usize;
-        self.image[at..at + 8].copy_from_slice(&word.to_le_bytes());
+    fn set(&mut self, slot: Slot, word: u64) {
+        match slot {
+            Slot::Memory(address) => {
+                let at = (address - self.first) as usize;
+                self.image[at..at + 8].copy_from_slice(&word.to_le_bytes());
+            }
+            Slot::Register(register) => self.registers[usize::from(register)] = word,
+        }
     }
 
-    /// The addresses of all pointers of a location, where it is one of some.
-    fn slots(&self, target: Target, location: &Location) -> Option<Vec<u64>> {
-        let from = match location.value {
-            Value::Indirect(register, offset) if register == target.stack_pointer => {
-                (self.stack_pointer, offset)
+    /// The slots of all pointers of a location, where it is one of some.
+    fn slots(&self, target: Target, location: &Location) -> Option<Vec<Slot>> {
+        let pointers = [target.frame_pointer, target.stack_pointer];
+        let count = usize::from(location.size) / 8;
+        match location.value {
+            Value::Indirect(register, offset) if pointers.contains(&register) => {
+                let from = self.registers[usize::from(register)];
+                let address = from.wrapping_add_signed(offset.into());
+                let slots = (address..).step_by(8).take(count).map(Slot::Memory);
+                let sized = location.size.is_multiple_of(8) && (8..=BYTES).contains(&location.size);
+                sized.then(|| slots.collect())
             }
-            Value::Indirect(register, offset) if register == target.frame_pointer => {
-                (self.frame_pointer, offset)
+            Value::Register(register) if !pointers.contains(&register) => {
+                let is_slot = register < target.registers && location.size == 8;
+                is_slot.then(|| vec![Slot::Register(register)])
             }
-            _ => return None,
-        };
-        let sized = location.size.is_multiple_of(8) && (8..=BYTES).contains(&location.size);
-        let address = from.0.wrapping_add_signed(from.1.into());
-        sized.then(|| {
-            (address..)
-                .step_by(8)
-                .take(usize::from(location.size) / 8)
-                .collect()
-        })
+            _ => None,
+        }
     }
 }
 
@@ -158,7 +192,7 @@ enum Expected {
     /// The number and the place.
     Refused(u64, u64),
     /// The slots of each pointer, base and derived; and the number of null pairs.
-    Moved(Vec<[u64; 2]>, u64),
+    Moved(Vec<[Slot; 2]>, u64),
 }
 
 fn expected(target: Target, made: &Made, stack_size: u64, pairs: &[[&Location; 2]]) -> Expected {
@@ -166,16 +200,18 @@ fn expected(target: Target, made: &Made, stack_size: u64, pairs: &[[&Location; 2
         return Expected::Refused(16, 0);
     }
     let (mut pointers, mut nulls, mut outside) = (Vec::new(), 0, None);
-    let end = made.stack_pointer + stack_size;
+    let end = STACK + stack_size;
+    let inside = |slot: &Slot| match slot {
+        Slot::Memory(address) => (STACK..end).contains(address) && end - address >= 8,
+        Slot::Register(_) => true,
+    };
     for (number, [base, derived]) in pairs.iter().enumerate() {
         let slots = [base, derived].map(|location| made.slots(target, location));
         match slots {
             _ if is_null(base) && is_null(derived) => nulls += 1,
             [Some(bases), Some(deriveds)] if bases.len() == deriveds.len() => {
-                let mut slots = bases.iter().chain(&deriveds);
-                let inside =
-                    slots.all(|slot| (made.stack_pointer..end).contains(slot) && end - slot >= 8);
-                outside = outside.or((!inside).then_some(number as u64));
+                let all_inside = bases.iter().chain(&deriveds).all(inside);
+                outside = outside.or((!all_inside).then_some(number as u64));
                 pointers.extend(
                     bases
                         .into_iter()
@@ -196,30 +232,25 @@ fn expected(target: Target, made: &Made, stack_size: u64, pairs: &[[&Location; 2
 }
 
 /// Fills the slots and makes the table: each base slot has an object of its own, and each derived slot that is no base
-/// slot points into its base's object, each at another place. Gives the image after the move.
-fn fill(made: &mut Made, pointers: &[[u64; 2]]) -> (Vec<u64>, Vec<u64>, Vec<u8>) {
+/// slot points into its base's object, each at another place. Gives the frame after the move.
+fn fill(made: &mut Made, pointers: &[[Slot; 2]]) -> (Vec<u64>, Vec<u64>, Made) {
     let mut objects = BTreeMap::new();
     for [base, _] in pointers {
         let number = objects.len() as u64;
         objects.entry(*base).or_insert(number);
     }
-    for (base, number) in &objects {
-        made.set(*base, OLD + APART * number);
-    }
-    let mut after = Made {
-        image: Vec::new(),
-        ..*made
-    };
     let mut content = objects
         .iter()
         .map(|(base, number)| (*base, OLD + APART * number))
         .collect::<BTreeMap<_, _>>();
     for (place, [base, derived]) in pointers.iter().enumerate() {
         let inside = OLD + APART * objects[base] + 8 * (place as u64 + 1);
-        let old = *content.entry(*derived).or_insert(inside);
-        made.set(*derived, old);
+        content.entry(*derived).or_insert(inside);
     }
-    after.image = made.image.clone();
+    for (slot, word) in &content {
+        made.set(*slot, *word);
+    }
+    let mut after = made.clone();
     for [base, derived] in pointers {
         let number = objects[base];
         let distance = (NEW + CLOSER * number).wrapping_sub(OLD + APART * number);
@@ -231,7 +262,7 @@ fn fill(made: &mut Made, pointers: &[[u64; 2]]) -> (Vec<u64>, Vec<u64>, Vec<u8>)
     let new = (0..objects.len() as u64)
         .map(|number| NEW + CLOSER * number)
         .collect();
-    (old, new, after.image)
+    (old, new, after)
 }
 
 /// The same section and text, but that each slot that was addressed by the stack pointer is addressed by the frame pointer,
@@ -288,28 +319,29 @@ fn one(
         Expected::Refused(..) => &[],
     };
     let (old, new, after) = fill(&mut made, pointers);
-    let before = made.image.clone();
-    let second = library::second(target, bytes, &mut made, &old, &new);
-    let second_image = std::mem::replace(&mut made.image, before.clone());
+    let (before, mut seconds) = (made.clone(), made.clone());
+    let second = library::second(target, bytes, &mut seconds, &old, &new);
     let proved = library::proved(target, bytes, &mut made, &old, &new);
     same("the second answer", second, proved)?;
-    same("the second image", second_image == made.image, true)?;
+    same("the second frame", alike(&seconds, &made), true)?;
     match expected {
         Expected::Refused(number, place) => {
             same("the refusal", proved, Err((number, place)))?;
-            same("the image is as it was", made.image == before, true)?;
+            same("the frame is as it was", alike(&made, &before), true)?;
             *seen.refused.entry(number).or_default() += 1;
         }
         Expected::Moved(pointers, nulls) => {
             same("the count", proved, Ok(pointers.len() as u64 + nulls))?;
-            same("the image after", made.image == after, true)?;
+            same("the frame after", alike(&made, &after), true)?;
             same(
-                "the image changed",
-                made.image != before,
+                "the frame changed",
+                !alike(&made, &before),
                 !pointers.is_empty(),
             )?;
             seen.moved += 1;
-            seen.pointers += pointers.len();
+            for slots in pointers {
+                *seen.pointers.entry(slots.map(Slot::sort)).or_default() += 1;
+            }
             let sizes = pairs
                 .iter()
                 .filter(|[base, _]| !is_null(base))
@@ -318,6 +350,11 @@ fn one(
         }
     }
     Ok(())
+}
+
+/// Whether two frames have the same bytes and the same registers.
+fn alike(one: &Made, other: &Made) -> bool {
+    one.image == other.image && one.registers == other.registers
 }
 
 /// The two moves that are compared.
@@ -333,10 +370,10 @@ mod library {
         old: &[u64],
         new: &[u64],
     ) -> Answer {
-        let frame = treskibben::Frame::new(made.address, made.frame_pointer, made.stack_pointer);
+        let frame = treskibben::Frame::new(made.address);
         let (image, first, machine) = (&mut made.image, made.first, target.machine);
-        let table = treskibben::MoveTable::new(old, new);
-        let moved = treskibben::relocate(bytes, image, first, table, machine, frame);
+        let (table, registers) = (treskibben::MoveTable::new(old, new), &mut made.registers);
+        let moved = treskibben::relocate(bytes, image, first, table, machine, frame, registers);
         let moved = moved.map(|count| count as u64);
         moved.map_err(|refusal| (refusal.number(), refusal.place()))
     }
@@ -350,12 +387,11 @@ mod library {
     ) -> Answer {
         let frame = reference::Frame {
             address: made.address,
-            frame_pointer: made.frame_pointer,
-            stack_pointer: made.stack_pointer,
             function: 0,
         };
         let (image, first, machine) = (&mut made.image, made.first, target.machine.number());
-        let moved = reference::relocate(bytes, image, first, old, new, machine, frame);
+        let registers = &mut made.registers;
+        let moved = reference::relocate(bytes, image, first, old, new, machine, frame, registers);
         moved.map_err(|refusal| (refusal.number, refusal.place))
     }
 }

@@ -7,16 +7,28 @@ use std::sync::Mutex;
 pub const TARGETS: &[&str] = &["x86_64", "aarch64"];
 pub const LEVELS: &[&str] = &["O0", "O0-fp", "O2", "O2-fp"];
 
+/// The levels at which pointers may stay in registers.
+pub const REGISTERS: &[&str] = &[
+    "O0-registers",
+    "O0-fp-registers",
+    "O2-registers",
+    "O2-fp-registers",
+];
+
 /// What must be made for every target and level; there may be more. `two` is two maps in one section.
 const SOURCES: &[&str] = &[
     "constants",
     "patchpoint",
+    "registers",
     "rewrite",
     "stackmap",
     "statepoint",
     "two",
     "vectors",
 ];
+
+/// What must be made for every target where pointers may stay in registers.
+const WITH_PAIRS: &[&str] = &["registers", "rewrite", "statepoint", "vectors"];
 
 /// One section and what llvm-readobj printed of it.
 pub struct Built {
@@ -70,12 +82,14 @@ fn build() -> Result<PathBuf, String> {
 
 /// The same sections, where none is missing.
 fn complete(built: Vec<Built>) -> Result<Vec<Built>, String> {
-    for source in SOURCES {
-        for target in TARGETS {
-            for level in LEVELS {
-                let name = format!("{source}.{target}.{level}");
-                if !built.iter().any(|built| built.name == name) {
-                    return Err(format!("{name} is missing"));
+    for target in TARGETS {
+        for (sources, levels) in [(SOURCES, LEVELS), (WITH_PAIRS, REGISTERS)] {
+            for source in sources {
+                for level in levels {
+                    let name = format!("{source}.{target}.{level}");
+                    if !built.iter().any(|built| built.name == name) {
+                        return Err(format!("{name} is missing"));
+                    }
                 }
             }
         }

@@ -1,18 +1,20 @@
-//! Lists of moves of frames whose extents share no byte: in every order each frame is answered as
-//! it is on the starting image, and the image comes out as worked out from it.
+//! Lists of moves of frames whose extents share no byte, each with registers of its own: in every order each
+//! frame is answered as it is on the starting image, and image and registers come out as worked out from the
+//! starting ones.
 
 use crate::calls::{Call, Outcome};
 use crate::common::{count_random, say};
-use generator::frames::faults::scatter;
+use generator::frames::faults::{scatter_of, ALONE};
 use generator::frames::{plain, shuffle, Scene};
 use generator::Rng;
 
 /// Lists in a run, in parts.
 const PARTS: u64 = 200;
-const LISTS_A_PART: u64 = 40;
+const LISTS_A_PART: u64 = 70;
 
-/// Lists, moves, accepted moves, lists with a refused frame, and frames that share a record.
-type Counts = [u64; 5];
+/// Lists, moves, accepted moves, lists with a refused frame, frames that share a record, accepted moves that
+/// change a register, and frames refused by 25.
+type Counts = [u64; 7];
 
 /// Whether no two frames have extents that share a byte.
 fn apart(scene: &Scene, section: &[u8]) -> bool {
@@ -23,11 +25,9 @@ fn apart(scene: &Scene, section: &[u8]) -> bool {
         .filter_map(|stop| {
             let frame = reference::Frame {
                 address: stop.address,
-                frame_pointer: stop.frame_pointer,
-                stack_pointer: stop.stack_pointer,
                 function: stop.named,
             };
-            reference::extent(section, frame)
+            reference::extent(section, scene.machine, frame, &stop.lent())
         })
         .filter(|(start, end)| image.contains(start) && image.contains(end) && start < end)
         .collect();
@@ -35,7 +35,8 @@ fn apart(scene: &Scene, section: &[u8]) -> bool {
     extents.windows(2).all(|two| two[0].1 <= two[1].0)
 }
 
-/// Moves the frames in this order, each on the image that the one before has left.
+/// Moves the frames in this order, each on the image that the one before has left. The registers of each
+/// come out as they do on the starting image.
 fn run(
     scene: &Scene,
     section: &[u8],
@@ -53,6 +54,7 @@ fn run(
         let expected = &plain[stop];
         let place = same_place || !(18..=21).contains(&outcome.number);
         if (outcome.number, outcome.count) != (expected.number, expected.count)
+            || outcome.registers != expected.registers
             || place && outcome.place != expected.place
         {
             call.fail(&format!(
@@ -80,13 +82,26 @@ fn orders(count: usize) -> Vec<Vec<usize>> {
     shorter.flat_map(with).collect()
 }
 
+/// All orders of a few frames, or some of many.
+fn some_orders(rng: &mut Rng, count: usize) -> Vec<Vec<usize>> {
+    let mut some = match count {
+        0..=4 => orders(count),
+        5 if rng.one_in(4) => orders(count),
+        _ => vec![(0..count).collect(), (0..count).rev().collect()],
+    };
+    let mut random: Vec<usize> = (0..count).collect();
+    shuffle(rng, &mut random);
+    some.push(random);
+    some
+}
+
 fn list(rng: &mut Rng, counts: &mut Counts) {
     let count = match rng.below(8) {
         0 => 6 + rng.below(10),
         _ => rng.below(6),
     };
     let mut scene = Scene::many(rng, count);
-    scatter(rng, &mut scene, 4);
+    scatter_of(rng, &mut scene, 4, &ALONE);
     let section = scene.section.encode();
     if !apart(&scene, &section) {
         return;
@@ -96,16 +111,13 @@ fn list(rng: &mut Rng, counts: &mut Counts) {
         .collect();
     let accepted: Vec<usize> = (0..count).filter(|stop| plain[*stop].number == 0).collect();
     let expected = plain::moved(&scene, accepted.iter().copied());
-    let mut all = match count {
-        0..=4 => orders(count),
-        5 if rng.one_in(4) => orders(count),
-        _ => vec![(0..count).collect(), (0..count).rev().collect()],
-    };
-    let mut random: Vec<usize> = (0..count).collect();
-    shuffle(rng, &mut random);
-    all.push(random);
+    for stop in accepted.iter().copied() {
+        let registers = plain::moved_registers(&scene, stop);
+        assert!(plain[stop].registers == registers, "{stop} of {scene:x?}");
+        counts[5] += u64::from(registers != scene.stops[stop].registers);
+    }
     let other = scene.permuted(rng).encode();
-    for (nth, order) in all.iter().enumerate() {
+    for (nth, order) in some_orders(rng, count).iter().enumerate() {
         let image = run(&scene, &section, order, &plain, true);
         assert!(image == expected, "{order:?} of {scene:x?}");
         if nth % 8 == 0 {
@@ -120,6 +132,7 @@ fn list(rng: &mut Rng, counts: &mut Counts) {
     }
     counts[0] += 1;
     counts[3] += u64::from(accepted.len() < count);
+    counts[6] += plain.iter().filter(|own| own.number == 25).count() as u64;
     let shared = |two: &[generator::frames::Stop]| two[0].record == two[1].record;
     counts[4] += scene.stops.windows(2).filter(|two| shared(two)).count() as u64;
 }
@@ -128,7 +141,7 @@ fn list(rng: &mut Rng, counts: &mut Counts) {
 fn random_lists() {
     let counts = count_random("lists of moves", PARTS, LISTS_A_PART, list);
     say(&format!(
-        "lists, moves, accepted moves, lists with a refusal, frames of one record: {counts:?}"
+        "lists, moves, accepted moves, lists with a refusal, frames of one record, changed registers, 25: {counts:?}"
     ));
     crate::common::assert_often(&counts, |nth| format!("count {nth} of lists"));
 }

@@ -38,12 +38,14 @@ fn both(rng: &mut Rng, counts: &mut Counts) {
         return;
     }
     let outcome = moved(&scene);
+    // AMD64 has fewer registers.
     let twin = scene.on_other_machine();
-    let other = moved(&twin);
-    if outcome != other {
-        let section = twin.section.encode();
-        let call = Call::of(&twin, &section, 0);
-        call.fail(&format!("{other:?}, on the other machine {outcome:?}"));
+    if let Some(other) = twin.as_ref().map(moved) {
+        if outcome.answer() != other.answer() || outcome.image != other.image {
+            let section = scene.section.encode();
+            let call = Call::of(&scene, &section, 0);
+            call.fail(&format!("{outcome:?}, on the other machine {other:?}"));
+        }
     }
     counts[ANSWERS * scene.machine as usize + outcome.number as usize] += 1;
     if [13, 14].contains(&number) {
@@ -81,10 +83,10 @@ fn frames_on_both_machines() {
     });
 }
 
-/// Every register that a location can name, in each of the two locations of a pair, on both machines and in
-/// both versions: only the machine's own two make slots.
+/// Every register that an Indirect location can name, in each of the two locations of a pair, on both machines
+/// and in both versions: slots in memory are counted from the machine's own two alone.
 #[test]
-fn every_register() {
+fn every_register_of_memory() {
     for ((machine, own), version) in MACHINES
         .into_iter()
         .flat_map(|machine| Version::ALL.map(|version| (machine, version)))
@@ -104,7 +106,8 @@ fn every_register() {
             for which in [0, 1] {
                 let mut scene = frame(version, &[[0, 0], [8, 16]], &[0x50000, 0x50000, 0x60008]);
                 scene.machine = machine;
-                scene.stops[0].frame_pointer = 0x7000;
+                scene.set_stack_pointer(0, 0x7000);
+                scene.set_frame_pointer(0, 0x7000);
                 for location in &mut scene.section.records[0].locations[3..] {
                     location.register = own[1];
                 }
@@ -114,8 +117,7 @@ fn every_register() {
                     true => (0, 0, 2),
                     false => (18, 1, 0),
                 };
-                let (number, place, count) = (outcome.number, outcome.place, outcome.count);
-                assert_eq!((number, place, count), answer, "{register} on {machine}");
+                assert_eq!(outcome.answer(), answer, "{register} on {machine}");
             }
         }
     }
@@ -128,7 +130,8 @@ fn frame_pointer_and_stack_pointer() {
         for distance in -40..=40 {
             let mut scene = frame(Version::Three, &[[0, 0], [0, 16]], &[0x50000, 7, 0x50008]);
             scene.machine = machine;
-            scene.stops[0].frame_pointer = 0x7000u64.wrapping_add_signed(distance);
+            scene.set_stack_pointer(0, 0x7000);
+            scene.set_frame_pointer(0, 0x7000u64.wrapping_add_signed(distance));
             let locations = &mut scene.section.records[0].locations[3..];
             for (nth, location) in locations.iter_mut().enumerate() {
                 location.register = of_frame;
@@ -144,8 +147,8 @@ fn frame_pointer_and_stack_pointer() {
             // One byte up, the last slot is outside the image; one byte down, the first is.
             for (by, number) in [(1, 16), (-1, 16)] {
                 let mut scene = scene.clone();
-                let stack_pointer = scene.stops[0].stack_pointer;
-                scene.stops[0].stack_pointer = stack_pointer.wrapping_add_signed(by);
+                let stack_pointer = scene.stack_pointer(0);
+                scene.set_stack_pointer(0, stack_pointer.wrapping_add_signed(by));
                 assert_eq!(moved(&scene).number, number);
             }
             let locations = &mut scene.section.records[0].locations[3..];
@@ -181,10 +184,7 @@ fn numbers_that_are_no_machine() {
             }
         }
         let outcome = Call::of(&scene, &built.bytes, 0).compare();
-        assert_eq!(
-            (outcome.number, outcome.place, outcome.count),
-            (answer.0, answer.1, 0)
-        );
+        assert_eq!(outcome.answer(), (answer.0, answer.1, 0));
         own += u64::from(answer.0 != 33);
         none += u64::from(answer.0 == 33);
     }

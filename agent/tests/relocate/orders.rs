@@ -1,10 +1,11 @@
-//! What must not count: the order of pairs, and the bytes outside the slots.
+//! What must not count: the order of pairs, and the bytes and registers outside the slots.
 
 use crate::calls::Call;
 use crate::common::{count_random, say};
 use crate::make;
 use generator::frames::faults::NUMBERS;
-use generator::frames::{plain, Scene};
+use generator::frames::plain::{self, Slot};
+use generator::frames::{Scene, MACHINES};
 use generator::Rng;
 
 const PARTS: u64 = 300;
@@ -43,17 +44,37 @@ fn permuted(rng: &mut Rng, counts: &mut Counts) {
     counts[outcome.number as usize] += 1;
 }
 
-/// The bytes outside the slots change no answer and no new content. Where a refusal comes before
-/// the slots are read, no byte of the image changes it.
-fn complemented(rng: &mut Rng, counts: &mut Counts) {
-    let (scene, section, number) = frame(rng);
+/// Which bytes of the image, and which registers, may count for a frame with this number as answer.
+fn what_counts(scene: &Scene, number: u64) -> (Vec<bool>, Vec<usize>) {
     let mut listed = vec![false; scene.image.len()];
+    // A number that is no machine is refused before any register is read.
+    let pointers = MACHINES.iter().filter(|(own, _)| *own == scene.machine);
+    let pointers = pointers.flat_map(|(_, pointers)| pointers.map(usize::from));
+    let mut read: Vec<usize> = pointers.collect();
     if [0, 20, 21].contains(&number) {
-        let at = (scene.stops[0].stack_pointer - scene.first) as usize;
-        for slot in plain::slots(&scene, 0).into_iter().flatten().flatten() {
-            listed[at + slot as usize..][..8].fill(true);
+        let at = (scene.stack_pointer(0) - scene.first) as usize;
+        for slot in plain::slots(scene, 0).into_iter().flatten().flatten() {
+            match slot {
+                Slot::Stack(slot) => listed[at + slot as usize..][..8].fill(true),
+                Slot::Register(register) => read.push(register),
+            }
         }
     }
+    (listed, read)
+}
+
+/// The bytes outside the slots, and the registers that are neither slots nor the machine's pointers, change
+/// no answer and no new content. Where a refusal comes before the slots are read, no byte of the image and
+/// no register but the pointers changes it.
+fn complemented(rng: &mut Rng, counts: &mut Counts) {
+    let (scene, section, number) = frame(rng);
+    let (listed, read) = what_counts(&scene, number);
+    let other_registers = |registers: &[u64]| -> Vec<u64> {
+        let registers = registers.iter().enumerate();
+        registers
+            .map(|(nth, own)| if read.contains(&nth) { *own } else { !own })
+            .collect()
+    };
     let complement = |image: &[u8]| -> Vec<u8> {
         let bytes = image.iter().zip(&listed);
         bytes
@@ -61,13 +82,15 @@ fn complemented(rng: &mut Rng, counts: &mut Counts) {
             .collect()
     };
     let outcome = Call::of(&scene, &section, 0).compare();
-    let image = complement(&scene.image);
+    let (image, plainly) = (complement(&scene.image), Call::of(&scene, &section, 0));
     let call = Call {
         image: &image,
-        ..Call::of(&scene, &section, 0)
+        registers: other_registers(&plainly.registers),
+        ..plainly
     };
     let mut other = call.compare();
     other.image = complement(&other.image);
+    other.registers = other_registers(&other.registers);
     if outcome != other {
         call.fail(&format!(
             "{other:?} back again, and with other bytes outside the slots {outcome:?}"
@@ -92,6 +115,6 @@ fn pairs_in_another_order() {
 }
 
 #[test]
-fn bytes_outside_the_slots() {
-    random("bytes outside the slots", complemented);
+fn bytes_and_registers_outside_the_slots() {
+    random("bytes and registers outside the slots", complemented);
 }

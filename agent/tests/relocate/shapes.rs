@@ -1,6 +1,7 @@
 //! Shapes that random frames must have often enough.
 
-use generator::frames::{plain, registers, Scene};
+use generator::frames::plain::{self, Slot};
+use generator::frames::{registers, Scene};
 use generator::layout::Location;
 use generator::Version;
 
@@ -37,22 +38,22 @@ pub const SHAPES: [Shape; 22] = [
     (
         "accepted, a base slot that another pair derives",
         |scene, number| {
-            let slots: Vec<[i128; 2]> = plain_slots(scene, number);
-            let moved = |base: i128| slots.iter().any(|pair| pair[1] == base && pair[0] != base);
+            let slots = plain_slots(scene, number);
+            let moved = |base: Slot| slots.iter().any(|pair| pair[1] == base && pair[0] != base);
             slots.iter().any(|pair| moved(pair[0]))
         },
     ),
     (
         "accepted, a base slot that no pair derives",
         |scene, number| {
-            let slots: Vec<[i128; 2]> = plain_slots(scene, number);
+            let slots = plain_slots(scene, number);
             slots
                 .iter()
                 .any(|pair| slots.iter().all(|other| other[1] != pair[0]))
         },
     ),
     ("accepted, a base of 0", |scene, number| {
-        let slots: Vec<[i128; 2]> = plain_slots(scene, number);
+        let slots = plain_slots(scene, number);
         slots
             .iter()
             .any(|pair| plain::content(scene, 0, pair[0]) == 0)
@@ -71,15 +72,16 @@ pub const SHAPES: [Shape; 22] = [
         |scene, number| {
             let sum = |one: &Location| {
                 let register = if one.register == registers(scene.machine)[0] {
-                    scene.stops[0].frame_pointer
+                    scene.frame_pointer(0)
                 } else {
-                    scene.stops[0].stack_pointer
+                    scene.stack_pointer(0)
                 };
                 i128::from(register) + i128::from(one.offset as i32)
             };
             let wraps =
                 |one: &Location| u64::try_from(sum(one)).is_err() && inside(scene, sum(one));
-            number == 19 && pairs(scene).iter().flatten().any(wraps)
+            let on_stack = |one: &&Location| one.kind == 3;
+            number == 19 && pairs(scene).iter().flatten().filter(on_stack).any(wraps)
         },
     ),
     (
@@ -175,7 +177,7 @@ pub fn pairs(scene: &Scene) -> Vec<[Location; 2]> {
 }
 
 /// The slots of an accepted frame.
-fn plain_slots(scene: &Scene, number: u64) -> Vec<[i128; 2]> {
+pub fn plain_slots(scene: &Scene, number: u64) -> Vec<[Slot; 2]> {
     match number {
         0 => plain::slots(scene, 0).into_iter().flatten().collect(),
         _ => Vec::new(),
@@ -184,7 +186,7 @@ fn plain_slots(scene: &Scene, number: u64) -> Vec<[i128; 2]> {
 
 fn shared(scene: &Scene) -> bool {
     let slots = plain_slots(scene, 0);
-    let other = |pair: &[i128; 2]| {
+    let other = |pair: &[Slot; 2]| {
         slots
             .iter()
             .any(|two| two[1] == pair[1] && two[0] != pair[0])
@@ -195,7 +197,7 @@ fn shared(scene: &Scene) -> bool {
 /// Whether a sum modulo 2^64 would be a slot in the frame.
 fn inside(scene: &Scene, sum: i128) -> bool {
     let wrapped = sum.rem_euclid(1 << 64);
-    let rsp = i128::from(scene.stops[0].stack_pointer);
+    let rsp = i128::from(scene.stack_pointer(0));
     let size = scene.stack_size(0);
     (rsp..=rsp + i128::from(size) - 8).contains(&wrapped)
 }

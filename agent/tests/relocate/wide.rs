@@ -4,7 +4,8 @@
 use crate::common::{assert_often, count_random, say};
 use crate::shapes::{first, pairs, Shape};
 use crate::{compare, make};
-use generator::frames::{plain, registers, Scene, MOST_POINTERS};
+use generator::frames::plain::{self, Slot};
+use generator::frames::{registers, Scene, MOST_POINTERS};
 use generator::layout::Location;
 use generator::Rng;
 
@@ -69,14 +70,12 @@ const WIDE: [Shape; 24] = [
         "accepted, 255 or 256 pointers, null pairs and pairs of several among them",
         |scene, number| {
             let many = number == 0 && plain::pointers(scene, 0) >= 255;
-            many && !widths(scene).is_empty() && pairs(scene).iter().any(|pair| pair[0].kind != 3)
+            many && !widths(scene).is_empty() && pairs(scene).iter().any(is_null)
         },
     ),
     (
         "accepted, base and derived of a pair overlap by some of its slots",
         |scene, number| {
-            let apart =
-                |pair: &plain::Slots| pair.first().map_or(0, |[one, two]| one.abs_diff(*two));
             let within = |pair: &plain::Slots| (1..8 * pair.len() as u128).contains(&apart(pair));
             number == 0 && plain::slots(scene, 0).iter().any(within)
         },
@@ -95,8 +94,7 @@ const WIDE: [Shape; 24] = [
     (
         "17 in version 3, null pairs only past the limit",
         |scene, number| {
-            let null = |pair: &&[Location; 2]| pair[0].kind != 3;
-            let nulls = || pairs(scene).iter().filter(null).count();
+            let nulls = || pairs(scene).iter().filter(|pair| is_null(pair)).count();
             !first(scene) && number == 17 && nulls() > MOST_POINTERS
         },
     ),
@@ -162,7 +160,7 @@ const WIDE: [Shape; 24] = [
     }),
     ("20 in a pair by itself", |scene, number| {
         let own = |pair: &plain::Slots| {
-            let apart = pair.first().map_or(0, |[one, two]| one.abs_diff(*two));
+            let apart = apart(pair);
             pair.len() > 1 && !apart.is_multiple_of(8) && apart < 8 * pair.len() as u128
         };
         number == 20 && plain::slots(scene, 0).iter().any(own)
@@ -172,7 +170,7 @@ const WIDE: [Shape; 24] = [
         |scene, number| number == 20 && !widths(scene).is_empty() && plain::answer(scene, 0).1 > 0,
     ),
     ("21 by the last pointer alone", |scene, number| {
-        let lost = |scene: &Scene, pointer: &[i128; 2]| {
+        let lost = |scene: &Scene, pointer: &[Slot; 2]| {
             let old = plain::content(scene, 0, pointer[0]);
             scene.table.moved(old).is_none()
         };
@@ -183,6 +181,19 @@ const WIDE: [Shape; 24] = [
         |scene, number| number == 21 && !widths(scene).is_empty() && plain::answer(scene, 0).1 > 0,
     ),
 ];
+
+/// Whether a pair of the right form is null.
+fn is_null(pair: &[Location; 2]) -> bool {
+    [4, 5].contains(&pair[0].kind)
+}
+
+/// How far apart the locations of a pair on the stack are; 0 of any other.
+fn apart(pair: &plain::Slots) -> u128 {
+    match pair.first() {
+        Some([Slot::Stack(one), Slot::Stack(two)]) => one.abs_diff(*two),
+        _ => 0,
+    }
+}
 
 /// The numbers of pointers of the pairs that have several, where all pairs have the right form.
 fn widths(scene: &Scene) -> Vec<usize> {
@@ -198,7 +209,10 @@ fn overlap(scene: &Scene) -> bool {
     let stretches: Vec<[i128; 2]> = plain::slots(scene, 0)
         .iter()
         .filter(|pair| pair.len() > 1)
-        .map(|pair| [pair[0][0], pair[0][0] + 8 * pair.len() as i128])
+        .filter_map(|pair| {
+            let start = pair[0][0].on_stack()?;
+            Some([start, start + 8 * pair.len() as i128])
+        })
         .collect();
     let shifted = |[one, end]: &[i128; 2], [other, _]: &[i128; 2]| one < other && other < end;
     stretches
@@ -207,9 +221,10 @@ fn overlap(scene: &Scene) -> bool {
 }
 
 /// Whether a slot of a pointer is not wholly inside the frame.
-fn beyond(scene: &Scene, pointer: &[i128; 2]) -> bool {
+fn beyond(scene: &Scene, pointer: &[Slot; 2]) -> bool {
     let size = i128::from(scene.stack_size(0));
-    pointer.iter().any(|slot| *slot < 0 || *slot + 8 > size)
+    let mut on_stack = pointer.iter().filter_map(|slot| slot.on_stack());
+    on_stack.any(|slot| slot < 0 || slot + 8 > size)
 }
 
 /// The lowest pair with a slot outside the frame.
@@ -221,7 +236,7 @@ fn outside(scene: &Scene) -> Option<usize> {
 }
 
 /// Whether some pair of several pointers has the fault in the last one alone.
-fn only_last(scene: &Scene, fault: impl Fn(&Scene, &[i128; 2]) -> bool) -> bool {
+fn only_last(scene: &Scene, fault: impl Fn(&Scene, &[Slot; 2]) -> bool) -> bool {
     plain::slots(scene, 0).iter().any(|pair| {
         let (last, before) = match pair.split_last() {
             Some((last, before)) if !before.is_empty() => (last, before),
@@ -238,7 +253,7 @@ fn right(location: &Location) -> bool {
 
 /// Whether a pair of version 1 has slots of the right size.
 fn right_1(pair: &[Location; 2]) -> bool {
-    pair[0].kind != 3 || pair.iter().all(|one| [0, 8].contains(&one.size))
+    is_null(pair) || pair.iter().all(|one| [0, 8].contains(&one.size))
 }
 
 /// Whether a pair of version 3 is refused by 18 for its sizes alone, which are so.

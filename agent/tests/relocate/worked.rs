@@ -21,8 +21,6 @@ fn image(slots: [u64; 2]) -> Vec<u8> {
 /// Row I's frame. Version 3 doesn't read the function.
 const I: Frame = Frame {
     address: 0x1020,
-    frame_pointer: 0,
-    stack_pointer: 0x7000,
     function: 77,
 };
 
@@ -30,8 +28,14 @@ const I: Frame = Frame {
 const I_1: Frame = Frame {
     address: 0x20,
     function: 0,
-    ..I
 };
+
+/// Its registers: the stack pointer of either machine is 0x7000, and no other is a slot here.
+fn registers() -> Vec<u64> {
+    let mut registers = vec![0xdddd_dddd_dddd_dddd; 32];
+    (registers[7], registers[31]) = (0x7000, 0x7000);
+    registers
+}
 
 /// Row I with this section, these slots and this new start.
 fn row(section: &[u8], slots: [u64; 2], new: u64) -> Outcome {
@@ -53,6 +57,7 @@ fn on(machine: u64, section: &[u8], slots: [u64; 2], new: u64, frames: Frame) ->
         news: &[new],
         machine,
         frames,
+        registers: registers(),
     };
     call.compare()
 }
@@ -63,6 +68,7 @@ fn moved(slots: [u64; 2]) -> Outcome {
         place: 0,
         count: 2,
         image: image(slots),
+        registers: registers(),
     }
 }
 
@@ -99,7 +105,8 @@ fn rows_i_to_l() {
 }
 
 fn refused(outcome: Outcome, slots: [u64; 2]) -> (u64, u64) {
-    assert_eq!((outcome.count, outcome.image), (0, image(slots)));
+    assert_eq!((outcome.count, &outcome.image), (0, &image(slots)));
+    assert_eq!(outcome.registers, registers());
     (outcome.number, outcome.place)
 }
 

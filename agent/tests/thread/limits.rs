@@ -5,30 +5,34 @@ use crate::common::{say, seed};
 use generator::frames::faults::{aim, OWN};
 use generator::frames::thread::Thread;
 use generator::frames::{guests, shuffle, Scene, Size, Stop, Table};
-use generator::frames::{MOST_FRAMES, MOST_IMAGE};
+use generator::frames::{MOST_FRAMES, MOST_IMAGE, REGISTERS};
 use generator::layout::{Function, Location, Record, Section};
 use generator::{Rng, Version};
+use treskibben::Machine;
 
 /// Compares the move of a list, and with what is known of it. It is moved on both machines.
-fn expect(thread: &Thread) -> Outcome {
+pub fn expect(thread: &Thread) -> Outcome {
     let outcome = expect_on_one(thread);
-    let other = Thread {
-        scene: thread.scene.on_other_machine(),
-        ..thread.clone()
-    };
-    let other = expect_on_one(&other);
-    assert!(
-        outcome == other,
-        "on the other machine {} at {}",
-        other.number,
-        other.place
-    );
+    // AMD64 has fewer registers.
+    if let Some(scene) = thread.scene.on_other_machine() {
+        let other = Thread {
+            scene,
+            ..thread.clone()
+        };
+        let other = expect_on_one(&other);
+        assert!(
+            outcome.answer() == other.answer() && outcome.image == other.image,
+            "on the other machine {} at {}",
+            other.number,
+            other.place
+        );
+    }
     outcome
 }
 
 fn expect_on_one(thread: &Thread) -> Outcome {
     let (section, list) = (thread.scene.section.encode(), thread.list());
-    let call = Call::with(&thread.scene, &section, &list[..]);
+    let call = Call::with(&thread.scene, &section, &list[..], thread.registers());
     let outcome = call.compare();
     let known = thread.answer();
     if (outcome.number, outcome.place) != known {
@@ -37,6 +41,7 @@ fn expect_on_one(thread: &Thread) -> Outcome {
     if outcome.number == 0 {
         assert_eq!(outcome.count, thread.pointers());
         assert!(outcome.image == thread.moved());
+        assert!(outcome.registers == thread.moved_registers());
     }
     outcome
 }
@@ -70,7 +75,7 @@ fn one_statepoint(version: Version) -> Section {
 
 /// The function has called itself so often: frames one above the other, all at the one statepoint, each
 /// with an object of its own.
-fn deep(version: Version, frames: usize) -> Thread {
+pub fn deep(version: Version, frames: usize) -> Thread {
     let base = |nth: usize| 0x50000 + 0x40 * nth as u64;
     let slots = |nth: usize| [nth as u64, base(nth), base(nth) + 8];
     let words = (0..frames).flat_map(slots);
@@ -80,8 +85,8 @@ fn deep(version: Version, frames: usize) -> Thread {
     };
     let stop = |nth: usize| Stop {
         address,
-        frame_pointer: 0,
-        stack_pointer: 0x7000 + 24 * nth as u64,
+        registers: Machine::Amd64.registers(0, 0x7000 + 24 * nth as u64),
+        listed: REGISTERS,
         record: 0,
         function: 0,
         named: 0,
@@ -130,7 +135,8 @@ fn lists_of_every_length() {
             }
             thread.scene.table.news.push(1);
             let (section, list) = (thread.scene.section.encode(), thread.list());
-            let outcome = Call::with(&thread.scene, &section, &list[..]).compare();
+            let registers = thread.registers();
+            let outcome = Call::with(&thread.scene, &section, &list[..], registers).compare();
             assert_eq!((outcome.number, outcome.place), (14, 0));
         }
     }
@@ -154,7 +160,7 @@ fn function_numbers_of_a_long_list() {
 }
 
 /// The orders of a list of so many frames.
-fn orders(rng: &mut Rng, frames: usize) -> [Vec<usize>; 3] {
+pub fn orders(rng: &mut Rng, frames: usize) -> [Vec<usize>; 3] {
     let rising: Vec<usize> = (0..frames).collect();
     let falling = rising.iter().rev().copied().collect();
     let mut any = rising.clone();
@@ -203,7 +209,10 @@ fn spoil(rng: &mut Rng, thread: &mut Thread, fault: usize, position: usize) {
     let at = 24 * stop + 8;
     match fault {
         0 => scene.stops[stop].address += 0x20,
-        1 => scene.stops[stop].stack_pointer = scene.first + scene.image.len() as u64 - 23,
+        1 => {
+            let past = scene.first + scene.image.len() as u64 - 23;
+            scene.set_stack_pointer(stop, past);
+        }
         2 => scene.image[at] ^= 1,
         3 => {
             let other = (position + 1 + rng.below(MOST_FRAMES - 1)) % MOST_FRAMES;
@@ -212,7 +221,7 @@ fn spoil(rng: &mut Rng, thread: &mut Thread, fault: usize, position: usize) {
         _ => {
             // A frame of null pairs in its stead, which reaches into the frame beside it.
             let up = stop == 0;
-            let rsp = scene.stops[stop].stack_pointer - u64::from(!up);
+            let rsp = scene.stack_pointer(stop) - u64::from(!up);
             let guest = guests::stand(rng, scene, rsp, 25);
             thread.order[position] = guest;
         }
@@ -278,10 +287,8 @@ fn stretches(rng: &mut Rng, length: usize, frames: impl Iterator<Item = (usize, 
                 stop
             }
         };
-        scene.stops.push(Stop {
-            stack_pointer: rsp,
-            ..stop
-        });
+        scene.stops.push(stop);
+        scene.set_stack_pointer(scene.stops.len() - 1, rsp);
     }
     Thread::of(thread.scene)
 }
@@ -300,13 +307,14 @@ fn frames_that_fill_the_image() {
         };
         assert_eq!(expect(&thread).number, 0);
         for nth in [1, 2, MOST_FRAMES / 2, MOST_FRAMES - 1] {
-            thread.scene.stops[nth].stack_pointer -= 1;
+            let stack_pointer = thread.scene.stack_pointer(nth);
+            thread.scene.set_stack_pointer(nth, stack_pointer - 1);
             let outcome = expect(&thread);
             let places =
                 [nth - 1, nth].map(|stop| thread.order.iter().position(|one| *one == stop));
             let later = places.iter().flatten().max().copied();
             assert_eq!((outcome.number, Some(outcome.place as usize)), (26, later));
-            thread.scene.stops[nth].stack_pointer += 1;
+            thread.scene.set_stack_pointer(nth, stack_pointer);
         }
     }
 }
@@ -348,7 +356,8 @@ fn a_thread_with_little_stack() {
         let thread = deep(version, MOST_FRAMES);
         let (section, list) = (thread.scene.section.encode(), thread.list());
         let expected = thread.moved();
-        let moved = move || Call::with(&thread.scene, &section, &list[..]).by_library();
+        let registers = thread.registers();
+        let moved = move || Call::with(&thread.scene, &section, &list[..], registers).by_library();
         let little = std::thread::Builder::new().stack_size(STACK).spawn(moved);
         let outcome = little.expect("a thread").join().expect("no panic");
         assert_eq!(outcome.count, 2 * MOST_FRAMES as u64);

@@ -23,7 +23,7 @@ pub const POSITIONS: [Position; 5] = [
 /// A shape: its name, and whether a list with this answer has it.
 type Shape = (&'static str, fn(&Thread, (u64, u64)) -> bool);
 
-pub const SHAPES: [Shape; 17] = [
+pub const SHAPES: [Shape; 23] = [
     ("accepted, a list of none", |thread, answer| {
         answer.0 == 0 && thread.order.is_empty()
     }),
@@ -88,7 +88,7 @@ pub const SHAPES: [Shape; 17] = [
             let order = [10, 15, 12, 16, one, two, 19, 20, 21];
             let rank = |number: u64| order.iter().position(|one| *one == number);
             let later = thread.order.iter().skip(answer.1 as usize + 1);
-            let mut numbers = later.map(|stop| rank(plain::refusal(&thread.scene, *stop).0));
+            let mut numbers = later.map(|stop| rank(plain::own_refusal(&thread.scene, *stop).0));
             rank(answer.0)
                 .is_some_and(|own| numbers.any(|other| other.is_some_and(|other| other < own)))
         },
@@ -120,8 +120,48 @@ pub const SHAPES: [Shape; 17] = [
         },
     ),
     (
-        "version 1, 25 by one to three numbers more",
+        "version 1, 25 by one to three numbers more than frames with registers",
         |thread, answer| first(thread) && answer.0 == 25 && thread.rest > 0,
+    ),
+    ("25 by an odd list", |thread, answer| {
+        answer.0 == 25 && thread.rest % 2 == 1
+    }),
+    ("25 by registers that are too few", |thread, answer| {
+        let frames = thread.list().len() / 2;
+        answer.0 == 25 && thread.registers().len() < 32 * frames
+    }),
+    ("25 by registers that are too many", |thread, answer| {
+        let frames = thread.list().len() / 2;
+        answer.0 == 25 && thread.rest == 0 && thread.registers().len() > 32 * frames
+    }),
+    (
+        "accepted, registers of several frames change",
+        |thread, answer| answer.0 == 0 && changed(thread) > 1,
+    ),
+    (
+        "accepted, one register of two frames, with other contents",
+        |thread, answer| {
+            let two = |two: &[usize]| {
+                let [one, other] = [two[0], two[1]].map(|stop| derived(thread, stop));
+                let differ = |(register, content): &(usize, u64)| {
+                    other
+                        .iter()
+                        .any(|(own, held)| own == register && held != content)
+                };
+                two[0] != two[1] && one.iter().any(differ)
+            };
+            answer.0 == 0 && thread.order.windows(2).any(two)
+        },
+    ),
+    (
+        "refused, and registers of an earlier frame would change",
+        |thread, answer| {
+            let own = [10, 12, 15, 16, 17, 18, 19, 20, 21, 26].contains(&answer.0);
+            own && thread.order[..answer.1 as usize].iter().any(|stop| {
+                let registers = &thread.scene.stops[*stop].registers;
+                plain::moved_registers(&thread.scene, *stop) != *registers
+            })
+        },
     ),
     (
         "version 3, accepted, a function that is not there",
@@ -135,6 +175,26 @@ pub const SHAPES: [Shape; 17] = [
 
 fn first(thread: &Thread) -> bool {
     thread.scene.section.version == Version::One
+}
+
+/// How many frames of an accepted list have a register that changes.
+fn changed(thread: &Thread) -> usize {
+    let before = thread.registers();
+    let after = thread.moved_registers();
+    let frames = before.chunks(32).zip(after.chunks(32));
+    frames.filter(|(before, after)| before != after).count()
+}
+
+/// The registers that are derived slots of a frame, and what they hold before the move.
+fn derived(thread: &Thread, stop: usize) -> Vec<(usize, u64)> {
+    let slots = plain::slots(&thread.scene, stop).concat();
+    let registers = slots
+        .iter()
+        .filter_map(|[_, derived]| derived.in_register());
+    let held = |register: usize| thread.scene.stops[stop].registers[register];
+    registers
+        .map(|register| (register, held(register)))
+        .collect()
 }
 
 /// How many frames of an accepted list have a pair of several pointers.
@@ -161,7 +221,7 @@ fn named(thread: &Thread, stop: usize) -> u64 {
 
 /// A frame's extent by its bytes in the image.
 fn extent(scene: &Scene, stop: usize) -> Range<i128> {
-    let start = i128::from(scene.stops[stop].stack_pointer) - i128::from(scene.first);
+    let start = i128::from(scene.stack_pointer(stop)) - i128::from(scene.first);
     start..start + i128::from(scene.stack_size(stop))
 }
 

@@ -2,6 +2,7 @@
 
 mod write;
 
+use crate::folder::Folder;
 use crate::library::{self, Refusal};
 use crate::numbers::count;
 use crate::progress::Progress;
@@ -51,7 +52,7 @@ pub fn run(arguments: &Arguments, voice: Voice) -> Result<Status, Trouble> {
         let why = "--into reads the file twice, which has to be a regular one";
         return Err(Trouble::file(path, "cannot be cut", why));
     }
-    let target = write::target(folder)?;
+    let target = Folder::at(folder)?;
     let parts = parts(path, &mut file, voice, true)?;
     write::all(path, &mut file, &parts, &target)?;
     if voice == Voice::Json {

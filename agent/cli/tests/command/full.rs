@@ -1,6 +1,7 @@
 //! A full disk: a small file system in memory, where one can be mounted.
 
 use crate::fixtures::{of_pairs, row_h, rsp, C};
+use crate::restore::registers::in_rbx;
 use crate::restore::Restore;
 use crate::run::{skipped, Folder, Ran, PROGRAM};
 use std::process::{Command, Stdio};
@@ -66,6 +67,27 @@ fn a_restore() {
     }
     let call = format!("{RESTORE} --output new");
     let ran = on_a_disk(&folder, 2064, FILES, &call).unwrap();
+    assert_eq!(ran.status, Some(0), "{}", ran.err);
+}
+
+/// There is no room in the folder for the image, for the frames, or for the receipt: then there is no folder.
+#[test]
+fn a_restore_into_a_folder() {
+    let (mut row, folder) = (in_rbx(), Folder::new());
+    row.image.resize(1_048_576, 0xAB);
+    row.put(&folder);
+    let call = format!("{RESTORE} --into new");
+    for (size, name) in [
+        (1400, "image"),
+        (2060, "frames"),
+        (2064, "image.receipt.json"),
+    ] {
+        let Some(ran) = on_a_disk(&folder, size, FILES, &call) else {
+            return;
+        };
+        full(&ran, &format!("new/{name}: cannot be written: "), NAMES);
+    }
+    let ran = on_a_disk(&folder, 2068, FILES, &call).unwrap();
     assert_eq!(ran.status, Some(0), "{}", ran.err);
 }
 

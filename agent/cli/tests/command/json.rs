@@ -183,7 +183,7 @@ fn restore() {
     let ran = run(&row, &["--output", "new"]);
     let restored = json!({
         "answer": "restored", "image": "image", "output": "new", "receipt": "new.receipt.json",
-        "frames": 1, "pointers": 2,
+        "frames": 1, "pointers": 2, "registers": 0,
     });
     assert_eq!((ran.status, ran.err.as_str()), (Some(0), ""));
     assert_eq!(objects(&ran), [restored]);

@@ -9,6 +9,7 @@ mod machines;
 mod output;
 mod receipts;
 mod refusals;
+pub mod registers;
 mod threads;
 mod worked;
 

@@ -225,7 +225,7 @@ fn lines_of_the_other_version_are_bad() {
         row.frames = format!("# frames\n{line}\n");
         row.failed(
             &format!("frames:2: {why}"),
-            "; a line has the form FUNCTION+OFFSET RBP RSP\n",
+            "; a line has the form FUNCTION+OFFSET RBP RSP [REGISTER=VALUE..]\n",
         );
     }
 }

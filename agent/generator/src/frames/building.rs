@@ -3,7 +3,7 @@
 
 use super::cells::Cells;
 use super::functions::{self, Group, Taken};
-use super::{keys, named, registers, shuffle, Pool, Scene, Size, Stop, Table};
+use super::{keys, named, shuffle, Pool, Scene, Size, Stop, Table, REGISTERS};
 use crate::layout::{Record, Section, Version};
 use crate::rng::Rng;
 use std::ops::Range;
@@ -81,6 +81,8 @@ struct Building<'a> {
     taken: Taken,
     /// The frame pointer minus the stack pointer of each frame, modulo 2^64.
     distances: Vec<u64>,
+    /// What the registers of each frame hold, but for these two.
+    registers: Vec<[u64; REGISTERS]>,
 }
 
 /// Frames of these sizes, in a section that has the noise too. None where a frame that is to stand
@@ -94,7 +96,8 @@ pub(super) fn build(
 ) -> Option<Scene> {
     let mut constants = noise.constants.clone();
     constants.extend([0, rng.number(64).max(1)]);
-    let cells: Vec<Cells> = sizes.iter().map(|size| Cells::any(rng, size)).collect();
+    let cells = sizes.iter().map(|size| Cells::any(rng, size, machine));
+    let cells: Vec<Cells> = cells.collect();
     let (image, frames) = lay_out(rng, &cells, sizes);
     let mut building = Building {
         table,
@@ -110,10 +113,13 @@ pub(super) fn build(
         },
         taken: Taken::new(keys(noise).into_iter(), std::iter::empty()),
         distances: Vec::new(),
+        registers: Vec::new(),
     };
     for (nth, frame) in frames.iter().enumerate() {
         let stretch = &mut building.image[frame.stretch()];
-        frame.cells.fill(rng, table, stretch);
+        let mut registers = [0; REGISTERS];
+        frame.cells.fill(rng, table, stretch, &mut registers);
+        building.registers.push(registers);
         let distance = match frame.of == nth {
             true => building.stand(rng, frame),
             false => building.stand_again(nth, frame, &frames[frame.of]),
@@ -130,8 +136,9 @@ impl Building<'_> {
         let pool = Pool {
             version: self.version,
             constants: &self.constants,
-            registers: registers(self.machine),
+            machine: self.machine,
         };
+        let registers = self.registers.last().expect("those of the frame");
         let mut record = functions::statepoint(rng, pool);
         let frame_pointer = frame.cells.frame_pointer(rng, stack_pointer);
         frame.cells.pairs(
@@ -139,7 +146,7 @@ impl Building<'_> {
             frame.pointers,
             [frame_pointer, stack_pointer],
             pool,
-            &self.image[frame.stretch()],
+            (&self.image[frame.stretch()], registers),
             self.table,
             &mut record,
         );
@@ -150,9 +157,10 @@ impl Building<'_> {
     }
 
     /// Has the frame stand at the statepoint of the one before, with the same contents, and gives
-    /// The frame pointer minus the stack pointer.
+    /// the frame pointer minus the stack pointer.
     fn stand_again(&mut self, nth: usize, frame: &Laid, same: &Laid) -> u64 {
         self.image.copy_within(same.stretch(), frame.at);
+        self.registers[nth] = self.registers[frame.of];
         let group = self.groups.last_mut();
         group.expect("that of the frame before").stops.push(nth);
         *self.distances.last().expect("that of the frame before")
@@ -160,22 +168,14 @@ impl Building<'_> {
 
     /// The scene, where the frame pointer of every frame is an address.
     fn finish(self, rng: &mut Rng, frames: &[Laid]) -> Option<Scene> {
-        let mut stops = Vec::new();
-        for (frame, distance) in frames.iter().zip(&self.distances) {
-            let stack_pointer = self.first + frame.at as u64;
-            let frame_pointer = stack_pointer.wrapping_add(*distance);
-            if (frame_pointer >= stack_pointer) != (*distance < 1 << 63) {
-                return None;
-            }
-            stops.push(Stop {
-                address: 0,
-                frame_pointer,
-                stack_pointer,
-                record: 0,
-                function: 0,
-                named: 0,
-            });
-        }
+        let stop = |registers: &[u64; REGISTERS]| Stop {
+            address: 0,
+            registers: *registers,
+            listed: REGISTERS,
+            record: 0,
+            function: 0,
+            named: 0,
+        };
         let section = Section {
             version: self.version,
             constants: self.constants,
@@ -187,8 +187,17 @@ impl Building<'_> {
             first: self.first,
             table: self.table.clone(),
             machine: self.machine,
-            stops,
+            stops: self.registers.iter().map(stop).collect(),
         };
+        for (nth, (frame, distance)) in frames.iter().zip(&self.distances).enumerate() {
+            let stack_pointer = self.first + frame.at as u64;
+            let frame_pointer = stack_pointer.wrapping_add(*distance);
+            if (frame_pointer >= stack_pointer) != (*distance < 1 << 63) {
+                return None;
+            }
+            scene.set_frame_pointer(nth, frame_pointer);
+            scene.set_stack_pointer(nth, stack_pointer);
+        }
         place(rng, &mut scene, self.groups, self.strays);
         Some(scene)
     }

@@ -1,22 +1,29 @@
 //! The slots of a frame, their contents, and the pairs of pointers that name them.
 
-use super::{Pool, Size, Table};
+use super::{registers, shuffle, slot_registers, Pool, Size, Table, REGISTERS};
 use crate::layout::{Location, Record, Version};
 use crate::rng::Rng;
 
-/// Slots that share no byte, by their first byte counted from the stack pointer, and the frame's length.
+/// Where a slot is: on the stack by its first byte, counted from the stack pointer, or in a register.
+#[derive(Clone, Copy, Debug, PartialEq, Eq)]
+enum Place {
+    Stack(usize),
+    Register(u16),
+}
+
+/// Slots that share no byte, first those on the stack in rising order, and the frame's length.
 #[derive(Clone, Debug)]
 pub(super) struct Cells {
-    places: Vec<usize>,
+    places: Vec<Place>,
     pub(super) length: usize,
     /// Whether all are to hold bases.
     bases: bool,
 }
 
 impl Cells {
-    /// The slots of a frame of this size: one after the other, or with gaps, and now and then not at
-    /// multiples of eight.
-    pub(super) fn any(rng: &mut Rng, size: &Size) -> Cells {
+    /// The slots of a frame of this size on this machine: one after the other, or with gaps, and now and
+    /// then not at multiples of eight; and in any registers.
+    pub(super) fn any(rng: &mut Rng, size: &Size, machine: u64) -> Cells {
         let gaps: &[usize] = match (size.wide, rng.below(3)) {
             (true, _) => &[0],
             (_, 0) => &[0, 1, 3, 7, 9],
@@ -34,23 +41,44 @@ impl Cells {
         if rng.one_in(2) {
             length = places.last().map_or(0, |last| last + 8);
         }
+        let mut registers = slot_registers(machine);
+        shuffle(rng, &mut registers);
+        registers.truncate(size.registers);
+        let registers = registers.into_iter().map(Place::Register);
         Cells {
-            places,
+            places: places
+                .into_iter()
+                .map(Place::Stack)
+                .chain(registers)
+                .collect(),
             length,
             bases: size.wide,
         }
     }
 
     /// Sets the contents: bases that the table moves, 0, and mostly also pointers near an object and
-    /// others.
-    pub(super) fn fill(&self, rng: &mut Rng, table: &Table, stretch: &mut [u8]) {
+    /// others. Registers that are no slots of these hold anything, an object's start too.
+    pub(super) fn fill(
+        &self,
+        rng: &mut Rng,
+        table: &Table,
+        stretch: &mut [u8],
+        registers: &mut [u64; REGISTERS],
+    ) {
         stretch.fill_with(|| rng.byte());
         let zeros = rng.pick(&[1, 8]);
-        for place in &self.places {
-            let object = match table.olds.len() {
-                0 => 0,
-                _ => rng.pick(&table.olds),
+        let object = |rng: &mut Rng| match table.olds.len() {
+            0 => 0,
+            _ => rng.pick(&table.olds),
+        };
+        for register in registers.iter_mut() {
+            *register = match rng.below(4) {
+                0 => object(rng),
+                _ => rng.number(64),
             };
+        }
+        for place in &self.places {
+            let object = object(rng);
             let content = match rng.below(8) {
                 0..=3 => object,
                 4 | 5 if self.bases => object,
@@ -59,7 +87,10 @@ impl Cells {
                 _ if rng.below(8) < zeros => 0,
                 _ => object,
             };
-            stretch[*place..place + 8].copy_from_slice(&content.to_le_bytes());
+            match *place {
+                Place::Stack(at) => stretch[at..at + 8].copy_from_slice(&content.to_le_bytes()),
+                Place::Register(number) => registers[usize::from(number)] = content,
+            }
         }
     }
 
@@ -89,13 +120,16 @@ impl Cells {
         count: usize,
         contents_of: [u64; 2],
         pool: Pool,
-        stretch: &[u8],
+        (stretch, registers): (&[u8], &[u64; REGISTERS]),
         table: &Table,
         record: &mut Record,
     ) {
-        let content = |place: &usize| {
-            let bytes = stretch[*place..place + 8].try_into().expect("eight bytes");
-            u64::from_le_bytes(bytes)
+        let content = |place: &Place| match *place {
+            Place::Register(number) => registers[usize::from(number)],
+            Place::Stack(at) => {
+                let bytes = stretch[at..at + 8].try_into().expect("eight bytes");
+                u64::from_le_bytes(bytes)
+            }
         };
         let contents: Vec<u64> = self.places.iter().map(content).collect();
         let moved = |nth: &usize| table.moved(contents[*nth]).is_some();
@@ -130,7 +164,10 @@ impl Cells {
             }
             for nth in pair {
                 let size = pool.slot_size(rng, pointers);
-                let location = slot(rng, pool, size, self.places[nth], contents_of);
+                let location = match self.places[nth] {
+                    Place::Stack(place) => slot(rng, pool, size, place, contents_of),
+                    Place::Register(number) => register(number, size),
+                };
                 record.locations.push(location);
             }
         }
@@ -148,12 +185,23 @@ impl Cells {
         [base, derived]
     }
 
-    /// Whether the nth slots after these two stand there without a gap.
+    /// Whether the nth slots after these two stand there without a gap: on the stack, or the two
+    /// themselves.
     fn follow(&self, pair: [usize; 2], nth: usize) -> bool {
-        pair.iter().all(|first| {
-            let place = self.places.get(first + nth);
-            place == Some(&(self.places[*first] + 8 * nth))
+        pair.iter().all(|first| match self.places[*first] {
+            Place::Stack(at) => self.places.get(first + nth) == Some(&Place::Stack(at + 8 * nth)),
+            Place::Register(_) => nth == 0,
         })
+    }
+}
+
+/// The location of this size that is a register.
+pub(super) fn register(number: u16, size: u16) -> Location {
+    Location {
+        kind: 1,
+        size,
+        register: number,
+        offset: 0,
     }
 }
 
@@ -166,9 +214,10 @@ fn slot(
     [frame_pointer, stack_pointer]: [u64; 2],
 ) -> Location {
     let from_frame_pointer = i128::from(stack_pointer) + place as i128 - i128::from(frame_pointer);
+    let [of_frame, of_stack] = registers(pool.machine);
     let (register, offset) = match i32::try_from(from_frame_pointer) {
-        Ok(offset) if rng.one_in(2) => (pool.registers[0], offset),
-        _ => (pool.registers[1], place as i32),
+        Ok(offset) if rng.one_in(2) => (of_frame, offset),
+        _ => (of_stack, place as i32),
     };
     Location {
         kind: 3,

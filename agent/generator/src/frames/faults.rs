@@ -4,16 +4,19 @@
 mod pairs;
 mod standing;
 
-use super::{plain, Scene, MOST_IMAGE, MOST_MOVES};
+use super::{plain, registers, Scene, MOST_IMAGE, MOST_MOVES, REGISTERS};
 use crate::layout::{LiveOut, Record};
 use crate::rng::Rng;
 use pairs::{base, collision, form, many_pointers, outside};
 use standing::{extent, no_record, shared};
 
 /// The refusals of a frame that are not its section's.
-pub const NUMBERS: [u64; 12] = [10, 12, 13, 14, 15, 16, 17, 18, 19, 20, 21, 33];
+pub const NUMBERS: [u64; 13] = [10, 12, 13, 14, 15, 16, 17, 18, 19, 20, 21, 25, 33];
 
-/// Those that are one frame's own, whatever the other frames are.
+/// Those that are one frame's own where it is moved alone, whatever the other frames are.
+pub const ALONE: [u64; 10] = [10, 12, 15, 16, 17, 18, 19, 20, 21, 25];
+
+/// Those that are one frame's own in a thread too.
 pub const OWN: [u64; 9] = [10, 12, 15, 16, 17, 18, 19, 20, 21];
 
 /// Lists and images past their limits are large: there are few of them.
@@ -34,14 +37,21 @@ pub fn aim(rng: &mut Rng, number: u64, scene: &mut Scene, stop: usize) -> Option
         19 => outside(rng, scene, stop),
         20 => collision(rng, scene, stop),
         21 => base(rng, scene, stop),
+        25 => list(rng, scene, stop),
         33 => machine(rng, scene),
         _ => None,
     }
 }
 
-/// Gives one frame in so many a fault of its own. Frames at a statepoint with a fault already get
-/// none.
+/// Gives one frame in so many a fault of its own, as a thread's frame can have it. Frames at a statepoint
+/// with a fault already get none.
 pub fn scatter(rng: &mut Rng, scene: &mut Scene, many: usize) {
+    scatter_of(rng, scene, many, &OWN);
+}
+
+/// Gives one frame in so many a fault of these numbers. Frames at a statepoint with a fault already get
+/// none.
+pub fn scatter_of(rng: &mut Rng, scene: &mut Scene, many: usize, numbers: &[u64]) {
     let mut faulty: Vec<usize> = Vec::new();
     for stop in 0..scene.stops.len() {
         let record = scene.stops[stop].record;
@@ -49,7 +59,7 @@ pub fn scatter(rng: &mut Rng, scene: &mut Scene, many: usize) {
             .iter()
             .all(|other| scene.stops[*other].record != record);
         if fresh && rng.one_in(many) {
-            let number = rng.pick(&OWN);
+            let number = rng.pick(numbers);
             aim(rng, number, scene, stop);
             faulty.push(stop);
         }
@@ -104,9 +114,25 @@ fn machine(rng: &mut Rng, scene: &mut Scene) -> Option<u64> {
     Some(0)
 }
 
-/// Hands in the other machine: the frames are then of one machine, and their section of the other.
+/// Lends a list of registers that isn't 32 long: one less, one more, none, or any.
+fn list(rng: &mut Rng, scene: &mut Scene, stop: usize) -> Option<u64> {
+    let any = rng.below(REGISTERS);
+    let twice = 2 * REGISTERS;
+    scene.stops[stop].listed = rng.pick(&[31, 31, 33, 33, 0, 0, 16, any, twice, 1_000]);
+    Some(0)
+}
+
+/// Hands in the other machine: the frames are then of one machine, and their section of the other. The
+/// pointers of the other machine hold what this one's do, so that each frame is where it was.
 pub fn other_machine(scene: &mut Scene) {
+    let own = registers(scene.machine);
     scene.machine = 1 - scene.machine;
+    let others = registers(scene.machine);
+    for stop in &mut scene.stops {
+        for (from, to) in own.into_iter().zip(others) {
+            stop.registers[usize::from(to)] = stop.registers[usize::from(from)];
+        }
+    }
 }
 
 fn image(rng: &mut Rng, scene: &mut Scene) -> Option<u64> {

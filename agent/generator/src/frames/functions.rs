@@ -1,6 +1,6 @@
 //! The functions of a scene's section: those with the statepoints that frames stand at, and others.
 
-use super::Pool;
+use super::{registers, slot_registers, Pool};
 use crate::layout::{Function, LiveOut, Location, Record, Section, Version};
 use crate::rng::Rng;
 use crate::valid::Shape;
@@ -208,8 +208,11 @@ pub(super) fn statepoint(rng: &mut Rng, pool: Pool) -> Record {
         locations.push(Location {
             kind,
             size: 8,
-            register: pool.registers[1],
-            offset,
+            register: match rng.one_in(2) {
+                true => registers(pool.machine)[1],
+                false => rng.pick(&slot_registers(pool.machine)),
+            },
+            offset: if kind == 1 { 0 } else { offset },
         });
     }
     Record {

@@ -1,8 +1,8 @@
-//! Frames that lie anywhere on the image, also over others: their pairs are null, so that each is
-//! accepted wherever it lies.
+//! Frames that lie anywhere on the image, also over others: their pairs are null, or registers whose
+//! bases are moved, so that each is accepted wherever it lies.
 
 use super::functions::{self, Taken};
-use super::{keys, named, Scene, Stop};
+use super::{keys, named, Scene, Stop, REGISTERS};
 use crate::rng::Rng;
 
 /// How the extent of a guest lies to that of its host.
@@ -91,14 +91,22 @@ pub fn add(rng: &mut Rng, scene: &mut Scene, lie: Lie, host: usize) -> Option<us
     Some(stand(rng, scene, stack_pointer, (to - from) as u64))
 }
 
-/// Adds a frame of this size at this stack pointer, with up to three null pairs and a function of its own, and
-/// gives its number.
+/// Adds a frame of this size at this stack pointer, with up to three pairs, null or in registers, and a
+/// function of its own, and gives its number. All its registers hold one base.
 pub fn stand(rng: &mut Rng, scene: &mut Scene, stack_pointer: u64, size: u64) -> usize {
     let (version, pool) = (scene.section.version, scene.pool());
     let mut record = functions::statepoint(rng, pool);
-    for _ in 0..2 * rng.below(4) {
-        record.locations.push(pool.null(rng));
+    for _ in 0..rng.below(4) {
+        let pair = match rng.one_in(3) {
+            true => [pool.register(rng), pool.register(rng)],
+            false => [pool.null(rng), pool.null(rng)],
+        };
+        record.locations.extend(pair);
     }
+    let base = match scene.table.olds.len() {
+        0 => 0,
+        _ => rng.pick(&scene.table.olds),
+    };
     let records = keys(&scene.section).into_iter();
     let mut taken = Taken::new(records, scene.stops.iter().map(|stop| stop.address));
     let number = scene.stops.len();
@@ -106,12 +114,14 @@ pub fn stand(rng: &mut Rng, scene: &mut Scene, stack_pointer: u64, size: u64) ->
     let function = scene.section.functions.len();
     scene.stops.push(Stop {
         address: group.address(),
-        frame_pointer: stack_pointer,
-        stack_pointer,
+        registers: [base; REGISTERS],
+        listed: REGISTERS,
         record: scene.section.records.len() + group.at,
         function,
         named: named(rng, version, function, function + 1),
     });
+    scene.set_frame_pointer(number, stack_pointer);
+    scene.set_stack_pointer(number, stack_pointer);
     scene.section.functions.push(group.function);
     scene.section.records.extend(group.records);
     number

@@ -1,13 +1,38 @@
-//! How a frame is answered and what becomes of the image, worked out plainly from the scene: one more
-//! opinion beside those of the library and of the second implementation.
+//! How a frame is answered and what becomes of the image and of its registers, worked out plainly from
+//! the scene: one more opinion beside those of the library and of the second implementation.
 
-use super::{keys, registers, Scene, MOST_POINTERS};
+use super::machines::is_slot_register;
+use super::{keys, registers, Scene, MOST_POINTERS, REGISTERS};
 use crate::layout::{Location, Record, Version};
 use crate::questions::addresses;
 
-/// The slots of a pair's pointers, base first, by their first byte counted from the stack pointer; a null pair has
-/// none.
-pub type Slots = Vec<[i128; 2]>;
+/// A slot: eight bytes by their first, counted from the stack pointer, or a register by its number.
+#[derive(Clone, Copy, Debug, PartialEq, Eq)]
+pub enum Slot {
+    Stack(i128),
+    Register(usize),
+}
+
+impl Slot {
+    /// Its first byte, if it is on the stack.
+    pub fn on_stack(self) -> Option<i128> {
+        match self {
+            Slot::Stack(at) => Some(at),
+            Slot::Register(_) => None,
+        }
+    }
+
+    /// Its number, if it is a register.
+    pub fn in_register(self) -> Option<usize> {
+        match self {
+            Slot::Stack(_) => None,
+            Slot::Register(number) => Some(number),
+        }
+    }
+}
+
+/// The slots of a pair's pointers, base first; a null pair has none.
+pub type Slots = Vec<[Slot; 2]>;
 
 /// The number of the location that the pairs of a statepoint begin with; nothing where the record
 /// is no statepoint.
@@ -24,20 +49,22 @@ pub fn first_pair(record: &Record) -> Option<usize> {
 
 /// The slots of a frame's pairs, each of which is null or has the right form.
 pub fn slots(scene: &Scene, stop: usize) -> Vec<Slots> {
-    let stop = scene.stops[stop];
-    let record = &scene.section.records[stop.record];
+    let record = &scene.section.records[scene.stops[stop].record];
     let first = first_pair(record).expect("a statepoint");
     let [of_frame, _] = registers(scene.machine);
-    let place = |location: &Location| {
+    let start = scene.stack_pointer(stop);
+    let slot = |location: &Location, nth: usize| {
         let register = match location.register {
-            frame_pointer if frame_pointer == of_frame => stop.frame_pointer,
-            _ => stop.stack_pointer,
+            own if location.kind == 1 => return Slot::Register(own.into()),
+            frame_pointer if frame_pointer == of_frame => scene.frame_pointer(stop),
+            _ => start,
         };
-        i128::from(register) + i128::from(location.offset as i32) - i128::from(stop.stack_pointer)
+        let address = i128::from(register) + i128::from(location.offset as i32) + 8 * nth as i128;
+        Slot::Stack(address - i128::from(start))
     };
     let slots = |pair: &[Location]| match pair[0].kind {
-        3 => (0..pointers_of(scene.section.version, pair))
-            .map(|nth| [&pair[0], &pair[1]].map(|one| place(one) + 8 * nth as i128))
+        1 | 3 => (0..pointers_of(scene.section.version, pair))
+            .map(|nth| [&pair[0], &pair[1]].map(|one| slot(one, nth)))
             .collect(),
         _ => Vec::new(),
     };
@@ -50,7 +77,7 @@ pub fn slots(scene: &Scene, stop: usize) -> Vec<Slots> {
 /// How many pointers a pair is that is null or has the right form.
 fn pointers_of(version: Version, pair: &[Location]) -> usize {
     match (version, pair[0].kind) {
-        (Version::Three, 3) => usize::from(pair[0].size / 8),
+        (Version::Three, 1 | 3) => usize::from(pair[0].size / 8),
         _ => 1,
     }
 }
@@ -66,16 +93,45 @@ pub fn pointers(scene: &Scene, stop: usize) -> usize {
         .sum()
 }
 
-/// The content of a slot of a frame.
-pub fn content(scene: &Scene, stop: usize, slot: i128) -> u64 {
-    let at = usize::try_from(scene.start(stop) + slot).expect("a slot in the image");
-    let bytes = scene.image[at..at + 8].try_into().expect("eight bytes");
-    u64::from_le_bytes(bytes)
+/// Where a slot on the stack begins in the image.
+fn in_image(scene: &Scene, stop: usize, slot: i128) -> usize {
+    usize::try_from(scene.start(stop) + slot).expect("a slot in the image")
 }
 
-/// The answer of a frame by itself, where nothing is wrong with the section, the image and the table:
-/// number and place, both 0 where it is accepted.
+/// The content of a slot of a frame.
+pub fn content(scene: &Scene, stop: usize, slot: Slot) -> u64 {
+    match slot {
+        Slot::Register(number) => scene.stops[stop].registers[number],
+        Slot::Stack(slot) => {
+            let at = in_image(scene, stop, slot);
+            let bytes = scene.image[at..at + 8].try_into().expect("eight bytes");
+            u64::from_le_bytes(bytes)
+        }
+    }
+}
+
+/// Sets the content of a slot of a frame.
+pub fn set_content(scene: &mut Scene, stop: usize, slot: Slot, content: u64) {
+    match slot {
+        Slot::Register(number) => scene.stops[stop].registers[number] = content,
+        Slot::Stack(slot) => {
+            let at = in_image(scene, stop, slot);
+            scene.image[at..at + 8].copy_from_slice(&content.to_le_bytes());
+        }
+    }
+}
+
+/// The answer of a frame that is moved alone, where nothing is wrong with the section, the machine, the
+/// image and the table: number and place, both 0 where it is accepted.
 pub fn refusal(scene: &Scene, stop: usize) -> (u64, u64) {
+    match scene.stops[stop].listed {
+        REGISTERS => own_refusal(scene, stop),
+        _ => (25, 0),
+    }
+}
+
+/// The answer of a frame by itself with its 32 registers, as in a thread.
+pub fn own_refusal(scene: &Scene, stop: usize) -> (u64, u64) {
     match whole(scene, stop) {
         Err(number) => (number, 0),
         Ok(pairs) => of_pairs(scene, stop, pairs),
@@ -97,8 +153,11 @@ fn of_pairs(scene: &Scene, stop: usize, pairs: &[Location]) -> (u64, u64) {
         return (17, 0);
     }
     let size = i128::from(scene.stack_size(stop));
-    let outside = |slot: &i128| *slot < 0 || *slot + 8 > size;
-    let beyond = |pair: &Slots| pair.iter().flatten().any(outside);
+    let outside = |slot: i128| slot < 0 || slot + 8 > size;
+    let beyond = |pair: &Slots| {
+        let mut on_stack = pair.iter().flatten().filter_map(|slot| slot.on_stack());
+        on_stack.any(outside)
+    };
     match slots(scene, stop).iter().position(beyond) {
         Some(pair) => (19, pair as u64),
         None => answer(scene, stop),
@@ -146,11 +205,16 @@ fn is_null(scene: &Scene, pair: &[Location]) -> bool {
     })
 }
 
-/// Whether a pair has the right form. Its registers are the machine's. Its sizes are 8 in version 1, each by itself also 0; in version 3
-/// they are equal, a multiple of 8, and of 1 to 256 pointers.
+/// Whether a pair has the right form. Its locations are counted from the machine's two pointers, or are
+/// registers that are slots. Its sizes are 8 in version 1, each by itself also 0; in version 3 they are
+/// equal, a multiple of 8, and of 1 to 256 pointers, that of a register of one.
 fn is_form(scene: &Scene, pair: &[Location]) -> bool {
     let own = registers(scene.machine);
-    let slot = |one: &Location| one.kind == 3 && own.contains(&one.register);
+    let slot = |one: &Location| match one.kind {
+        1 => is_slot_register(one, scene.machine) && one.size <= 8,
+        3 => own.contains(&one.register),
+        _ => false,
+    };
     let sizes = [pair[0].size, pair[1].size];
     let right = match scene.section.version {
         Version::One => sizes.iter().all(|size| [0, 8].contains(size)),
@@ -165,9 +229,8 @@ fn is_form(scene: &Scene, pair: &[Location]) -> bool {
 /// The answer of a frame whose pairs all have slots inside it: 20, 21 or accepted.
 pub fn answer(scene: &Scene, stop: usize) -> (u64, u64) {
     let pairs = slots(scene, stop);
-    let base = |pointer: &[i128; 2]| content(scene, stop, pointer[0]);
-    let near = |one: i128, two: i128| one != two && (one - two).abs() < 8;
-    let mut before: Vec<[i128; 2]> = Vec::new();
+    let base = |pointer: &[Slot; 2]| content(scene, stop, pointer[0]);
+    let mut before: Vec<[Slot; 2]> = Vec::new();
     for (nth, pair) in pairs.iter().enumerate() {
         for pointer in pair {
             before.push(*pointer);
@@ -181,11 +244,31 @@ pub fn answer(scene: &Scene, stop: usize) -> (u64, u64) {
             }
         }
     }
-    let lost = |pointer: &[i128; 2]| scene.table.moved(base(pointer)).is_none();
+    let lost = |pointer: &[Slot; 2]| scene.table.moved(base(pointer)).is_none();
     match pairs.iter().position(|pair| pair.iter().any(lost)) {
         Some(nth) => (21, nth as u64),
         None => (0, 0),
     }
+}
+
+/// Whether two slots share a byte without being equal. A register shares none with anything.
+pub fn near(one: Slot, other: Slot) -> bool {
+    match (one, other) {
+        (Slot::Stack(one), Slot::Stack(other)) => one != other && (one - other).abs() < 8,
+        _ => false,
+    }
+}
+
+/// The derived slots of an accepted frame with their new contents, all worked out from the scene.
+fn new_contents(scene: &Scene, stop: usize) -> Vec<(Slot, u64)> {
+    let new = |[base, derived]: [Slot; 2]| {
+        let old = content(scene, stop, base);
+        let new = scene.table.moved(old);
+        let new = new.expect("the base of an accepted frame");
+        let pointer = content(scene, stop, derived);
+        (derived, pointer.wrapping_sub(old).wrapping_add(new))
+    };
+    slots(scene, stop).into_iter().flatten().map(new).collect()
 }
 
 /// The image after the moves of these frames, all of which are accepted: every new content is that
@@ -193,17 +276,23 @@ pub fn answer(scene: &Scene, stop: usize) -> (u64, u64) {
 pub fn moved(scene: &Scene, stops: impl IntoIterator<Item = usize>) -> Vec<u8> {
     let mut image = scene.image.clone();
     for stop in stops {
-        for [base, derived] in slots(scene, stop).into_iter().flatten() {
-            let old = content(scene, stop, base);
-            let new = scene
-                .table
-                .moved(old)
-                .expect("the base of an accepted frame");
-            let pointer = content(scene, stop, derived);
-            let pointer = pointer.wrapping_sub(old).wrapping_add(new);
-            let at = (scene.start(stop) + derived) as usize;
-            image[at..at + 8].copy_from_slice(&pointer.to_le_bytes());
+        for (slot, content) in new_contents(scene, stop) {
+            if let Some(slot) = slot.on_stack() {
+                let at = in_image(scene, stop, slot);
+                image[at..at + 8].copy_from_slice(&content.to_le_bytes());
+            }
         }
     }
     image
+}
+
+/// The registers of an accepted frame after its move.
+pub fn moved_registers(scene: &Scene, stop: usize) -> [u64; REGISTERS] {
+    let mut registers = scene.stops[stop].registers;
+    for (slot, content) in new_contents(scene, stop) {
+        if let Some(number) = slot.in_register() {
+            registers[number] = content;
+        }
+    }
+    registers
 }

@@ -1,16 +1,17 @@
 //! What the locations of a section can be made of.
 
-use super::MACHINES;
+use super::cells::register;
+use super::{registers, slot_registers};
 use crate::layout::{Location, Version};
 use crate::rng::Rng;
 
-/// A section's constants, its version, which decides what sizes there are, and the DWARF numbers of the
-/// machine's frame pointer and stack pointer.
+/// A section's constants, its version, which decides what sizes there are, and the machine, which
+/// decides what the registers are.
 #[derive(Clone, Copy, Debug)]
 pub(crate) struct Pool<'a> {
     pub(crate) version: Version,
     pub(crate) constants: &'a [u64],
-    pub(crate) registers: [u16; 2],
+    pub(crate) machine: u64,
 }
 
 impl Pool<'_> {
@@ -59,17 +60,52 @@ impl Pool<'_> {
         }
     }
 
-    /// A register that no slot is counted from: often one of the other machine's.
+    /// A register that no slot is counted from: often one of the other machine's pointers.
     pub(crate) fn wrong_register(self, rng: &mut Rng) -> u16 {
-        let [own, other] = match self.registers == MACHINES[0].1 {
-            true => [0, 1],
-            false => [1, 0],
-        };
-        let near = MACHINES[own].1[rng.below(2)];
+        let near = rng.pick(&registers(self.machine));
         match rng.below(4) {
-            0 | 1 => MACHINES[other].1[rng.below(2)],
+            0 | 1 => rng.pick(&registers(1 - self.machine)),
             2 => near + rng.pick(&[0x100, 0x600, 16, 32]),
             _ => rng.pick(&[0, 5, 8, 16, 28, 30, 32, u16::MAX]),
+        }
+    }
+
+    /// A location that is a slot in some register.
+    pub(crate) fn register(self, rng: &mut Rng) -> Location {
+        let size = self.slot_size(rng, 1);
+        register(rng.pick(&slot_registers(self.machine)), size)
+    }
+
+    /// A location of kind 1 that is no slot, by its register, its size or its offset.
+    pub(crate) fn wrong_slot(self, rng: &mut Rng) -> Location {
+        let mut location = self.register(rng);
+        match rng.below(5) {
+            0 | 1 => location.register = self.no_slot(rng),
+            2 | 3 => {
+                location.size = match self.version {
+                    Version::One => rng.pick(&[16, 16, 1, 4, 7, 9, 0x80, 0xf8, 0xff]),
+                    Version::Three => rng.pick(&[16, 16, 16, 0, 0, 0, 4, 9, 24, 2_048]),
+                }
+            }
+            _ => location.offset = rng.pick(&[1, 8, u32::MAX, 1 << 31, i32::MAX as u32]),
+        }
+        location
+    }
+
+    /// The number of a register that is no slot: one of the machine's pointers, one past its limit, often
+    /// still in the list, or one that only a narrower number would take for a slot.
+    fn no_slot(self, rng: &mut Rng) -> u16 {
+        let slots = slot_registers(self.machine);
+        loop {
+            let number = match rng.below(5) {
+                0 | 1 => rng.pick(&registers(self.machine)),
+                2 => 16 + rng.below(16) as u16,
+                3 => rng.pick(&[32, 33, 64, 0x8000, u16::MAX]),
+                _ => rng.pick(&slots) + rng.pick(&[32, 0x100, 0x1000]),
+            };
+            if !slots.contains(&number) {
+                return number;
+            }
         }
     }
 

@@ -1,4 +1,5 @@
 use super::guests::Lie;
+use super::plain::Slot;
 use super::*;
 
 #[test]
@@ -104,7 +105,7 @@ fn plain_answers_are_those_aimed_at() {
     for _ in 0..40_000 {
         let mut scene = Scene::one(&mut rng);
         assert_eq!(plain::refusal(&scene, 0), (0, 0));
-        let number = rng.pick(&faults::OWN);
+        let number = rng.pick(&faults::ALONE);
         if let Some(place) = faults::aim(&mut rng, number, &mut scene, 0) {
             assert_eq!(plain::refusal(&scene, 0), (number, place));
             hit += 1;
@@ -114,25 +115,37 @@ fn plain_answers_are_those_aimed_at() {
 }
 
 /// Scenes are of both machines. On the other machine, with its registers, each is accepted as before; with
-/// its own registers it is refused by 18, unless all its pairs are null.
+/// its own it is refused by 18 at the first pair that has a slot on the stack, or in a register that is
+/// none there.
 #[test]
 fn frames_are_of_both_machines() {
     let mut rng = Rng::new(1);
-    let (mut of, mut refused) = ([0; 2], 0);
+    let (mut of, mut refused, mut twins) = ([0; 2], 0, 0);
     for _ in 0..4_000 {
         let mut scene = Scene::one(&mut rng);
         of[scene.machine as usize] += 1;
-        let other = scene.on_other_machine();
-        assert_eq!(other.machine, 1 - scene.machine);
-        assert_eq!(plain::refusal(&other, 0), (0, 0));
-        assert_eq!(plain::slots(&other, 0), plain::slots(&scene, 0));
+        match scene.on_other_machine() {
+            Some(other) => {
+                assert_eq!(other.machine, 1 - scene.machine);
+                assert_eq!(plain::refusal(&other, 0), (0, 0));
+                assert_eq!(plain::moved(&other, [0]), plain::moved(&scene, [0]));
+                twins += 1;
+            }
+            None => assert_eq!(scene.machine, 1),
+        }
         let slots = plain::slots(&scene, 0);
-        let pair = slots.iter().position(|pair| !pair.is_empty());
+        let there = slot_registers(1 - scene.machine);
+        let is_slot = |number: usize| there.contains(&(number as u16));
+        let lost = |slot: &Slot| !slot.in_register().is_some_and(is_slot);
+        let pair = slots
+            .iter()
+            .position(|pair| pair.iter().flatten().any(lost));
         faults::other_machine(&mut scene);
-        let answer = pair.map_or((0, 0), |pair| (18, pair as u64));
-        assert_eq!(plain::refusal(&scene, 0), answer);
-        refused += u32::from(pair.is_some());
+        if let Some(pair) = pair {
+            assert_eq!(plain::refusal(&scene, 0), (18, pair as u64));
+            refused += 1;
+        }
     }
     assert!(of[0] > 1_000 && of[1] > 1_000, "{of:?}");
-    assert!(refused > 1_000, "{refused}");
+    assert!(refused > 1_000 && twins > 3_000, "{refused} {twins}");
 }

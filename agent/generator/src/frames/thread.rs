@@ -1,7 +1,7 @@
 //! Lists of frames that are moved in one call, and what the call answers.
 
 use super::guests::{self, Lie};
-use super::{faults, plain, shuffle, Scene, Size, Table, MOST_FRAMES};
+use super::{faults, plain, shuffle, Scene, Size, Table, MOST_FRAMES, REGISTERS};
 use crate::rng::Rng;
 
 /// A list of frames of a scene.
@@ -10,8 +10,11 @@ pub struct Thread {
     pub scene: Scene,
     /// The frames, by their numbers in the scene; one may be there several times.
     pub order: Vec<usize>,
-    /// How many numbers stand behind the last frame: none, or one to three that make no frame.
+    /// How many numbers stand behind the last frame: none, or one to three for which there are no
+    /// registers.
     pub rest: usize,
+    /// How many registers there are more than 32 a frame, or fewer. It isn't 0 only where the rest is.
+    pub off: i64,
 }
 
 impl Thread {
@@ -22,11 +25,12 @@ impl Thread {
             scene,
             order,
             rest: 0,
+            off: 0,
         }
     }
 
     /// A random list: whole, with faults in some frames, with frames that share bytes with others,
-    /// with a frame several times, or of a wrong length.
+    /// with a frame several times, or of a wrong length, it or its registers.
     pub fn any(rng: &mut Rng) -> Thread {
         let count = match rng.below(20) {
             0 => 0,
@@ -55,8 +59,10 @@ impl Thread {
         if rng.one_in(12) {
             thread.repeat(rng);
         }
-        if rng.one_in(24) {
-            thread.rest = 1 + rng.below(3);
+        match rng.below(36) {
+            0 => thread.rest = 1 + rng.below(3),
+            1 => thread.off = rng.pick(&[1, -1, 16, -16, 31, -31, 32, -32, 33, -33, 64]),
+            _ => {}
         }
         thread
     }
@@ -70,31 +76,39 @@ impl Thread {
         }
     }
 
-    /// The list: address, frame pointer, stack pointer and function number of each frame.
+    /// The list: address and function number of each frame.
     pub fn list(&self) -> Vec<u64> {
         let stops = self.order.iter().map(|stop| self.scene.stops[*stop]);
-        let mut list: Vec<u64> = stops
-            .flat_map(|stop| {
-                [
-                    stop.address,
-                    stop.frame_pointer,
-                    stop.stack_pointer,
-                    stop.named,
-                ]
-            })
-            .collect();
+        let mut list: Vec<u64> = stops.flat_map(|stop| [stop.address, stop.named]).collect();
         list.resize(list.len() + self.rest, 0x7000);
         list
     }
 
-    /// The answer where nothing is wrong with the section, the image and the table: number and place,
-    /// both 0 where the list is accepted.
+    /// The list of registers, 32 a frame; or some fewer, or more, which are like a stack pointer.
+    pub fn registers(&self) -> Vec<u64> {
+        let stops = self.order.iter().map(|stop| &self.scene.stops[*stop]);
+        let mut list: Vec<u64> = stops.flat_map(|stop| stop.registers).collect();
+        let length = list.len().saturating_add_signed(self.off as isize);
+        list.resize(length, 0x7000);
+        list
+    }
+
+    /// Whether the lengths of the two lists are right.
+    fn fits(&self) -> bool {
+        let (numbers, registers) = (self.list().len(), self.registers().len());
+        let frames = numbers / 2;
+        numbers.is_multiple_of(2) && frames <= MOST_FRAMES && registers == REGISTERS * frames
+    }
+
+    /// The answer where nothing is wrong with the section, the machine, the image and the table: number
+    /// and place, both 0 where the list is accepted.
     pub fn answer(&self) -> (u64, u64) {
-        if self.rest > 0 || self.order.len() > MOST_FRAMES {
+        assert!(self.rest == 0 || self.off == 0, "frames that are none");
+        if !self.fits() {
             return (25, 0);
         }
         for (position, stop) in self.order.iter().enumerate() {
-            let (number, _) = plain::refusal(&self.scene, *stop);
+            let (number, _) = plain::own_refusal(&self.scene, *stop);
             if number != 0 {
                 return (number, position as u64);
             }
@@ -128,6 +142,12 @@ impl Thread {
     /// The image after a list that is accepted.
     pub fn moved(&self) -> Vec<u8> {
         plain::moved(&self.scene, self.order.iter().copied())
+    }
+
+    /// The registers after a list that is accepted.
+    pub fn moved_registers(&self) -> Vec<u64> {
+        let registers = |stop: &usize| plain::moved_registers(&self.scene, *stop);
+        self.order.iter().flat_map(registers).collect()
     }
 }
 

@@ -12,6 +12,22 @@ use std::process::{Command, ExitStatus};
 
 const SIGSEGV: i32 = 11;
 
+/// How a run ended.
+#[derive(Clone, Copy, Debug, PartialEq, Eq)]
+pub enum End {
+    /// With the right checksum, and moved wherever it was to be.
+    Right,
+    /// With a wrong checksum.
+    Wrong,
+    /// With the right checksum, and nothing was moved at some stop.
+    Unmoved,
+    /// The program died of a bad address: with its process, or under the emulator, whose end the process
+    /// tells.
+    Killed,
+    /// As it never should.
+    Otherwise,
+}
+
 /// What a process did.
 pub struct Ended {
     machine: Machine,
@@ -30,34 +46,36 @@ impl Ended {
         self.counts.get(name).copied().unwrap_or(0)
     }
 
-    pub fn assert_right(&self, moved: u64) {
-        assert_eq!(self.count("moved"), moved, "{self}");
-        assert!(self.status.success(), "{self}");
-        assert_eq!(self.errors, "", "{self}");
-    }
-
-    /// Whether the program died of a bad address: with its process, or under the emulator, whose end the
-    /// process tells.
-    fn killed(&self) -> bool {
-        match self.machine {
-            Machine::Amd64 => self.status.signal() == Some(SIGSEGV),
-            Machine::Aarch64 => self.status.code() == Some(DIED),
+    pub fn end(&self) -> End {
+        match (self.machine, self.status.code(), self.status.signal()) {
+            (_, Some(0), _) => End::Right,
+            (_, Some(1), _) => End::Wrong,
+            (_, Some(3), _) => End::Unmoved,
+            (Machine::Amd64, _, Some(SIGSEGV)) => End::Killed,
+            (Machine::Aarch64, Some(DIED), _) => End::Killed,
+            _ => End::Otherwise,
         }
     }
 
+    pub fn assert_right(&self, moved: u64) {
+        assert_eq!(self.count("moved"), moved, "{self}");
+        assert_eq!(self.end(), End::Right, "{self}");
+        assert_eq!(self.errors, "", "{self}");
+    }
+
     pub fn assert_killed(&self) {
-        assert!(self.killed(), "{self}");
+        assert_eq!(self.end(), End::Killed, "{self}");
         assert_eq!(self.errors, RETIRED_FAULT, "{self}");
     }
 
     pub fn assert_killed_or_wrong(&self) {
-        assert!(self.killed() || self.status.code() == Some(1), "{self}");
+        assert!([End::Killed, End::Wrong].contains(&self.end()), "{self}");
     }
 
     /// Nothing was moved, and the checksum is right all the same.
     pub fn assert_unmoved(&self) {
         assert_eq!(self.count("moved"), 0, "{self}");
-        assert_eq!(self.status.code(), Some(3), "{self}");
+        assert_eq!(self.end(), End::Unmoved, "{self}");
     }
 }
 

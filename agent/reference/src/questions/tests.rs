@@ -1,8 +1,8 @@
 //! Questions that are accepted, and refusals 10 and 11.
 
-use super::{by_address, live_out, location, record, Found};
+use super::{by_address, live_out, location, record, Content, Found};
 use crate::fixtures::{self as given, function, rbp, refusal, row_c, row_h, small, with};
-use crate::section::encode;
+use crate::section::{encode, encode_version_1};
 
 /// Two functions whose records meet at one address: 0x110 holds records 1, 2
 /// and 4, 0x100 record 0, and 0x118 record 3.
@@ -124,6 +124,41 @@ fn location_answer(section: &[u8], record: u64, number: u64) -> (u8, u16, u16, i
         answer.offset,
         answer.constant,
     )
+}
+
+/// Register for kind 1, memory for kind 3, and none for the others; from the
+/// kind alone, whatever size, register and offset are.
+#[test]
+fn the_content_place_follows_from_the_kind() {
+    let places = [
+        (1, Content::Register, 1),
+        (2, Content::None, 0),
+        (3, Content::Memory, 2),
+        (4, Content::None, 0),
+        (5, Content::None, 0),
+    ];
+    let shapes = [
+        (8, 3, 0),
+        (0, 7, 1),
+        (16, 99, -1),
+        (255, u16::MAX, i32::MAX),
+    ];
+    for ((kind, content, number), (size, register, offset)) in places
+        .into_iter()
+        .flat_map(|place| shapes.map(|shape| (place, shape)))
+    {
+        let offset = if kind == 5 { 0 } else { offset };
+        let own = given::location(kind, size, register, offset);
+        let records = [given::record(0, vec![small(0), own], vec![])];
+        for section in [
+            encode(&[function(0, 0, 1)], &[7], &records),
+            encode_version_1(&[], &[7], &records),
+        ] {
+            let answer = location(&section, 0, 1).unwrap();
+            assert_eq!((answer.kind, answer.content), (kind, content));
+            assert_eq!(answer.content.number(), number);
+        }
+    }
 }
 
 #[test]

@@ -1,48 +1,65 @@
 //! The pairs of a statepoint: their form, their pointers and the new contents.
 //!
-//! A pair of size 8N is N pointers one after another: the slots of pointer i
-//! are 8i bytes after the first bytes of its two locations. In version 1 a pair
-//! is always one pointer, and so is a null pair in both versions.
+//! A location of a pair names a place on the stack or a register. A pair of
+//! size 8N is N pointers one after another: the slots of pointer i are 8i bytes
+//! after the first bytes of its two locations. A register holds one pointer. In
+//! version 1 a pair is always one pointer, and so is a null pair in both
+//! versions.
 //!
 //! The refusals 18, 19, 20 and 21 are each judged over all pairs before the
 //! next, and each is placed at the lowest pair with the fault, whichever of its
 //! pointers has it.
 
-use super::Frame;
+use super::REGISTERS;
 use crate::machine::Machine;
 use crate::questions::constant;
 use crate::section::{Location, Section, Version};
 use crate::Refusal;
 
-/// The most pointers of a statepoint, null pairs counting one each; and the
-/// most of one pair.
-pub(super) const MAX_POINTERS: usize = 256;
+/// The most pointers of a statepoint, null pairs counting one each, where
+/// nothing else is set; and the most of one pair.
+pub(crate) const MAX_POINTERS: usize = 256;
 
-/// The length of a slot.
+/// The length of a slot on the stack.
 const SLOT: usize = 8;
 
-/// A pair of right form that isn't null: the addresses of its two locations as
-/// whole numbers, which may lie outside the 64-bit addresses, and how many
-/// pointers it is.
+/// What a location of right form names.
+#[derive(Clone, Copy)]
+enum Place {
+    /// The register of this number, one that is a slot.
+    Register(usize),
+    /// The stack from this address on, as a whole number, which may lie outside
+    /// the 64-bit addresses.
+    Stack(i128),
+}
+
+/// A pair of right form that isn't null: its two places, and how many pointers
+/// it is.
 pub(super) struct Form {
-    base: i128,
-    derived: i128,
+    base: Place,
+    derived: Place,
     pointers: usize,
 }
 
-/// A slot inside the frame's extent.
+/// A slot: a register, or eight bytes inside the frame's extent by their first,
+/// counted from the stack pointer.
+#[derive(Clone, Copy, Debug, PartialEq, Eq)]
+pub(super) enum Slot {
+    Register(usize),
+    Memory(usize),
+}
+
+/// A slot and what it holds before the call.
 #[derive(Clone, Copy)]
-pub(super) struct Slot {
-    /// The slot's first byte, counted from the stack pointer.
-    at: usize,
-    /// What it holds before the call.
+pub(super) struct Cell {
+    slot: Slot,
     content: u64,
 }
 
 /// A pointer: the slot of its base and its own.
 pub(super) struct Pointer {
-    base: Slot,
-    derived: Slot,
+    base: Cell,
+    derived: Cell,
 }
 
 /// The form of each pair, `None` for a null one: refusal 18 over all pairs.
@@ -50,7 +67,7 @@ pub(super) fn forms(
     section: &Section,
     entries: &[[Location; 2]],
     machine: Machine,
-    frame: Frame,
+    registers: &[u64; REGISTERS],
 ) -> Result<Vec<Option<Form>>, Refusal> {
     let numbered = entries.iter().enumerate();
     numbered
@@ -59,7 +76,7 @@ pub(super) fn forms(
             if entry.iter().all(zero) {
                 return Ok(None);
             }
-            let form = form(section.version, entry, machine, frame);
+            let form = form(section.version, entry, machine, registers);
             form.map(Some).ok_or(Refusal::at(18, number))
         })
         .collect()
@@ -70,12 +87,18 @@ fn form(
     version: Version,
     [base, derived]: &[Location; 2],
     machine: Machine,
-    frame: Frame,
+    registers: &[u64; REGISTERS],
 ) -> Option<Form> {
+    let pointers = pointers(version, base.size, derived.size)?;
+    let place = |location: &Location| match location.kind {
+        1 if pointers == 1 => register(location, machine),
+        3 => address(location, machine, registers),
+        _ => None,
+    };
     Some(Form {
-        pointers: pointers(version, base.size, derived.size)?,
-        base: address(base, machine, frame)?,
-        derived: address(derived, machine, frame)?,
+        base: place(base)?,
+        derived: place(derived)?,
+        pointers,
     })
 }
 
@@ -96,15 +119,23 @@ fn pointers(version: Version, base: u16, derived: u16) -> Option<usize> {
     }
 }
 
+/// The register that a Register location names, if its offset is 0 and the
+/// machine's register of that number is a slot.
+fn register(location: &Location, machine: Machine) -> Option<Place> {
+    let right = location.offset == 0 && machine.is_slot(location.register);
+    right.then_some(Place::Register(location.register.into()))
+}
+
 /// The address that an Indirect location names by one of the machine's two
-/// registers.
-fn address(location: &Location, machine: Machine, frame: Frame) -> Option<i128> {
-    let content = match location.register {
-        register if register == machine.frame_pointer() => frame.frame_pointer,
-        register if register == machine.stack_pointer() => frame.stack_pointer,
-        _ => return None,
-    };
-    (location.kind == 3).then_some(i128::from(content) + i128::from(location.offset))
+/// pointers.
+fn address(location: &Location, machine: Machine, registers: &[u64; REGISTERS]) -> Option<Place> {
+    let pointers = [machine.frame_pointer(), machine.stack_pointer()];
+    if !pointers.contains(&location.register) {
+        return None;
+    }
+    let content = *registers.get(usize::from(location.register))?;
+    let address = i128::from(content) + i128::from(location.offset);
+    Some(Place::Stack(address))
 }
 
 /// The number of pointers, null pairs counting one each.
@@ -114,38 +145,47 @@ pub(super) fn count(forms: &[Option<Form>]) -> usize {
 }
 
 /// Finds the slots of all pointers, pair by pair, and reads them: refusal 19
-/// over all pairs. A null pair has none.
+/// over all pairs. A null pair has none. `stretch` are the bytes of the frame's
+/// extent, which begins at the stack pointer.
 pub(super) fn locate(
     forms: &[Option<Form>],
     stretch: &[u8],
-    frame: Frame,
+    stack_pointer: u64,
+    registers: &[u64; REGISTERS],
 ) -> Result<Vec<Vec<Pointer>>, Refusal> {
+    let cell = |place: Place, nth: usize| match place {
+        Place::Register(number) => Some(Cell {
+            slot: Slot::Register(number),
+            content: *registers.get(number)?,
+        }),
+        Place::Stack(address) => {
+            let after = (SLOT * nth) as i128;
+            memory(stretch, address + after - i128::from(stack_pointer))
+        }
+    };
+    let pointer = |form: &Form, nth: usize| {
+        Some(Pointer {
+            base: cell(form.base, nth)?,
+            derived: cell(form.derived, nth)?,
+        })
+    };
     let mut pairs = Vec::new();
     for (number, form) in forms.iter().enumerate() {
         let slots = form.as_ref().map_or(Some(Vec::new()), |form| {
-            let nth = |nth| pointer_inside(form, nth, stretch, frame);
-            (0..form.pointers).map(nth).collect()
+            (0..form.pointers).map(|nth| pointer(form, nth)).collect()
         });
         pairs.push(slots.ok_or(Refusal::at(19, number))?);
     }
     Ok(pairs)
 }
 
-/// Reads the nth pointer of a pair, if both slots are wholly inside the extent.
-fn pointer_inside(form: &Form, nth: usize, stretch: &[u8], frame: Frame) -> Option<Pointer> {
-    let after = (SLOT * nth) as i128;
-    Some(Pointer {
-        base: slot_inside(stretch, frame, form.base + after)?,
-        derived: slot_inside(stretch, frame, form.derived + after)?,
-    })
-}
-
-/// Reads the slot at an address, if it is wholly inside the frame's extent.
-fn slot_inside(stretch: &[u8], frame: Frame, address: i128) -> Option<Slot> {
-    let at = usize::try_from(address - i128::from(frame.stack_pointer)).ok()?;
+/// Reads the slot that begins so many bytes from the stack pointer, if it is
+/// wholly inside the frame's extent.
+fn memory(stretch: &[u8], from_stack_pointer: i128) -> Option<Cell> {
+    let at = usize::try_from(from_stack_pointer).ok()?;
     let content = stretch.get(at..)?.first_chunk::<SLOT>()?;
-    Some(Slot {
-        at,
+    Some(Cell {
+        slot: Slot::Memory(at),
         content: u64::from_le_bytes(*content),
     })
 }
@@ -163,38 +203,43 @@ pub(super) fn collision(pairs: &[Vec<Pointer>]) -> Option<usize> {
 /// Whether two of the slots of two pointers overlap without being equal, or the
 /// derived slots are equal and the old bases differ.
 fn collides(one: &Pointer, other: &Pointer) -> bool {
-    let slots = [one.base.at, one.derived.at, other.base.at, other.derived.at];
-    let overlap = slots.iter().any(|one| {
-        slots
-            .iter()
-            .any(|two| one != two && one.abs_diff(*two) < SLOT)
-    });
-    overlap || (one.derived.at == other.derived.at && one.base.content != other.base.content)
+    let slots = [&one.base, &one.derived, &other.base, &other.derived].map(|cell| cell.slot);
+    let overlap = slots
+        .iter()
+        .any(|one| slots.iter().any(|two| overlaps(*one, *two)));
+    let same = one.derived.slot == other.derived.slot;
+    overlap || (same && one.base.content != other.base.content)
 }
 
-/// The new content of each derived slot, by the slot's first byte counted from
-/// the stack pointer; refusal 21 at the lowest pair with a base that is neither 0 nor an old
-/// start.
+/// Whether two slots share a byte without being equal. A register equals only
+/// itself and never overlaps memory.
+fn overlaps(one: Slot, other: Slot) -> bool {
+    match (one, other) {
+        (Slot::Memory(one), Slot::Memory(other)) => one != other && one.abs_diff(other) < SLOT,
+        _ => false,
+    }
+}
+
+/// The new content of each derived slot; refusal 21 at the lowest pair with a
+/// base that is neither 0 nor an old start.
 pub(super) fn new_contents(
     pairs: &[Vec<Pointer>],
-    old_starts: &[u64],
-    new_starts: &[u64],
-) -> Result<Vec<(usize, u64)>, Refusal> {
+    table: [&[u64]; 2],
+) -> Result<Vec<(Slot, u64)>, Refusal> {
     let mut contents = Vec::new();
     for (number, pair) in pairs.iter().enumerate() {
         for Pointer { base, derived } in pair {
             let old_base = base.content;
-            let new_base = moved(old_base, old_starts, new_starts);
-            let new_base = new_base.ok_or(Refusal::at(21, number))?;
+            let new_base = moved(old_base, table).ok_or(Refusal::at(21, number))?;
             let content = derived.content.wrapping_add(new_base);
-            contents.push((derived.at, content.wrapping_sub(old_base)));
+            contents.push((derived.slot, content.wrapping_sub(old_base)));
         }
     }
     Ok(contents)
 }
 
 /// Where the object that starts at `old_base` has moved; 0 moves to 0.
-fn moved(old_base: u64, old_starts: &[u64], new_starts: &[u64]) -> Option<u64> {
+fn moved(old_base: u64, [old_starts, new_starts]: [&[u64]; 2]) -> Option<u64> {
     if old_base == 0 {
         return Some(0);
     }

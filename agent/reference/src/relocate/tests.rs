@@ -116,17 +116,13 @@ fn slip_the_object_is_not_found_by_the_derived_pointer() {
 fn slip_an_offset_does_not_wrap_into_the_image() {
     let mut low = Move::of_pairs(3, &[(rbp(-16), rbp(-16))]);
     low.first = u64::MAX - 31;
-    low.frame.stack_pointer = low.first;
+    low.set_stack_pointer(low.first);
     assert_eq!(low.run(), refusal(19, 0), "RBP 0 and -16 is below 0");
-    low.frame.frame_pointer = u64::MAX;
+    low.set_frame_pointer(u64::MAX);
     assert_eq!(low.run(), Ok(1), "the slot from 2^64 - 17 on");
     let mut high = Move::of_pairs(3, &[(rbp(17), rbp(17))]);
     high.first = 0;
-    high.frame = Frame {
-        frame_pointer: u64::MAX,
-        stack_pointer: 0,
-        ..high.frame
-    };
+    high.set_pointers(u64::MAX, 0);
     assert_eq!(high.run(), refusal(19, 0), "above 2^64 - 1");
 }
 
@@ -256,9 +252,9 @@ fn refusal_16_is_for_an_extent_not_inside_the_image() {
         "unknown"
     );
     assert_eq!(refused(|row| row.section[24] = 25), (16, 0));
-    assert_eq!(refused(|row| row.frame.stack_pointer = 0x6FFF), (16, 0));
-    assert_eq!(refused(|row| row.frame.stack_pointer = 0x7001), (16, 0));
-    assert_eq!(refused(|row| row.frame.stack_pointer = u64::MAX), (16, 0));
+    assert_eq!(refused(|row| row.set_stack_pointer(0x6FFF)), (16, 0));
+    assert_eq!(refused(|row| row.set_stack_pointer(0x7001)), (16, 0));
+    assert_eq!(refused(|row| row.set_stack_pointer(u64::MAX)), (16, 0));
     assert_eq!(
         refused(|row| row.section[24..32].copy_from_slice(&(u64::MAX - 1).to_le_bytes())),
         (16, 0)

@@ -16,23 +16,19 @@ const MACHINES: [(u64, u16, u16); 2] = [(AMD64, 6, 7), (AARCH64, 29, 31)];
 
 /// Row I with other pairs, on a machine.
 fn on(machine: u64, pairs: &[(Location, Location)]) -> Move {
-    Move {
-        machine,
-        ..Move::of_pairs(8, pairs)
-    }
+    Move::of_pairs(8, pairs).on(machine)
 }
 
 #[test]
 fn row_i_on_aarch64() {
-    let mut row = Move::row_i();
-    row.machine = AARCH64;
-    assert_eq!(row.run(), refusal(18, 0), "RSP is no register of it");
+    let mut row = Move::row_i().on(AARCH64);
+    assert_eq!(row.run(), refusal(18, 0), "RSP is no pointer of it");
     for slot in [92, 104, 116, 128] {
         row.section[slot + 4] = 31;
     }
     assert_eq!(row.run(), Ok(2));
     assert_eq!((row.slot(8), row.slot(16)), (0x90000, 0x94E20));
-    row.machine = AMD64;
+    let mut row = row.on(AMD64);
     assert_eq!(row.run(), refusal(18, 0), "SP is none of AMD64");
 }
 
@@ -51,7 +47,7 @@ fn any_other_register_is_18() {
                 (at(register, 0), at(register, 0)),
             ] {
                 let mut row = on(machine, &[pair]);
-                row.frame.frame_pointer = 0x7010;
+                row.set_frame_pointer(0x7010);
                 let expected = if own { Ok(1) } else { refusal(18, 0) };
                 assert_eq!(row.run(), expected, "{register} on {machine}");
             }
@@ -67,7 +63,7 @@ fn slots_are_at_the_machines_pointers_plus_offset() {
             (at(frame_pointer, 8), at(stack_pointer, 24)),
         ];
         let mut row = on(machine, &pairs);
-        row.frame.frame_pointer = 0x7010;
+        row.set_frame_pointer(0x7010);
         for (slot, content) in [0x50000, 0x50001, 0, 7].into_iter().enumerate() {
             row.set(8 * slot, content);
         }
@@ -89,7 +85,7 @@ fn the_extent_begins_at_the_stack_pointer() {
                     machine,
                     &[(at(register, first - base), at(register, first - base))],
                 );
-                row.frame.frame_pointer = row.frame.stack_pointer + base as u64;
+                row.set_frame_pointer(0x7000 + base as u64);
                 let expected = if number == 0 {
                     Ok(1)
                 } else {
@@ -99,10 +95,9 @@ fn the_extent_begins_at_the_stack_pointer() {
             }
         }
         let mut row = on(machine, &[]);
-        row.frame.frame_pointer = 0;
+        row.set_frame_pointer(0);
         assert_eq!(row.run(), Ok(0));
-        row.frame.stack_pointer += 1;
-        row.frame.frame_pointer = 0x7000;
+        row.set_pointers(0x7000, 0x7001);
         assert_eq!(row.run(), refusal(16, 0));
     }
 }
@@ -118,7 +113,7 @@ fn a_number_that_is_no_machine_is_33_after_the_sections_own_and_before_13() {
         row.frame.address = 5;
         assert_eq!(row.run(), refusal(33, 0), "13, 14 and 10 too");
         row.machine = AARCH64;
-        assert_eq!(row.run(), refusal(13, 0));
+        assert_eq!(row.clone().run(), refusal(13, 0));
         row.machine = machine;
         row.section[0] = 2;
         assert_eq!(row.run(), refusal(2, 0), "the section's own is first");
@@ -139,10 +134,9 @@ fn version_1_has_both_machines_too() {
         ] {
             let pair = (at(stack_pointer, 8), at(register, 16));
             let records = [statepoint(0x20, &[pair])];
-            let mut row = Move::row_i_1();
-            row.machine = machine;
+            let mut row = Move::row_i_1().on(machine);
             row.section = encode_version_1(&[function(0x1000, 24, 0)], &[], &records);
-            row.frame.frame_pointer = 0x7000;
+            row.set_frame_pointer(0x7000);
             let expected = if expected { Ok(1) } else { refusal(18, 0) };
             assert_eq!(row.run(), expected, "{register} on {machine}");
         }

@@ -39,7 +39,7 @@ fn refusal_18_is_for_a_pair_of_wrong_form() {
 #[test]
 fn both_registers_name_slots() {
     let mut row = Move::of_pairs(3, &[(rsp(0), rbp(-8)), (rbp(-16), rsp(0))]);
-    row.frame.frame_pointer = 0x7010;
+    row.set_frame_pointer(0x7010);
     row.set(0, 0x50000);
     row.set(8, 0x50010);
     assert_eq!(row.run(), Ok(2));
@@ -71,7 +71,7 @@ fn a_slot_inside_the_image_but_not_the_extent_is_19() {
     assert_eq!(row.run(), refusal(19, 0));
     let mut row = Move::of_pairs(1, &[(rsp(-8), rsp(0))]);
     row.image.resize(32, 0);
-    row.frame.stack_pointer = 0x7008;
+    row.set_stack_pointer(0x7008);
     assert_eq!(row.run(), refusal(19, 0));
 }
 

@@ -8,10 +8,10 @@ use crate::section::encode;
 fn the_byte_2_64_minus_1_is_in_no_image() {
     let mut row = Move::row_i();
     row.first = u64::MAX - 24;
-    row.frame.stack_pointer = row.first;
+    row.set_stack_pointer(row.first);
     assert_eq!(row.run(), Ok(2), "first address + length is 2^64 - 1");
     row.first += 1;
-    row.frame.stack_pointer += 1;
+    row.set_stack_pointer(row.first);
     assert_eq!(row.run(), refusal(13, 0));
     row.image.clear();
     row.first = u64::MAX;
@@ -66,11 +66,11 @@ fn an_empty_extent_starts_inside_the_image_or_at_its_end() {
         (0x7018, Ok(0)),
         (0x7019, refusal(16, 0)),
     ] {
-        row.frame.stack_pointer = rsp;
+        row.set_stack_pointer(rsp);
         assert_eq!(row.run(), expected, "{rsp:x}");
     }
     row.image.clear();
-    row.frame.stack_pointer = 0x7000;
+    row.set_stack_pointer(0x7000);
     assert_eq!(
         row.run(),
         Ok(0),
@@ -125,11 +125,12 @@ fn kind_5_among_the_first_three_is_12_whatever_the_pool_holds() {
 #[test]
 fn a_slot_below_0_or_above_2_64_minus_1_is_19_for_rsp_too() {
     let mut row = Move::of_pairs(3, &[(rsp(-16), rsp(-16))]);
-    (row.first, row.frame.stack_pointer) = (0, 0);
+    row.first = 0;
+    row.set_stack_pointer(0);
     assert_eq!(row.run(), refusal(19, 0));
     let mut row = Move::of_pairs(3, &[(rsp(40), rsp(40))]);
     row.first = u64::MAX - 31;
-    row.frame.stack_pointer = row.first;
+    row.set_stack_pointer(row.first);
     assert_eq!(row.run(), refusal(19, 0));
 }
 
@@ -253,45 +254,33 @@ fn the_same_frame_moved_twice_is_refused_by_21() {
 #[test]
 fn an_extent_not_inside_the_image_is_still_an_extent() {
     let mut row = Move::row_i();
-    row.frame.stack_pointer = u64::MAX;
+    row.set_stack_pointer(u64::MAX);
     assert_eq!(row.run(), refusal(16, 0));
     let start = u128::from(u64::MAX);
-    assert_eq!(extent(&row.section, row.frame), Some((start, start + 24)));
+    assert_eq!(row.extent(), Some((start, start + 24)));
 }
 
 #[test]
 fn a_frame_without_exactly_one_record_or_a_known_size_has_no_extent() {
-    let frame = Move::row_i().frame;
-    assert_eq!(extent(&row_h(), frame), Some((0x7000, 0x7018)));
-    assert_eq!(
-        extent(
-            &row_h(),
-            Frame {
-                address: 0,
-                ..frame
-            }
-        ),
-        None
-    );
-    assert_eq!(extent(&row_h()[1..], frame), None);
+    let mut row = Move::row_i();
+    assert_eq!(row.extent(), Some((0x7000, 0x7018)));
+    row.frame.address = 0;
+    assert_eq!(row.extent(), None);
+    let of = |section: &[u8]| {
+        let mut row = Move::row_i();
+        row.section = section.to_vec();
+        row.extent()
+    };
+    assert_eq!(of(&row_h()[1..]), None);
     let record = record(0x20, vec![], vec![]);
+    let twice = [record.clone(), record.clone()];
+    assert_eq!(of(&one_function(8, &[], &twice)), None);
+    let alone = std::slice::from_ref(&record);
+    assert_eq!(of(&one_function(u64::MAX, &[], alone)), None);
     assert_eq!(
-        extent(
-            &one_function(8, &[], &[record.clone(), record.clone()]),
-            frame
-        ),
-        None
-    );
-    assert_eq!(
-        extent(
-            &one_function(u64::MAX, &[], std::slice::from_ref(&record)),
-            frame
-        ),
-        None
-    );
-    assert_eq!(
-        extent(&one_function(0, &[], &[record]), frame),
-        Some((0x7000, 0x7000))
+        of(&one_function(0, &[], alone)),
+        Some((0x7000, 0x7000)),
+        "an empty one"
     );
 }
 
@@ -319,12 +308,8 @@ fn every_statepoint_may_be_reordered_and_frames_moved_in_any_order() {
         }
         for number in order {
             let address = [0x1020, 0x1040, 0x1020][number];
-            row.frame = Frame {
-                address,
-                frame_pointer: 0,
-                stack_pointer: 0x7000 + 24 * number as u64,
-                function: 0,
-            };
+            row.frame.address = address;
+            row.set_stack_pointer(0x7000 + 24 * number as u64);
             assert_eq!(row.run(), [Ok(2), Ok(2), refusal(21, 0)][number]);
         }
         assert_eq!(

@@ -106,7 +106,7 @@ fn the_function_is_not_read_in_version_3() {
         let mut row = Move::row_i();
         row.frame.function = function;
         assert_eq!(row.run(), Ok(2));
-        assert_eq!(extent(&row.section, row.frame), Some((0x7000, 0x7018)));
+        assert_eq!(row.extent(), Some((0x7000, 0x7018)));
     }
 }
 
@@ -146,28 +146,18 @@ fn null_pairs_may_have_any_size() {
 #[test]
 fn a_frame_whose_function_is_not_there_has_no_extent() {
     let row = Move::row_i_1();
-    assert_eq!(extent(&row.section, row.frame), Some((0x7000, 0x7018)));
-    for frame in [
-        Frame {
-            function: 1,
-            ..row.frame
-        },
-        Frame {
-            address: 0x1020,
-            ..row.frame
-        },
-    ] {
-        assert_eq!(extent(&row.section, frame), None);
-    }
-    let unknown = section(&[24, u64::MAX], &[row_h_record()]);
-    let frame = |function| Frame {
-        function,
-        ..row.frame
+    assert_eq!(row.extent(), Some((0x7000, 0x7018)));
+    let of = |section: &[u8], address, function| {
+        let frame = Frame { address, function };
+        extent(section, row.machine, frame, &row.registers)
     };
-    assert_eq!(extent(&unknown, frame(0)), Some((0x7000, 0x7018)));
-    assert_eq!(extent(&unknown, frame(1)), None);
+    assert_eq!(of(&row.section, 0x20, 1), None);
+    assert_eq!(of(&row.section, 0x1020, 0), None);
+    let unknown = section(&[24, u64::MAX], &[row_h_record()]);
+    assert_eq!(of(&unknown, 0x20, 0), Some((0x7000, 0x7018)));
+    assert_eq!(of(&unknown, 0x20, 1), None);
     let twice = section(&[24], &[row_h_record(), row_h_record()]);
-    assert_eq!(extent(&twice, frame(0)), None);
+    assert_eq!(of(&twice, 0x20, 0), None);
 }
 
 #[test]

@@ -58,20 +58,29 @@ fn image() -> Vec<u8> {
     slots.into_iter().flat_map(u64::to_le_bytes).collect()
 }
 
-/// The answer to a list, and the image after it.
-fn run(frames: &[[u64; 4]]) -> (Result<u64, Refusal>, Vec<u8>) {
-    let mut image = image();
-    let list = frames.concat();
+/// The answer to a list on a section and an image of row I's table. No frame of
+/// it has pairs in registers, which stay as they were.
+fn answer(section: &[u8], image: &mut [u8], frames: &[[u64; 4]]) -> Result<u64, Refusal> {
+    let (list, mut registers) = lists(AMD64, frames);
+    let before = registers.clone();
     let answer = thread(
-        &section(),
-        &mut image,
+        section,
+        image,
         0x7000,
         &[0x50000],
         &[0x90000],
         AMD64,
         &list,
+        &mut registers,
     );
-    (answer, image)
+    assert_eq!(registers, before);
+    answer
+}
+
+/// The answer to a list, and the image after it.
+fn run(frames: &[[u64; 4]]) -> (Result<u64, Refusal>, Vec<u8>) {
+    let mut image = image();
+    (answer(&section(), &mut image, frames), image)
 }
 
 /// A refused list leaves the image as it was.
@@ -85,12 +94,15 @@ fn refused(frames: &[[u64; 4]]) -> (u64, u64) {
 #[test]
 fn a_list_of_none_is_accepted() {
     assert_eq!(run(&[]), (Ok(0), image()));
-    assert_eq!(thread(&row_c(), &mut [], 0, &[], &[], AMD64, &[]), Ok(0));
+    assert_eq!(
+        thread(&row_c(), &mut [], 0, &[], &[], AMD64, &[], &mut []),
+        Ok(0)
+    );
 }
 
 #[test]
 fn all_move_as_one_by_one_and_the_pointers_are_added() {
-    let lists = [
+    let threads = [
         vec![full(0x7000), full(0x7018)],
         vec![full(0x7018), full(0x7000)],
         vec![
@@ -102,16 +114,11 @@ fn all_move_as_one_by_one_and_the_pointers_are_added() {
             empty(0x7000),
         ],
     ];
-    for list in lists {
+    for list in threads {
         let mut one_by_one = image();
         let mut sum = 0;
-        for &[address, frame_pointer, stack_pointer, function] in &list {
-            let frame = Frame {
-                address,
-                frame_pointer,
-                stack_pointer,
-                function,
-            };
+        for own in &list {
+            let (frame, mut registers) = lists(AMD64, &[*own]);
             let pairs = relocate(
                 &section(),
                 &mut one_by_one,
@@ -119,7 +126,11 @@ fn all_move_as_one_by_one_and_the_pointers_are_added() {
                 &[0x50000],
                 &[0x90000],
                 AMD64,
-                frame,
+                Frame {
+                    address: frame[0],
+                    function: frame[1],
+                },
+                &mut registers,
             );
             sum += pairs.unwrap();
         }
@@ -159,17 +170,7 @@ fn a_21_at_0_wins_over_a_10_at_1() {
 fn pairs_have_no_place() {
     let pairs = [(rsp(8), rsp(8)), (rsp(8), rsp(17))];
     let section = one_function(24, &[], &[statepoint(0x20, &pairs)]);
-    let mut image = image();
-    let list = [full(0x7000), full(0x7018)].concat();
-    let answer = thread(
-        &section,
-        &mut image,
-        0x7000,
-        &[0x50000],
-        &[0x90000],
-        AMD64,
-        &list,
-    );
+    let answer = answer(&section, &mut image(), &[full(0x7000), full(0x7018)]);
     assert_eq!(answer, refusal(19, 0), "19 of pair 1, in frame 0");
 }
 
@@ -181,16 +182,7 @@ fn pointers_are_added() {
     let section = one_function(24, &[], &[statepoint(0x20, &pairs)]);
     let slots = [0x50000, 0, 0x60000, 0, 0x50000, 0x50008_u64];
     let mut image: Vec<u8> = slots.into_iter().flat_map(u64::to_le_bytes).collect();
-    let list = [full(0x7000), full(0x7018)].concat();
-    let answer = thread(
-        &section,
-        &mut image,
-        0x7000,
-        &[0x50000],
-        &[0x90000],
-        AMD64,
-        &list,
-    );
+    let answer = answer(&section, &mut image, &[full(0x7000), full(0x7018)]);
     assert_eq!(answer, Ok(6));
     let after = [0x50000, 0x40000, 0x60000, 0, 0x50000, 0x90008_u64];
     let after: Vec<u8> = after.into_iter().flat_map(u64::to_le_bytes).collect();
@@ -261,109 +253,57 @@ fn a_refused_frame_comes_before_26() {
 /// else.
 #[test]
 fn a_thread_has_one_machine() {
-    let answer = |section: &[u8], machine, first, list: &[u64]| {
-        let mut image = image();
+    let answer = |section: &[u8], machine, first, (list, mut registers): (Vec<u64>, Vec<u64>)| {
+        let (olds, news) = ([0x50000], [0x90000]);
+        let (image, registers) = (&mut image(), &mut registers);
         thread(
-            section,
-            &mut image,
-            first,
-            &[0x50000],
-            &[0x90000],
-            machine,
-            list,
+            section, image, first, &olds, &news, machine, &list, registers,
         )
     };
-    let list = [word(0x7018), full(0x7000)].concat();
-    assert_eq!(answer(&section(), AMD64, 0x7000, &list), Ok(3));
-    assert_eq!(answer(&section(), AARCH64, 0x7000, &list), refusal(18, 1));
-    assert_eq!(answer(&section(), AARCH64, 0x7000, &word(0x7000)), Ok(1));
+    let on = |machine| lists(machine, &[word(0x7018), full(0x7000)]);
+    assert_eq!(answer(&section(), AMD64, 0x7000, on(AMD64)), Ok(3));
+    let other = answer(&section(), AARCH64, 0x7000, on(AARCH64));
+    assert_eq!(other, refusal(18, 1));
+    let word = lists(AARCH64, &[word(0x7000)]);
+    assert_eq!(answer(&section(), AARCH64, 0x7000, word), Ok(1));
+    let odd = (vec![1], vec![]);
     for machine in [2, 7, 31, 1 << 32, u64::MAX] {
-        for list in [&[][..], &[1], &NOWHERE, &list] {
-            assert_eq!(answer(&section(), machine, 0x7000, list), refusal(33, 0));
-            assert_eq!(answer(&section(), machine, u64::MAX, list), refusal(33, 0));
-            let cut = &row_h()[..151];
-            assert_eq!(answer(cut, machine, 0x7000, list), refusal(4, 40));
+        for lists in [(vec![], vec![]), odd.clone(), on(AMD64), on(AARCH64)] {
+            let answer = |section: &[u8], first| answer(section, machine, first, lists.clone());
+            assert_eq!(answer(&section(), 0x7000), refusal(33, 0));
+            assert_eq!(answer(&section(), u64::MAX), refusal(33, 0));
+            assert_eq!(answer(&row_h()[..151], 0x7000), refusal(4, 40));
         }
     }
 }
 
-#[test]
-fn the_length_is_tested_before_any_frame() {
-    let answer = |list: &[u64]| {
-        thread(
-            &section(),
-            &mut image(),
-            0x7000,
-            &[0x50000],
-            &[0x90000],
-            AMD64,
-            list,
-        )
-    };
-    for length in [
-        1,
-        2,
-        3,
-        5,
-        6,
-        7,
-        4 * MAX_FRAMES - 1,
-        4 * MAX_FRAMES + 1,
-        4 * MAX_FRAMES + 2,
-        4 * MAX_FRAMES + 3,
-        4 * MAX_FRAMES + 4,
-    ] {
-        assert_eq!(answer(&vec![0; length]), refusal(25, 0), "{length}");
-        assert_eq!(answer(&vec![u64::MAX; length]), refusal(25, 0), "{length}");
-    }
-    assert_eq!(answer(&[0; 4 * MAX_FRAMES]), refusal(10, 0));
-    let most = empty(0x7010).repeat(MAX_FRAMES);
-    assert_eq!(answer(&most), Ok(4_096));
-    let more = empty(0x7010).repeat(MAX_FRAMES + 1);
-    assert_eq!(answer(&more), refusal(25, 0));
-    let mut last = most;
-    last[4 * MAX_FRAMES - 4] = 0;
-    assert_eq!(answer(&last), refusal(10, 4_095));
-}
-
-/// Section, image and table come before the list, also where it is empty.
+/// Section, image and table come before the lists, also where they are empty.
 #[test]
 fn what_all_frames_share_comes_first() {
     let long = vec![0; 1_048_577];
-    let lists: [&[u64]; 3] = [&[], &[1], &NOWHERE];
-    for list in lists {
-        let (section, cut) = (section(), &row_h()[..151]);
-        assert_eq!(
-            thread(cut, &mut long.clone(), 0, &[0], &[], AMD64, list),
-            refusal(4, 40)
-        );
-        assert_eq!(
-            thread(&section, &mut long.clone(), 0, &[0], &[], AMD64, list),
-            refusal(13, 0)
-        );
-        assert_eq!(
+    let all = [
+        (vec![], vec![]),
+        (vec![1], vec![]),
+        lists(AMD64, &[NOWHERE]),
+    ];
+    for (list, registers) in all {
+        let answer = |section: &[u8], mut image: Vec<u8>, first| {
+            let registers = &mut registers.clone();
             thread(
-                &section,
-                &mut image(),
-                u64::MAX - 71,
+                section,
+                &mut image,
+                first,
                 &[0],
                 &[],
                 AMD64,
-                list
-            ),
-            refusal(13, 0)
-        );
-        assert_eq!(
-            thread(
-                &section,
-                &mut image(),
-                u64::MAX - 72,
-                &[0],
-                &[],
-                AMD64,
-                list
-            ),
-            refusal(14, 0)
-        );
+                &list,
+                registers,
+            )
+        };
+        let section = section();
+        assert_eq!(answer(&row_h()[..151], long.clone(), 0), refusal(4, 40));
+        assert_eq!(answer(&section, long.clone(), 0), refusal(13, 0));
+        assert_eq!(answer(&section, image(), u64::MAX - 71), refusal(13, 0));
+        assert_eq!(answer(&section, image(), u64::MAX - 72), refusal(14, 0));
     }
 }

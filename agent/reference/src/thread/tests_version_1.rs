@@ -1,4 +1,4 @@
-//! Threads of version 1: four numbers a frame, the function number last.
+//! Threads of version 1: offset and function number make a frame.
 
 use super::*;
 use crate::editions::AMD64;
@@ -24,8 +24,11 @@ fn image() -> Vec<u8> {
     slots.into_iter().flat_map(u64::to_le_bytes).collect()
 }
 
-fn run(list: &[u64]) -> (Result<u64, Refusal>, Vec<u8>) {
+/// The answer to frames of offset, frame pointer, stack pointer and function
+/// number, and the image after it.
+fn run(frames: &[[u64; 4]]) -> (Result<u64, Refusal>, Vec<u8>) {
     let mut image = image();
+    let (list, mut registers) = lists(AMD64, frames);
     let answer = thread(
         &section(),
         &mut image,
@@ -33,14 +36,15 @@ fn run(list: &[u64]) -> (Result<u64, Refusal>, Vec<u8>) {
         &[0x50000],
         &[0x90000],
         AMD64,
-        list,
+        &list,
+        &mut registers,
     );
     (answer, image)
 }
 
 /// A refused list leaves the image as it was.
 fn refused(frames: &[[u64; 4]]) -> (u64, u64) {
-    let (answer, after) = run(&frames.concat());
+    let (answer, after) = run(frames);
     assert_eq!(after, image());
     let refusal = answer.unwrap_err();
     (refusal.number, refusal.place)
@@ -49,19 +53,19 @@ fn refused(frames: &[[u64; 4]]) -> (u64, u64) {
 const I: [u64; 4] = [0x20, 0, 0x7000, 0];
 
 #[test]
-fn offset_rbp_rsp_and_function_number_make_a_frame() {
+fn offset_and_function_number_make_a_frame() {
     let mut moved = image();
     moved[8..16].copy_from_slice(&0x90000_u64.to_le_bytes());
     moved[16..24].copy_from_slice(&0x94E20_u64.to_le_bytes());
     assert_eq!(run(&[]), (Ok(0), image()));
-    assert_eq!(run(&I), (Ok(2), moved.clone()));
-    let list = [I, [0x40, 0, 0x7018, 1], [0x40, 9, 0x7020, 1]].concat();
+    assert_eq!(run(&[I]), (Ok(2), moved.clone()));
+    let list = [I, [0x40, 0, 0x7018, 1], [0x40, 9, 0x7020, 1]];
     assert_eq!(run(&list), (Ok(4), moved));
 }
 
 #[test]
 fn the_extent_is_the_named_functions() {
-    assert_eq!(run(&[I, [0x40, 0, 0x7018, 0]].concat()).0, Ok(3));
+    assert_eq!(run(&[I, [0x40, 0, 0x7018, 0]]).0, Ok(3));
     assert_eq!(refused(&[I, [0x40, 0, 0x7010, 1]]), (26, 1));
     assert_eq!(
         refused(&[[0x40, 0, 0x7000, 0], [0x40, 0, 0x7017, 1]]),
@@ -79,18 +83,4 @@ fn a_refused_frame_has_its_position() {
     assert_eq!(refused(&[I, [0x60, 0, 0x7018, 3]]), (10, 1));
     assert_eq!(refused(&[I, I, [0x20, 0, 0x7018, 1 << 32]]), (10, 2));
     assert_eq!(refused(&[I, I]), (26, 1));
-}
-
-#[test]
-fn refusal_25_reads_four() {
-    for length in (1..40).filter(|length| length % 4 != 0) {
-        assert_eq!(run(&vec![0; length]).0, refusal(25, 0), "{length}");
-    }
-    let empty = encode_version_1(&[function(0, 0, 0)], &[], &[statepoint(0x20, &[])]);
-    let answer = |frames: usize| {
-        let list = I.repeat(frames);
-        thread(&empty, &mut image(), 0x7000, &[], &[], AMD64, &list)
-    };
-    assert_eq!(answer(4_096), Ok(0));
-    assert_eq!(answer(4_097), refusal(25, 0));
 }

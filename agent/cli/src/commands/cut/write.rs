@@ -4,55 +4,20 @@
 //! signal that asks for the end is obeyed between two parts, when what was written is taken away.
 
 use super::Part;
-use crate::beside::Beside;
+use crate::folder::Folder;
 use crate::names::shown;
 use crate::progress::Progress;
-use crate::replace;
 use crate::system::{self, Watch};
 use crate::trouble::Trouble;
 use crate::{files, library};
-use std::fs::{self, File, Metadata};
+use std::fs::File;
 use std::io::{Seek, SeekFrom, Write};
-use std::path::{Path, PathBuf};
-
-/// The folder that is to hold the parts.
-pub struct Target {
-    /// The name that was asked for, for messages.
-    named: PathBuf,
-    /// Its own name, where no link has to be followed.
-    real: PathBuf,
-    /// What stands there: nothing, or an empty folder.
-    there: Option<Metadata>,
-}
-
-/// Looks whether a folder can hold the parts: it is missing, or empty.
-pub fn target(named: &Path) -> Result<Target, Trouble> {
-    let fault = |error| Trouble::file(named, "cannot be made", error);
-    let (real, there) = match fs::symlink_metadata(named) {
-        Err(_) => (named.to_path_buf(), None),
-        Ok(_) => {
-            let real = fs::canonicalize(named).map_err(fault)?;
-            let mut entries = fs::read_dir(&real).map_err(fault)?;
-            if entries.next().is_some() {
-                let why = "it is there and not empty, and no file is written over";
-                return Err(Trouble::file(named, "cannot be made", why));
-            }
-            let there = fs::metadata(&real).map_err(fault)?;
-            (real, Some(there))
-        }
-    };
-    Ok(Target {
-        named: named.to_path_buf(),
-        real,
-        there,
-    })
-}
+use std::path::Path;
 
 /// Writes the parts.
-pub fn all(path: &Path, file: &mut File, parts: &[Part], target: &Target) -> Result<(), Trouble> {
-    let fault = |error| Trouble::file(&target.named, "cannot be made", error);
+pub fn all(path: &Path, file: &mut File, parts: &[Part], target: &Folder) -> Result<(), Trouble> {
     let mut watch = Watch::begin();
-    let beside = Beside::folder(&target.real).map_err(fault)?;
+    let beside = target.begin()?;
     let mut progress = Progress::of("parts written");
     let width = parts.len().saturating_sub(1).to_string().len();
     for (number, part) in parts.iter().enumerate() {
@@ -66,16 +31,9 @@ pub fn all(path: &Path, file: &mut File, parts: &[Part], target: &Target) -> Res
         progress.tell(number as u64 + 1, parts.len() as u64);
     }
     drop(progress);
-    if let Some(there) = &target.there {
-        beside.like(there).map_err(fault)?;
-    }
-    system::flush_all(&beside.file).map_err(fault)?;
+    target.flush(&beside, system::flush_all)?;
     obey(&mut watch, target)?;
-    let placed = replace::folder(&target.real).and_then(|folder| {
-        beside.replace()?;
-        Ok(folder)
-    });
-    replace::flushed(&target.named, placed, "cannot be made")
+    target.place(beside)
 }
 
 /// The bytes of a part.
@@ -91,7 +49,7 @@ fn bytes(path: &Path, file: &mut File, part: &Part) -> Result<Vec<u8>, Trouble> 
 }
 
 /// Ends the work where a signal asks for it.
-fn obey(watch: &mut Watch, target: &Target) -> Result<(), Trouble> {
+fn obey(watch: &mut Watch, target: &Folder) -> Result<(), Trouble> {
     match watch.signal() {
         None => Ok(()),
         Some(signal) => {

@@ -2,7 +2,7 @@
 
 use super::{first_line, refused, Asked};
 use crate::library::{Found, Index, Refusal};
-use crate::lists::{self, Entry, Form};
+use crate::lists::{self, Entry, Numbers};
 use crate::trouble::{Refused, Status, Trouble, Voice};
 use crate::{files, index, json, library, output};
 use std::path::Path;
@@ -14,7 +14,7 @@ type Line = Entry<[u64; 1]>;
 pub fn run(file: &Path, kept: Option<&Path>, list: &Path, voice: Voice) -> Result<Status, Trouble> {
     let section = files::read(file, files::SECTION)?;
     let entries = kept.map(index::read).transpose()?;
-    let lines: Vec<Line> = lists::read(list, &lists::text(list)?, &Form::numbers("ADDRESS"))?;
+    let lines: Vec<Line> = lists::read(list, &lists::text(list)?, &Numbers("ADDRESS"))?;
     let index = match entries {
         Some(entries) => Index::from_entries(&section, entries),
         None => {

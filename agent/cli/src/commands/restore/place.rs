@@ -1,172 +1,161 @@
-//! Where the new image goes, and its receipt before it.
-//!
-//! Both are written beside their names and flushed. Then the receipt gets its name, the folder is
-//! flushed, the image gets its name, and the folder is flushed again. Whoever ends the program
-//! between the two leaves a receipt whose `after` is the digest of no image there, so that nothing
-//! is taken for restored that is not; and no new image stands without its receipt.
+//! Where a restore goes: an image by itself, or a folder with all that is new.
 
+use super::single::Single;
 use super::Arguments;
-use crate::beside::Beside;
-use crate::names::{shown, STANDARD_INPUT};
+use crate::folder::Folder;
+use crate::names::shown;
 use crate::receipt::{self, Receipt};
-use crate::replace::{self, Held};
 use crate::trouble::Trouble;
 use crate::{files, system};
-use std::fs::{self, File, Metadata};
-use std::io;
+use std::fs::{File, Metadata, OpenOptions, Permissions};
+use std::io::{self, Write};
+use std::os::unix::fs::{MetadataExt, OpenOptionsExt, PermissionsExt};
 use std::path::{Path, PathBuf};
 
-/// What becomes of the new image.
+/// The names of the files in a folder: the receipt's is that of an image of this name.
+pub const IMAGE: &str = "image";
+const FRAMES: &str = "frames";
+const RECEIPT: &str = "image.receipt.json";
+
+/// Where a restore goes.
 pub enum Target<'a> {
-    /// It takes the old one's place.
-    InPlace(&'a Path, Held),
-    /// It is a new file; the old one is only read.
-    New(&'a Path, Old<'a>),
+    /// The new image is a file by itself. The registers are as they were.
+    Single(Single<'a>),
+    /// The new image, the frames with their registers and the receipt are in a new folder, which gets its
+    /// name when all of them are in it and flushed: they are of one moment, whatever ends the program. The
+    /// old image is only read.
+    Folder(Folder, Old<'a>),
 }
 
 /// The old image, where it is only read.
 pub struct Old<'a> {
     path: &'a Path,
     file: File,
-    metadata: Option<Metadata>,
+    pub metadata: Option<Metadata>,
+}
+
+impl<'a> Old<'a> {
+    pub fn open(path: &'a Path) -> Result<Old<'a>, Trouble> {
+        let file = files::open(path)?;
+        let metadata = file.metadata().ok().filter(|there| there.is_file());
+        Ok(Old {
+            path,
+            file,
+            metadata,
+        })
+    }
+
+    /// The bytes of the old image, up to one more than the limit.
+    pub fn read(&mut self) -> Result<Vec<u8>, Trouble> {
+        files::read_up_to(self.path, &mut self.file, files::IMAGE + 1)
+    }
 }
 
 impl<'a> Target<'a> {
     pub fn open(arguments: &'a Arguments) -> Result<Target<'a>, Trouble> {
-        let image = arguments.image.as_path();
-        let Some(output) = &arguments.output else {
-            if files::is_standard_input(image) {
-                let why = "--in-place needs an image with a name: standard input has none";
-                return Err(Trouble::Usage(why.to_string()));
+        match &arguments.into {
+            None => Ok(Target::Single(Single::open(arguments)?)),
+            Some(folder) => {
+                let folder = Folder::at(folder)?;
+                Ok(Target::Folder(folder, Old::open(&arguments.image)?))
             }
-            return Ok(Target::InPlace(image, Held::open(image)?));
-        };
-        if output.as_os_str() == STANDARD_INPUT {
-            let why = "--output needs a name: a receipt stands beside the new image";
-            return Err(Trouble::Usage(why.to_string()));
         }
-        is_free(output).map_err(|error| Trouble::file(output, CANNOT_BE_WRITTEN, error))?;
-        if !arguments.again {
-            // A receipt that stands there is replaced; what is none is somebody's file.
-            receipt::beside(output)?;
-        }
-        let file = files::open(image)?;
-        let metadata = file.metadata().ok().filter(|there| there.is_file());
-        let old = Old {
-            path: image,
-            file,
-            metadata,
-        };
-        Ok(Target::New(output, old))
     }
 
     /// The bytes of the old image, up to one more than the limit.
     pub fn read(&mut self) -> Result<Vec<u8>, Trouble> {
         match self {
-            Target::InPlace(_, held) => held.read(files::IMAGE),
-            Target::New(_, old) => files::read_up_to(old.path, &mut old.file, files::IMAGE + 1),
+            Target::Single(single) => single.read(),
+            Target::Folder(_, old) => old.read(),
+        }
+    }
+
+    /// The name that was asked for: of the new image, or of the folder.
+    pub fn named(&self) -> &Path {
+        match self {
+            Target::Single(single) => single.named(),
+            Target::Folder(folder, _) => &folder.named,
         }
     }
 
     /// The name of the new image.
-    pub fn named(&self) -> &'a Path {
+    pub fn image(&self) -> PathBuf {
         match self {
-            Target::InPlace(image, _) => image,
-            Target::New(output, _) => output,
+            Target::Single(single) => single.named().to_path_buf(),
+            Target::Folder(folder, _) => folder.named.join(IMAGE),
         }
     }
 
-    /// What is said of the new image where there is none.
+    /// The name of the list of the frames after the move, where it is written.
+    pub fn frames(&self) -> Option<PathBuf> {
+        match self {
+            Target::Single(_) => None,
+            Target::Folder(folder, _) => Some(folder.named.join(FRAMES)),
+        }
+    }
+
+    /// The name of the receipt.
+    pub fn receipt(&self) -> PathBuf {
+        match self {
+            Target::Single(single) => receipt::path_of(single.named()),
+            Target::Folder(folder, _) => folder.named.join(RECEIPT),
+        }
+    }
+
+    /// What is said of what is new where there is nothing.
     pub fn untouched(&self) -> String {
         match self {
-            Target::InPlace(image, _) => format!("{}: is as it was", shown(image)),
-            Target::New(output, _) => format!("{}: is not written", shown(output)),
+            Target::Single(single) => single.untouched(),
+            Target::Folder(folder, _) => format!("{}: is not made", shown(&folder.named)),
         }
     }
 
-    /// Puts the receipt and the image in place, and gives the receipt's name.
-    pub fn put(&self, image: &[u8], receipt: &Receipt) -> Result<PathBuf, Trouble> {
+    /// Puts image and receipt in place, and in a folder the frames too.
+    pub fn put(&self, image: &[u8], frames: &str, receipt: &Receipt) -> Result<(), Trouble> {
         // From here on the program goes on to its end, with its message and its status.
         system::hold_signals();
-        let what = match self {
-            Target::InPlace(..) => "cannot be replaced",
-            Target::New(..) => CANNOT_BE_WRITTEN,
-        };
-        let path = receipt::path_of(self.named());
-        let placed = receipt
-            .text()
-            .and_then(|text| self.put_both(image, &path, &text));
-        replace::flushed(self.named(), placed, what)?;
-        Ok(path)
-    }
-
-    fn put_both(&self, image: &[u8], path: &Path, receipt: &[u8]) -> io::Result<File> {
-        let of_receipt = |error: io::Error| {
-            let what = format!("its receipt {} cannot be written: {error}", shown(path));
-            io::Error::new(error.kind(), what)
-        };
-        let new = self.prepare(image)?;
-        let earlier = fs::read(path).ok();
-        let beside = replace::prepare(path, receipt, 0o666).map_err(of_receipt)?;
-        let folder = replace::folder(path)?;
-        self.still_right()?;
-        beside.replace().map_err(of_receipt)?;
-        let placed = folder.sync_all().and_then(|()| self.place(new));
-        if placed.is_err() {
-            put_back(path, earlier);
-        }
-        placed.map(|()| folder)
-    }
-
-    /// The new image beside its name, down to the disk.
-    fn prepare(&self, image: &[u8]) -> io::Result<Beside> {
         match self {
-            Target::InPlace(_, held) => held.prepare(image),
-            Target::New(output, old) => {
-                let new = replace::prepare(output, image, 0o600)?;
-                if let Some(metadata) = &old.metadata {
-                    new.permissions_of(metadata)?;
-                    new.file.sync_all()?;
-                }
-                Ok(new)
-            }
-        }
-    }
-
-    /// Whether the name still is what it was when the work began.
-    fn still_right(&self) -> io::Result<()> {
-        match self {
-            Target::InPlace(_, held) => held.still_named(),
-            Target::New(output, _) => is_free(output),
-        }
-    }
-
-    fn place(&self, new: Beside) -> io::Result<()> {
-        match self {
-            Target::InPlace(..) => new.replace(),
-            Target::New(..) => new.place(),
+            Target::Single(single) => single.put(image, receipt),
+            Target::Folder(folder, old) => fill(folder, old, image, frames, receipt),
         }
     }
 }
 
-const CANNOT_BE_WRITTEN: &str = "cannot be written";
-
-/// Whether nothing has a name yet.
-fn is_free(path: &Path) -> io::Result<()> {
-    match fs::symlink_metadata(path) {
-        Err(error) if error.kind() == io::ErrorKind::NotFound => Ok(()),
-        Err(error) => Err(error),
-        Ok(_) => {
-            let why = "it exists already, and --output writes no file over";
-            Err(io::Error::new(io::ErrorKind::AlreadyExists, why))
-        }
-    }
-}
-
-/// Puts the receipt back that stood there before, or takes the new one away.
-fn put_back(path: &Path, earlier: Option<Vec<u8>>) {
-    let _ = match earlier {
-        Some(text) => replace::prepare(path, &text, 0o666).and_then(Beside::replace),
-        None => fs::remove_file(path),
+/// Makes the folder with all that belongs in it.
+fn fill(
+    folder: &Folder,
+    old: &Old,
+    image: &[u8],
+    frames: &str,
+    receipt: &Receipt,
+) -> Result<(), Trouble> {
+    let beside = folder.begin()?;
+    let put = |name: &str, bytes: io::Result<&[u8]>, like: Option<&Old>| {
+        let put = bytes.and_then(|bytes| write(&beside.path().join(name), bytes, like));
+        let path = folder.named.join(name);
+        put.map_err(|error| Trouble::file(&path, "cannot be written", error))
     };
+    put(IMAGE, Ok(image), Some(old))?;
+    put(FRAMES, Ok(frames.as_bytes()), Some(old))?;
+    let receipt = receipt.text();
+    put(
+        RECEIPT,
+        receipt.as_deref().map_err(|error| error.kind().into()),
+        None,
+    )?;
+    folder.flush(&beside, File::sync_all)?;
+    folder.place(beside)
+}
+
+/// Writes a new file, down to the disk. One that is to be like the old image has its permissions; where that
+/// came from a pipe, only its owner may read it.
+fn write(path: &Path, bytes: &[u8], like: Option<&Old>) -> io::Result<()> {
+    let mode = if like.is_some() { 0o600 } else { 0o666 };
+    let mut options = OpenOptions::new();
+    let mut file = options.write(true).create_new(true).mode(mode).open(path)?;
+    file.write_all(bytes)?;
+    if let Some(there) = like.and_then(|old| old.metadata.as_ref()) {
+        file.set_permissions(Permissions::from_mode(there.mode() & 0o7777))?;
+    }
+    file.sync_all()
 }

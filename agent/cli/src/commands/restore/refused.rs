@@ -51,22 +51,28 @@ impl Inputs<'_> {
 
     /// A frame of the list: its line, the pair at fault, and what 16 and 26 found.
     fn of_frame(&self, refusal: Refusal, position: usize, image: &[u8]) -> Refused {
-        let (entry, first) = (&self.lines[position], self.arguments.first);
-        let frame = entry.value;
+        let (line, first) = (&self.lines[position].value, self.arguments.first);
         let (section, table, machine) = (&self.section, self.table(), self.machine);
-        let pair = library::pair_at_fault(section, image, first, &table, machine, frame);
-        let sizes = || Sizes::of(&self.section, self.naming);
+        let (frame, registers) = (line.frame, line.registers);
+        let pair = library::pair_at_fault(section, image, first, &table, machine, frame, registers);
+        let sizes = || Sizes::of(&self.section, self.naming, self.machine);
         let more = match refusal.number {
             10 => Some(self.naming.not_there(&self.section, &frame)),
-            16 => sizes().outside(&frame, first, image.len()),
-            26 => sizes().shared(&self.frames(), position).map(|earlier| {
+            16 => sizes().outside(line, first, image.len()),
+            26 => sizes().shared(&self.lines, position).map(|earlier| {
                 let line = self.lines[earlier].line;
                 format!("it is shared with frame {earlier} of line {line}")
             }),
             _ => pair.map(|pair| format!("pair {pair}")),
         };
+        self.at_frame(position, pair, more)
+    }
+
+    /// What is said of a frame of the list: its line, the pair at fault, and what more was found.
+    pub fn at_frame(&self, position: usize, pair: Option<u64>, more: Option<String>) -> Refused {
+        let entry = &self.lines[position];
         let more = more.map(|more| format!(": {more}")).unwrap_or_default();
-        let words = self.naming.words(self.machine, &frame);
+        let words = self.naming.words(self.machine, &entry.value);
         Refused {
             file: self.arguments.frames.clone(),
             line: Some(entry.line),

@@ -53,7 +53,7 @@ fn bad_frames_are_named() {
         };
         row.failed(
             &format!("frames:{line}: {why}"),
-            "; a line has the form ADDRESS RBP RSP\n",
+            "; a line has the form ADDRESS RBP RSP [REGISTER=VALUE..]\n",
         );
     };
     bad("1020 0\n", 1, "2 words");
@@ -64,6 +64,14 @@ fn bad_frames_are_named() {
         2,
         "'rip' is not a hexadecimal number",
     );
+    bad(
+        "1020 0 7000 rip=0\n",
+        1,
+        "'rip' is not a register of x86-64",
+    );
+    bad("1020 0 7000 rbx=0 RBX=0\n", 1, "RBX is told twice");
+    bad("1020 0 7000 rbx=x\n", 1, "'x' is not a hexadecimal number");
+    bad("1020 rsp=7000\n", 1, "RBP is not told");
 }
 
 /// A bad line is told before any refusal, as nothing can be moved by a list that isn't one.

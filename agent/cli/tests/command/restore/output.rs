@@ -29,12 +29,16 @@ fn a_new_file_and_its_receipt() {
 }
 
 #[test]
-fn neither_way_is_a_wrong_call_that_names_both() {
+fn no_way_is_a_wrong_call_that_names_all() {
     let (row, folder) = (Restore::row_i(), Folder::new());
     row.put(&folder);
     let ran = Ran::of(row.inputs(&mut folder.command()));
-    ran.failed("", "--output");
-    ran.failed("", "--in-place");
+    for way in ["--into", "--output", "--in-place"] {
+        ran.failed("", way);
+    }
+    let two = ["--into", "new", "--output", "new"];
+    let ran = Ran::of(row.inputs(&mut folder.command()).args(two));
+    ran.failed("", "cannot be used with");
     assert_eq!(folder.get("image"), row.image);
     assert_eq!(folder.names(), FILES);
 }

@@ -98,7 +98,7 @@ fn as_many_frames_as_there_may_be() {
     let words = row.refused(25, 0);
     assert_eq!(
         words,
-        "frames: list of frames not a multiple of four numbers, or over 4,096 frames; it has 4097 frames"
+        "frames: list of frames odd or over 4,096 frames, or not 32 registers a frame; it has 4097 frames"
     );
 }
 

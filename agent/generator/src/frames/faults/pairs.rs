@@ -2,7 +2,8 @@
 //! collide, and bases of no object. Of a pair with several pointers any may be the one at fault.
 
 use super::record_of;
-use crate::frames::{plain, registers, Pool, Scene, MOST_POINTERS};
+use crate::frames::plain::{self, Slot};
+use crate::frames::{registers, Pool, Scene, MOST_POINTERS};
 use crate::layout::{Location, Version};
 use crate::rng::Rng;
 
@@ -24,8 +25,10 @@ pub(super) fn many_pointers(rng: &mut Rng, scene: &mut Scene, stop: usize) -> Op
             (_, 1) => most,
             _ => 1 + rng.below(most),
         };
+        let pool = scene.pool();
         let pair = match pointers {
-            1 => [scene.pool().null(rng), scene.pool().null(rng)],
+            1 if rng.one_in(3) => [pool.register(rng), pool.register(rng)],
+            1 => [pool.null(rng), pool.null(rng)],
             _ => anywhere(rng, scene.machine, pointers),
         };
         let locations = &mut scene.section.records[nth].locations;
@@ -36,13 +39,18 @@ pub(super) fn many_pointers(rng: &mut Rng, scene: &mut Scene, stop: usize) -> Op
     Some(0)
 }
 
-/// Has a pair so many more pointers that all are as many as asked for, if there is one that can.
+/// Has a pair on the stack so many more pointers that all are as many as asked for, if there is one that
+/// can.
 fn widen(rng: &mut Rng, scene: &mut Scene, stop: usize, over: usize) {
-    let Some(numbers) = with_slots(scene, stop) else {
+    let slots = plain::slots(scene, stop);
+    let stack = |slot: &Slot| slot.on_stack().is_some();
+    let wide = |pair: &plain::Slots| !pair.is_empty() && pair.iter().flatten().all(stack);
+    let numbers: Vec<usize> = (0..slots.len()).filter(|nth| wide(&slots[*nth])).collect();
+    if numbers.is_empty() {
         return;
-    };
+    }
     let pair = rng.pick(&numbers);
-    let own = plain::slots(scene, stop)[pair].len();
+    let own = slots[pair].len();
     let pointers = over.saturating_sub(plain::pointers(scene, stop) - own);
     if (own..=MOST_POINTERS).contains(&pointers) {
         for which in 0..2 {
@@ -66,7 +74,7 @@ pub(super) fn form(rng: &mut Rng, scene: &mut Scene, stop: usize) -> Option<u64>
     let pool = Pool {
         version: scene.section.version,
         constants: &constants,
-        registers: registers(scene.machine),
+        machine: scene.machine,
     };
     let record = record_of(scene, stop);
     let first = plain::first_pair(record)?;
@@ -90,15 +98,15 @@ fn wrong_form(rng: &mut Rng, pool: Pool, pair: &mut [Location]) {
     let mut slot = Location {
         kind: 3,
         size: pool.slot_size(rng, pointers),
-        register: pool.registers[1],
+        register: registers(pool.machine)[1],
         offset: 8,
     };
-    if pair[1 - one].kind == 3 {
+    if [1, 3].contains(&pair[1 - one].kind) {
         slot.size = pair[1 - one].size;
     }
-    match rng.below(6) {
+    match rng.below(12) {
         0 => slot.kind = rng.pick(&[1, 2]),
-        1 | 2 => {
+        1..=4 => {
             let sizes = pool.wrong_sizes(rng);
             for (location, size) in pair.iter_mut().zip(sizes) {
                 *location = Location {
@@ -108,10 +116,25 @@ fn wrong_form(rng: &mut Rng, pool: Pool, pair: &mut [Location]) {
             }
             return;
         }
-        3 => slot.register = pool.wrong_register(rng),
-        4 => {
-            pair[1 - one] = slot;
+        5 => slot.register = pool.wrong_register(rng),
+        6 => {
+            pair[1 - one] = match rng.one_in(2) {
+                true => pool.register(rng),
+                false => slot,
+            };
             pair[one] = pool.null(rng);
+            return;
+        }
+        // A register that is no slot, beside whatever there is.
+        7..=9 => slot = pool.wrong_slot(rng),
+        // A register beside memory of another size, or of the same that no register has.
+        10 => {
+            slot.size = 16;
+            pair[1 - one] = slot;
+            pair[one] = pool.register(rng);
+            if rng.one_in(2) {
+                pair[one].size = 16;
+            }
             return;
         }
         _ => {
@@ -142,11 +165,20 @@ fn location(scene: &mut Scene, stop: usize, pair: usize, which: usize) -> &mut L
     &mut record.locations[first + 2 * pair + which]
 }
 
-/// A slot outside the frame. Of a pair with several pointers it is often the last one's only.
+/// A slot outside the frame, of a pair that has one on the stack. Of a pair with several pointers it is
+/// often the last one's only.
 pub(super) fn outside(rng: &mut Rng, scene: &mut Scene, stop: usize) -> Option<u64> {
-    let numbers = with_slots(scene, stop)?;
-    let pair = rng.pick(&numbers);
-    let which = rng.below(2);
+    plain::first_pair(record_of(scene, stop))?;
+    let mut on_stack = Vec::new();
+    for (nth, slots) in plain::slots(scene, stop).iter().enumerate() {
+        let first = slots.iter().take(1).flatten().enumerate();
+        let first = first.filter(|(_, slot)| slot.on_stack().is_some());
+        on_stack.extend(first.map(|(which, _)| (nth, which)));
+    }
+    if on_stack.is_empty() {
+        return None;
+    }
+    let (pair, which) = rng.pick(&on_stack);
     if rng.one_in(2) && wrap(rng, scene, stop, pair, which) {
         return Some(pair as u64);
     }
@@ -174,7 +206,8 @@ fn wrap(rng: &mut Rng, scene: &mut Scene, stop: usize, pair: usize, which: usize
     const REACH: i128 = 1 << 31;
     let [of_frame, of_stack] = registers(scene.machine);
     let slots = plain::slots(scene, stop);
-    let target = i128::from(scene.stops[stop].stack_pointer) + slots[pair][0][which];
+    let from_start = slots[pair][0][which].on_stack().expect("on the stack");
+    let target = i128::from(scene.stack_pointer(stop)) + from_start;
     let above = i128::from(u64::MAX) + 1;
     let more = rng.below(100) as i128;
     let distance = match () {
@@ -187,12 +220,15 @@ fn wrap(rng: &mut Rng, scene: &mut Scene, stop: usize, pair: usize, which: usize
     for (nth, slots) in slots.iter().enumerate() {
         let first = slots.iter().take(1).flatten();
         for (which, slot) in first.enumerate() {
-            let location = location(scene, stop, nth, which);
-            location.register = of_stack;
-            location.offset = *slot as u32;
+            if let Some(slot) = slot.on_stack() {
+                let location = location(scene, stop, nth, which);
+                location.register = of_stack;
+                location.offset = slot as u32;
+            }
         }
     }
-    scene.stops[stop].frame_pointer = (target - distance).rem_euclid(above) as u64;
+    let frame_pointer = (target - distance).rem_euclid(above) as u64;
+    scene.set_frame_pointer(stop, frame_pointer);
     let location = location(scene, stop, pair, which);
     location.register = of_frame;
     location.offset = distance as i32 as u32;
@@ -200,22 +236,19 @@ fn wrap(rng: &mut Rng, scene: &mut Scene, stop: usize, pair: usize, which: usize
 }
 
 /// Slots that collide, by another place of a pair's location: one of its slots comes to lie over that of
-/// some pointer, or becomes the derived slot of one with another base.
+/// some pointer, or becomes the derived slot of one with another base, on the stack or in a register.
 pub(super) fn collision(rng: &mut Rng, scene: &mut Scene, stop: usize) -> Option<u64> {
     let numbers = with_slots(scene, stop)?;
-    let [_, of_stack] = registers(scene.machine);
     let slots = plain::slots(scene, stop);
-    let size = i128::from(scene.stack_size(stop));
     let before = record_of(scene, stop).clone();
     for _ in 0..8 {
         let (pair, other) = (rng.pick(&numbers), rng.pick(&numbers));
         let (own, other) = (slots[pair].len(), rng.pick(&slots[other]));
-        let (which, place) = match rng.below(2) {
+        let (which, slot) = match rng.below(2) {
             0 => (1, other[1]),
             _ => {
-                let distance = 1 + rng.below(7) as i128;
-                let sign = rng.pick(&[1, -1]);
-                (rng.below(2), other[rng.below(2)] + sign * distance)
+                let over = rng.pick(&other);
+                (rng.below(2), beside(rng, over))
             }
         };
         // That slot is the pair's first, its last, or any.
@@ -224,19 +257,58 @@ pub(super) fn collision(rng: &mut Rng, scene: &mut Scene, stop: usize) -> Option
             1 => own - 1,
             _ => rng.below(own),
         };
-        let place = place - 8 * nth as i128;
-        if !(0..=size - 8 * own as i128).contains(&place) {
+        if !put(scene, stop, pair, which, own, nth, slot) {
             continue;
         }
-        let location = location(scene, stop, pair, which);
-        location.register = of_stack;
-        location.offset = place as u32;
         match plain::answer(scene, stop) {
             (20, place) => return Some(place),
             _ => *record_of(scene, stop) = before.clone(),
         }
     }
     None
+}
+
+/// Eight bytes that share some with a slot on the stack; a register is as it is.
+fn beside(rng: &mut Rng, slot: Slot) -> Slot {
+    let distance = 1 + rng.below(7) as i128;
+    let sign = rng.pick(&[1, -1]);
+    match slot {
+        Slot::Stack(at) => Slot::Stack(at + sign * distance),
+        Slot::Register(_) => slot,
+    }
+}
+
+/// Has the nth of a pair's so many slots, as base or derived, be this one. False where the frame has no
+/// room for all of them, or several would be a register.
+fn put(
+    scene: &mut Scene,
+    stop: usize,
+    pair: usize,
+    which: usize,
+    count: usize,
+    nth: usize,
+    slot: Slot,
+) -> bool {
+    let size = i128::from(scene.stack_size(stop));
+    let [_, of_stack] = registers(scene.machine);
+    let (kind, register, offset) = match slot {
+        Slot::Stack(at) => (3, of_stack, at - 8 * nth as i128),
+        Slot::Register(number) => (1, number as u16, 0),
+    };
+    let fits = match kind {
+        3 => (0..=size - 8 * count as i128).contains(&offset),
+        _ => count == 1,
+    };
+    if fits {
+        let location = location(scene, stop, pair, which);
+        *location = Location {
+            kind,
+            size: location.size,
+            register,
+            offset: offset as u32,
+        };
+    }
+    fits
 }
 
 /// A base that is neither 0 nor an old start, by another content or by another table. Of a pair with
@@ -260,10 +332,9 @@ pub(super) fn base(rng: &mut Rng, scene: &mut Scene, stop: usize) -> Option<u64>
             3 => old ^ 1 << rng.below(64),
             _ => rng.number(64),
         };
-        let at = (scene.start(stop) + base) as usize;
-        scene.image[at..at + 8].copy_from_slice(&content.to_le_bytes());
+        plain::set_content(scene, stop, base, content);
         if plain::answer(scene, stop).0 != 21 {
-            scene.image[at..at + 8].copy_from_slice(&old.to_le_bytes());
+            plain::set_content(scene, stop, base, old);
             return None;
         }
     }

@@ -97,22 +97,23 @@ pub(super) fn extent(rng: &mut Rng, scene: &mut Scene, stop: usize) -> Option<u6
     let far = rng.number(24);
     let near = rng.below(9) as u64;
     let (first, own) = (scene.first, scene.stops[stop]);
+    let stack_pointer = scene.stack_pointer(stop);
     let wrong = match rng.below(6) {
         1 => u64::MAX - 1 - rng.number(4),
-        2 => end - own.stack_pointer + 1 + near,
+        2 => end - stack_pointer + 1 + near,
         3 if first > 0 => {
-            scene.stops[stop].stack_pointer = first - 1 - near.min(first - 1);
+            scene.set_stack_pointer(stop, first - 1 - near.min(first - 1));
             return Some(0);
         }
         4 => match (end - size).checked_add(1 + near + far) {
             Some(stack_pointer) => {
-                scene.stops[stop].stack_pointer = stack_pointer;
+                scene.set_stack_pointer(stop, stack_pointer);
                 return Some(0);
             }
             None => u64::MAX,
         },
         // The extent would be inside if it could wrap.
-        5 => 0u64.wrapping_sub(own.stack_pointer - first).max(1 << 32),
+        5 => 0u64.wrapping_sub(stack_pointer - first).max(1 << 32),
         _ => u64::MAX,
     };
     let version = scene.section.version;
