@@ -40,9 +40,8 @@ mod tests_version_1;
 use crate::machine::Machine;
 use crate::section::{read, Function, Location, Record, Section, Version};
 use crate::Refusal;
-use pairs::Slot;
-pub(crate) use pairs::MAX_POINTERS;
 use pairs::{collision, count, forms, locate, new_contents};
+pub(crate) use pairs::{moved, Cell, Pointer, Slot, MAX_POINTERS};
 use std::ops::Range;
 
 /// The greatest length of a stack image, in bytes.
@@ -116,6 +115,8 @@ pub(crate) struct Plan {
     pub(crate) stretch: Range<usize>,
     /// The number of pointers, null pairs counting one each.
     pub(crate) pointers: u64,
+    /// The pointers of each pair, none of a null one.
+    pub(crate) pairs: Vec<Vec<Pointer>>,
     /// The new content of each derived slot.
     contents: Vec<(Slot, u64)>,
 }
@@ -192,6 +193,7 @@ impl Shared<'_> {
             stretch,
             pointers: pointers as u64,
             contents: new_contents(&pairs, self.table)?,
+            pairs,
         })
     }
 }
