@@ -11,8 +11,8 @@
 //! the same calls answered from a list of events). [`report`] adds up what many
 //! sections hold.
 //!
-//! A restore names an edition ([`restore`]). [`explain`] says why a slot of a
-//! frame is set or left as it is.
+//! A restore names an edition ([`restore`]), and recorded ones are replayed
+//! ([`replay`]). [`explain`] says why a slot of a frame is set or left as it is.
 //!
 //! Every function answers every input: with a result, or with a [`Refusal`]
 //! that has a fixed number and place. A refused call changes no byte of what
@@ -33,6 +33,7 @@ pub mod moves;
 pub mod program;
 pub mod questions;
 pub mod relocate;
+pub mod replay;
 pub mod report;
 pub mod restore;
 pub mod section;
