@@ -11,8 +11,9 @@
 //! the same calls answered from a list of events). [`report`] adds up what many
 //! sections hold.
 //!
-//! A restore names an edition ([`restore`]), and recorded ones are replayed
-//! ([`replay`]). [`explain`] says why a slot of a frame is set or left as it is.
+//! A restore names an edition ([`restore`]); recorded ones are replayed
+//! ([`replay`]), and the bench controller takes those of one product
+//! ([`bench`]). [`explain`] says why a slot of a frame is set or left as it is.
 //!
 //! Every function answers every input: with a result, or with a [`Refusal`]
 //! that has a fixed number and place. A refused call changes no byte of what
@@ -21,6 +22,7 @@
 #![forbid(unsafe_code)]
 #![deny(missing_docs)]
 
+pub mod bench;
 mod bytes;
 pub mod editions;
 pub mod explain;

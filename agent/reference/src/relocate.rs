@@ -279,6 +279,17 @@ pub(crate) fn statepoint_pairs(record: &Record) -> Option<&[[Location; 2]]> {
     odd.is_empty().then_some(pairs)
 }
 
+/// The number of pointers of a statepoint's pairs, null ones counting one each;
+/// none if a pair has a wrong form on this machine.
+pub(crate) fn pointers_of(
+    section: &Section,
+    pairs: &[[Location; 2]],
+    machine: Machine,
+) -> Option<usize> {
+    let forms = forms(section, pairs, machine, &[0; REGISTERS]).ok()?;
+    Some(count(&forms))
+}
+
 /// The extent of a frame of a function from its stack pointer on, unless its
 /// size is unknown.
 fn function_extent(function: &Function, stack_pointer: u64) -> Option<(u128, u128)> {
