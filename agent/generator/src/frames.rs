@@ -3,7 +3,8 @@
 //! place of the address; the records then stand in any order, whatever that of the functions is. A
 //! scene is made whole, so that every frame of it is accepted; [`faults`] aims at the refusals of a
 //! frame, [`guests`] adds frames that share bytes with others, and [`plain`] says how a frame is
-//! answered and what becomes of the image and of the registers. [`thread`] makes lists of frames.
+//! answered and what becomes of the image and of the registers. [`thread`] makes lists of frames, and
+//! [`reasons`] asks for slots.
 
 mod building;
 mod cells;
@@ -13,6 +14,7 @@ pub mod guests;
 mod machines;
 pub mod plain;
 mod pool;
+pub mod reasons;
 mod table;
 pub mod thread;
 
@@ -274,6 +276,8 @@ pub fn shuffle<T>(rng: &mut Rng, items: &mut [T]) {
 
 #[cfg(test)]
 mod tests;
+#[cfg(test)]
+mod tests_reasons;
 #[cfg(test)]
 mod tests_registers;
 #[cfg(test)]

@@ -124,32 +124,42 @@ pub fn set_content(scene: &mut Scene, stop: usize, slot: Slot, content: u64) {
 /// The answer of a frame that is moved alone, where nothing is wrong with the section, the machine, the
 /// image and the table: number and place, both 0 where it is accepted.
 pub fn refusal(scene: &Scene, stop: usize) -> (u64, u64) {
+    refusal_under(scene, stop, MOST_POINTERS)
+}
+
+/// The answer of a frame that is moved alone and may have so many pointers.
+pub fn refusal_under(scene: &Scene, stop: usize, most: usize) -> (u64, u64) {
     match scene.stops[stop].listed {
-        REGISTERS => own_refusal(scene, stop),
+        REGISTERS => own_refusal_under(scene, stop, most),
         _ => (25, 0),
     }
 }
 
 /// The answer of a frame by itself with its 32 registers, as in a thread.
 pub fn own_refusal(scene: &Scene, stop: usize) -> (u64, u64) {
+    own_refusal_under(scene, stop, MOST_POINTERS)
+}
+
+/// The answer of a frame by itself with its 32 registers that may have so many pointers.
+pub fn own_refusal_under(scene: &Scene, stop: usize, most: usize) -> (u64, u64) {
     match whole(scene, stop) {
         Err(number) => (number, 0),
-        Ok(pairs) => of_pairs(scene, stop, pairs),
+        Ok(pairs) => of_pairs(scene, stop, pairs, most),
     }
 }
 
 /// The answer of a frame with these locations of pairs: 17 to 21, or accepted. Version 1 looks for 17
 /// before 18.
-fn of_pairs(scene: &Scene, stop: usize, pairs: &[Location]) -> (u64, u64) {
+fn of_pairs(scene: &Scene, stop: usize, pairs: &[Location], most: usize) -> (u64, u64) {
     let version = scene.section.version;
-    if version == Version::One && pairs.len() / 2 > MOST_POINTERS {
+    if version == Version::One && pairs.len() / 2 > most {
         return (17, 0);
     }
     let wrong = |pair: &[Location]| !is_null(scene, pair) && !is_form(scene, pair);
     if let Some(pair) = pairs.chunks_exact(2).position(wrong) {
         return (18, pair as u64);
     }
-    if version == Version::Three && pointers(scene, stop) > MOST_POINTERS {
+    if version == Version::Three && pointers(scene, stop) > most {
         return (17, 0);
     }
     let size = i128::from(scene.stack_size(stop));
