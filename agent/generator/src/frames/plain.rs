@@ -75,7 +75,7 @@ pub fn slots(scene: &Scene, stop: usize) -> Vec<Slots> {
 }
 
 /// How many pointers a pair is that is null or has the right form.
-fn pointers_of(version: Version, pair: &[Location]) -> usize {
+pub(super) fn pointers_of(version: Version, pair: &[Location]) -> usize {
     match (version, pair[0].kind) {
         (Version::Three, 1 | 3) => usize::from(pair[0].size / 8),
         _ => 1,
@@ -207,7 +207,7 @@ fn standing(scene: &Scene, stop: usize) -> Result<usize, u64> {
 }
 
 /// Whether both locations of a pair are constants equal to 0.
-fn is_null(scene: &Scene, pair: &[Location]) -> bool {
+pub(super) fn is_null(scene: &Scene, pair: &[Location]) -> bool {
     pair.iter().all(|one| match one.kind {
         4 => one.offset == 0,
         5 => scene.section.constants[one.offset as usize] == 0,
@@ -218,7 +218,7 @@ fn is_null(scene: &Scene, pair: &[Location]) -> bool {
 /// Whether a pair has the right form. Its locations are counted from the machine's two pointers, or are
 /// registers that are slots. Its sizes are 8 in version 1, each by itself also 0; in version 3 they are
 /// equal, a multiple of 8, and of 1 to 256 pointers, that of a register of one.
-fn is_form(scene: &Scene, pair: &[Location]) -> bool {
+pub(super) fn is_form(scene: &Scene, pair: &[Location]) -> bool {
     let own = registers(scene.machine);
     let slot = |one: &Location| match one.kind {
         1 => is_slot_register(one, scene.machine) && one.size <= 8,
