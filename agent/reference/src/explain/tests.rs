@@ -138,6 +138,25 @@ fn every_reason_in_one_frame() {
     assert_eq!(of(&row, 4), Reason::NullBase);
 }
 
+/// A slot that is a base and derived too: what derives it counts, in either
+/// order of the pairs.
+#[test]
+fn a_slot_that_is_base_and_derived() {
+    let null = [(rsp(0), rsp(8)), (rsp(8), register(1))];
+    let moving = [(register(2), register(3)), (register(3), rsp(16))];
+    for [one, two, three, four] in [[0, 1, 2, 3], [3, 2, 1, 0]] {
+        let pairs = [null.clone(), moving.clone()].concat();
+        let pairs = [one, two, three, four].map(|nth| pairs[nth].clone());
+        let mut row = frame(&pairs);
+        row.registers[2] = 0x50000;
+        row.registers[3] = 0x60000;
+        assert_eq!(at(&row, 0x7008), Reason::NullBase);
+        let place = [one, two, three, four].iter().position(|nth| *nth == 2);
+        let pair = place.unwrap() as u64;
+        assert_eq!(of(&row, 3), moved(pair, 0x50000, 0x90000));
+    }
+}
+
 /// The lowest of the pairs that derive a slot, whose old bases are equal.
 #[test]
 fn the_lowest_pair_is_named() {

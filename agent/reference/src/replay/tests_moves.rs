@@ -96,6 +96,16 @@ fn the_first_answer_that_differs() {
     assert_eq!(with(&[(1, 21, 0), (2, 0, 2)]), (Ok(Some(1)), moved()));
 }
 
+/// Frames after the first difference are moved too: here the one that changes
+/// the image comes last.
+#[test]
+fn a_difference_does_not_stop_the_moves() {
+    let steps = [step(0x7018, 0, 3), step(0x7018, 9, 9), step(0x7000, 0, 2)];
+    assert_eq!(run(1, &row_h(), &write(&steps)), (Ok(Some(0)), moved()));
+    let steps = [step(0x7018, 0, 3), step(0x7000, 0, 7)];
+    assert_eq!(run(1, &row_h(), &write(&steps)), (Ok(Some(0)), moved()));
+}
+
 /// Each frame is judged on the image that the one before left: it is no list of
 /// frames that are apart.
 #[test]
