@@ -3,16 +3,21 @@
 //! place of the address; the records then stand in any order, whatever that of the functions is. A
 //! scene is made whole, so that every frame of it is accepted; [`faults`] aims at the refusals of a
 //! frame, [`guests`] adds frames that share bytes with others, and [`plain`] says how a frame is
-//! answered and what becomes of the image and of the registers. [`thread`] makes lists of frames.
+//! answered and what becomes of the image and of the registers. [`thread`] makes lists of frames,
+//! [`reasons`] asks for slots, [`named`] makes editions that allow a move or don't, and [`bench`] makes
+//! frames of the bench controller's product.
 
+pub mod bench;
 mod building;
 mod cells;
 pub mod faults;
 mod functions;
 pub mod guests;
 mod machines;
+pub mod named;
 pub mod plain;
 mod pool;
+pub mod reasons;
 mod table;
 pub mod thread;
 
@@ -274,6 +279,10 @@ pub fn shuffle<T>(rng: &mut Rng, items: &mut [T]) {
 
 #[cfg(test)]
 mod tests;
+#[cfg(test)]
+mod tests_named;
+#[cfg(test)]
+mod tests_reasons;
 #[cfg(test)]
 mod tests_registers;
 #[cfg(test)]

@@ -1,6 +1,6 @@
 //! Random stack map sections, listings and address indexes for tests and benchmarks, of versions 1 and
-//! 3, and flat sections: whole ones, and damaged ones. Also sequences of calls on a store of editions, and
-//! reports over lists of sections.
+//! 3, and flat sections: whole ones, and damaged ones. Also sequences of calls on a store of editions,
+//! reports over lists of sections, frames and threads to be moved, and traces of recorded moves.
 //!
 //! Everything is made from a seed, so that a run can be had again. The encoder is this package's
 //! own: where it says what a section must be answered, that is one more opinion beside those of
@@ -22,6 +22,7 @@ pub mod older;
 pub mod questions;
 pub mod reports;
 pub mod rng;
+pub mod traces;
 pub mod valid;
 
 pub use layout::{Section, Version};

@@ -11,6 +11,10 @@
 //! the same calls answered from a list of events). [`report`] adds up what many
 //! sections hold.
 //!
+//! A restore names an edition ([`restore`]); recorded ones are replayed
+//! ([`replay`]), and the bench controller takes those of one product
+//! ([`bench`]). [`explain`] says why a slot of a frame is set or left as it is.
+//!
 //! Every function answers every input: with a result, or with a [`Refusal`]
 //! that has a fixed number and place. A refused call changes no byte of what
 //! it was lent.
@@ -18,8 +22,10 @@
 #![forbid(unsafe_code)]
 #![deny(missing_docs)]
 
+pub mod bench;
 mod bytes;
 pub mod editions;
+pub mod explain;
 pub mod flat;
 pub mod history;
 pub mod index;
@@ -29,7 +35,9 @@ pub mod moves;
 pub mod program;
 pub mod questions;
 pub mod relocate;
+pub mod replay;
 pub mod report;
+pub mod restore;
 pub mod section;
 pub mod thread;
 
@@ -50,11 +58,12 @@ pub use thread::{thread, thread_by_index};
 /// the place that line names.
 #[derive(Clone, Copy, Debug, PartialEq, Eq)]
 pub struct Refusal {
-    /// The refusal's number, 1 to 29, and of a move also 33; of a call on
-    /// editions 30 to 32 or 51; of a report 34; of a flat section 36 to 41.
+    /// The refusal's number, 1 to 29, and of a move also 33; of a restore that
+    /// names an edition also 31, and on the bench 50; of a call on editions 30
+    /// to 32 or 51; of a report 34; of a trace 35; of a flat section 36 to 41.
     pub number: u64,
-    /// The refusal's place: a byte, a pair, a frame's or a section's position
-    /// in a list, or 0 where its line has none.
+    /// The refusal's place: a byte, a pair, a record, a frame's or a section's
+    /// position in a list, or 0 where its line has none.
     pub place: u64,
 }
 

@@ -40,9 +40,8 @@ mod tests_version_1;
 use crate::machine::Machine;
 use crate::section::{read, Function, Location, Record, Section, Version};
 use crate::Refusal;
-use pairs::Slot;
-pub(crate) use pairs::MAX_POINTERS;
 use pairs::{collision, count, forms, locate, new_contents};
+pub(crate) use pairs::{moved, Cell, Pointer, Slot, MAX_POINTERS};
 use std::ops::Range;
 
 /// The greatest length of a stack image, in bytes.
@@ -116,6 +115,8 @@ pub(crate) struct Plan {
     pub(crate) stretch: Range<usize>,
     /// The number of pointers, null pairs counting one each.
     pub(crate) pointers: u64,
+    /// The pointers of each pair, none of a null one.
+    pub(crate) pairs: Vec<Vec<Pointer>>,
     /// The new content of each derived slot.
     contents: Vec<(Slot, u64)>,
 }
@@ -192,6 +193,7 @@ impl Shared<'_> {
             stretch,
             pointers: pointers as u64,
             contents: new_contents(&pairs, self.table)?,
+            pairs,
         })
     }
 }
@@ -275,6 +277,17 @@ pub(crate) fn statepoint_pairs(record: &Record) -> Option<&[[Location; 2]]> {
     let deopt_count = usize::try_from(constants[2].offset).ok()?;
     let (pairs, odd) = rest.get(deopt_count..)?.as_chunks::<2>();
     odd.is_empty().then_some(pairs)
+}
+
+/// The number of pointers of a statepoint's pairs, null ones counting one each;
+/// none if a pair has a wrong form on this machine.
+pub(crate) fn pointers_of(
+    section: &Section,
+    pairs: &[[Location; 2]],
+    machine: Machine,
+) -> Option<usize> {
+    let forms = forms(section, pairs, machine, &[0; REGISTERS]).ok()?;
+    Some(count(&forms))
 }
 
 /// The extent of a frame of a function from its stack pointer on, unless its

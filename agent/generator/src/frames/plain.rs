@@ -75,7 +75,7 @@ pub fn slots(scene: &Scene, stop: usize) -> Vec<Slots> {
 }
 
 /// How many pointers a pair is that is null or has the right form.
-fn pointers_of(version: Version, pair: &[Location]) -> usize {
+pub(super) fn pointers_of(version: Version, pair: &[Location]) -> usize {
     match (version, pair[0].kind) {
         (Version::Three, 1 | 3) => usize::from(pair[0].size / 8),
         _ => 1,
@@ -124,32 +124,42 @@ pub fn set_content(scene: &mut Scene, stop: usize, slot: Slot, content: u64) {
 /// The answer of a frame that is moved alone, where nothing is wrong with the section, the machine, the
 /// image and the table: number and place, both 0 where it is accepted.
 pub fn refusal(scene: &Scene, stop: usize) -> (u64, u64) {
+    refusal_under(scene, stop, MOST_POINTERS)
+}
+
+/// The answer of a frame that is moved alone and may have so many pointers.
+pub fn refusal_under(scene: &Scene, stop: usize, most: usize) -> (u64, u64) {
     match scene.stops[stop].listed {
-        REGISTERS => own_refusal(scene, stop),
+        REGISTERS => own_refusal_under(scene, stop, most),
         _ => (25, 0),
     }
 }
 
 /// The answer of a frame by itself with its 32 registers, as in a thread.
 pub fn own_refusal(scene: &Scene, stop: usize) -> (u64, u64) {
+    own_refusal_under(scene, stop, MOST_POINTERS)
+}
+
+/// The answer of a frame by itself with its 32 registers that may have so many pointers.
+pub fn own_refusal_under(scene: &Scene, stop: usize, most: usize) -> (u64, u64) {
     match whole(scene, stop) {
         Err(number) => (number, 0),
-        Ok(pairs) => of_pairs(scene, stop, pairs),
+        Ok(pairs) => of_pairs(scene, stop, pairs, most),
     }
 }
 
 /// The answer of a frame with these locations of pairs: 17 to 21, or accepted. Version 1 looks for 17
 /// before 18.
-fn of_pairs(scene: &Scene, stop: usize, pairs: &[Location]) -> (u64, u64) {
+fn of_pairs(scene: &Scene, stop: usize, pairs: &[Location], most: usize) -> (u64, u64) {
     let version = scene.section.version;
-    if version == Version::One && pairs.len() / 2 > MOST_POINTERS {
+    if version == Version::One && pairs.len() / 2 > most {
         return (17, 0);
     }
     let wrong = |pair: &[Location]| !is_null(scene, pair) && !is_form(scene, pair);
     if let Some(pair) = pairs.chunks_exact(2).position(wrong) {
         return (18, pair as u64);
     }
-    if version == Version::Three && pointers(scene, stop) > MOST_POINTERS {
+    if version == Version::Three && pointers(scene, stop) > most {
         return (17, 0);
     }
     let size = i128::from(scene.stack_size(stop));
@@ -197,7 +207,7 @@ fn standing(scene: &Scene, stop: usize) -> Result<usize, u64> {
 }
 
 /// Whether both locations of a pair are constants equal to 0.
-fn is_null(scene: &Scene, pair: &[Location]) -> bool {
+pub(super) fn is_null(scene: &Scene, pair: &[Location]) -> bool {
     pair.iter().all(|one| match one.kind {
         4 => one.offset == 0,
         5 => scene.section.constants[one.offset as usize] == 0,
@@ -208,7 +218,7 @@ fn is_null(scene: &Scene, pair: &[Location]) -> bool {
 /// Whether a pair has the right form. Its locations are counted from the machine's two pointers, or are
 /// registers that are slots. Its sizes are 8 in version 1, each by itself also 0; in version 3 they are
 /// equal, a multiple of 8, and of 1 to 256 pointers, that of a register of one.
-fn is_form(scene: &Scene, pair: &[Location]) -> bool {
+pub(super) fn is_form(scene: &Scene, pair: &[Location]) -> bool {
     let own = registers(scene.machine);
     let slot = |one: &Location| match one.kind {
         1 => is_slot_register(one, scene.machine) && one.size <= 8,

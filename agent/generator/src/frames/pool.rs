@@ -79,12 +79,16 @@ impl Pool<'_> {
     /// A location of kind 1 that is no slot, by its register, its size or its offset.
     pub(crate) fn wrong_slot(self, rng: &mut Rng) -> Location {
         let mut location = self.register(rng);
-        match rng.below(5) {
+        let other = match self.version {
+            Version::One => rng.pick(&[1, 4, 7, 9, 0x80, 0xf8, 0xff]),
+            Version::Three => rng.pick(&[4, 9, 24, 2_048]),
+        };
+        match rng.below(6) {
             0 | 1 => location.register = self.no_slot(rng),
-            2 | 3 => {
+            2..=4 => {
                 location.size = match self.version {
-                    Version::One => rng.pick(&[16, 16, 1, 4, 7, 9, 0x80, 0xf8, 0xff]),
-                    Version::Three => rng.pick(&[16, 16, 16, 0, 0, 0, 4, 9, 24, 2_048]),
+                    Version::One => rng.pick(&[16, 16, other]),
+                    Version::Three => rng.pick(&[16, 16, 0, 0, other]),
                 }
             }
             _ => location.offset = rng.pick(&[1, 8, u32::MAX, 1 << 31, i32::MAX as u32]),

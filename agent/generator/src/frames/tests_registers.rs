@@ -110,7 +110,7 @@ fn frames_are_answered_as_known() {
         assert!(count > 1_000, "{number}: {count} times");
     }
     for (count, (name, _)) in shapes.iter().zip(SHAPES) {
-        assert!(*count > 60, "{name}: {count} times");
+        assert!(*count > 50, "{name}: {count} times");
     }
     for (machine, _) in MACHINES {
         for (number, count) in used[machine as usize].iter().enumerate() {

@@ -1,7 +1,7 @@
 //! Lists of frames that are moved in one call, and what the call answers.
 
 use super::guests::{self, Lie};
-use super::{faults, plain, shuffle, Scene, Size, Table, MOST_FRAMES, REGISTERS};
+use super::{faults, plain, shuffle, Scene, Size, Table, MOST_FRAMES, MOST_POINTERS, REGISTERS};
 use crate::rng::Rng;
 
 /// A list of frames of a scene.
@@ -103,12 +103,17 @@ impl Thread {
     /// The answer where nothing is wrong with the section, the machine, the image and the table: number
     /// and place, both 0 where the list is accepted.
     pub fn answer(&self) -> (u64, u64) {
+        self.answer_under(MOST_POINTERS)
+    }
+
+    /// The answer where a frame may have so many pointers.
+    pub fn answer_under(&self, most: usize) -> (u64, u64) {
         assert!(self.rest == 0 || self.off == 0, "frames that are none");
         if !self.fits() {
             return (25, 0);
         }
         for (position, stop) in self.order.iter().enumerate() {
-            let (number, _) = plain::own_refusal(&self.scene, *stop);
+            let (number, _) = plain::own_refusal_under(&self.scene, *stop, most);
             if number != 0 {
                 return (number, position as u64);
             }

@@ -44,22 +44,22 @@ pub(super) struct Form {
 /// A slot: a register, or eight bytes inside the frame's extent by their first,
 /// counted from the stack pointer.
 #[derive(Clone, Copy, Debug, PartialEq, Eq)]
-pub(super) enum Slot {
+pub(crate) enum Slot {
     Register(usize),
     Memory(usize),
 }
 
 /// A slot and what it holds before the call.
 #[derive(Clone, Copy)]
-pub(super) struct Cell {
-    slot: Slot,
-    content: u64,
+pub(crate) struct Cell {
+    pub(crate) slot: Slot,
+    pub(crate) content: u64,
 }
 
 /// A pointer: the slot of its base and its own.
-pub(super) struct Pointer {
-    base: Cell,
-    derived: Cell,
+pub(crate) struct Pointer {
+    pub(crate) base: Cell,
+    pub(crate) derived: Cell,
 }
 
 /// The form of each pair, `None` for a null one: refusal 18 over all pairs.
@@ -239,7 +239,7 @@ pub(super) fn new_contents(
 }
 
 /// Where the object that starts at `old_base` has moved; 0 moves to 0.
-fn moved(old_base: u64, [old_starts, new_starts]: [&[u64]; 2]) -> Option<u64> {
+pub(crate) fn moved(old_base: u64, [old_starts, new_starts]: [&[u64]; 2]) -> Option<u64> {
     if old_base == 0 {
         return Some(0);
     }

@@ -105,8 +105,7 @@ fn wrong_form(rng: &mut Rng, pool: Pool, pair: &mut [Location]) {
         slot.size = pair[1 - one].size;
     }
     match rng.below(12) {
-        0 => slot.kind = rng.pick(&[1, 2]),
-        1..=4 => {
+        0..=3 => {
             let sizes = pool.wrong_sizes(rng);
             for (location, size) in pair.iter_mut().zip(sizes) {
                 *location = Location {
@@ -114,29 +113,33 @@ fn wrong_form(rng: &mut Rng, pool: Pool, pair: &mut [Location]) {
                     ..slot.clone()
                 };
             }
-            return;
         }
-        5 => slot.register = pool.wrong_register(rng),
-        6 => {
+        4 => {
             pair[1 - one] = match rng.one_in(2) {
                 true => pool.register(rng),
                 false => slot,
             };
             pair[one] = pool.null(rng);
-            return;
         }
-        // A register that is no slot, beside whatever there is.
-        7..=9 => slot = pool.wrong_slot(rng),
         // A register beside memory of another size, or of the same that no register has.
-        10 => {
+        5 => {
             slot.size = 16;
             pair[1 - one] = slot;
             pair[one] = pool.register(rng);
             if rng.one_in(2) {
                 pair[one].size = 16;
             }
-            return;
         }
+        _ => pair[one] = wrong_location(rng, pool, slot),
+    }
+}
+
+/// A location that is no slot, whatever stands beside it, made of one that is.
+fn wrong_location(rng: &mut Rng, pool: Pool, mut slot: Location) -> Location {
+    match rng.below(6) {
+        0 => slot.kind = rng.pick(&[1, 2]),
+        1 => slot.register = pool.wrong_register(rng),
+        2..=4 => slot = pool.wrong_slot(rng),
         _ => {
             let constant = pool.constants.iter().position(|constant| *constant != 0);
             (slot.kind, slot.offset) = match constant {
@@ -145,7 +148,7 @@ fn wrong_form(rng: &mut Rng, pool: Pool, pair: &mut [Location]) {
             };
         }
     }
-    pair[one] = slot;
+    slot
 }
 
 /// The numbers of the pairs that have slots.
