@@ -72,7 +72,7 @@ returns-2 c g settings l =
     let i = c .before .before .before .before .before .before .before .before .before .before .before .before .before .before .before .before .fill in
     leads-stop (a .s .now) (a .olds .now) (a .news .now) (a .first) settings (a .image .now) g (a .registers .now) (a .frame) (a .outline) (slotOf (a .asked)) (s .pre .0) l
     (i .result) (i .ensures .0) (c .before .before .before .before .before .before .before .before .before .before .before .if1 .left) _ _ _ (i .ensures .2 (c .before .before .before .before .before .before .before .before .before .before .before .if1 .left)) (i .ensures .3 (c .before .before .before .before .before .before .before .before .before .before .before .if1 .left))
-    (c .before .before .at-pair .result) (c .before .before .before .before .judge-window .result) (c .before .before .at-pair .ensures (a .frame)) (c .before .before .before .before .judge-window .ensures) (c .if2 .taken)
+    (c .before .before .at-pair .result) (c .before .before .before .before .judge-window .result) (c .before .before .at-pair .ensures (a .frame)) (c .before .before .before .before .judge-window .ensures) (λ z. omega arith)
 
 sub-reason : tie.Need-sub-reason
 sub-reason c = search needs
@@ -109,7 +109,7 @@ returns-3 c g settings l =
     c .reason .ensures (a .frame)
     ∙ leads-told (a .s .now) (a .olds .now) (a .news .now) (a .first) settings (a .image .now) g (a .registers .now) (a .frame) (a .outline) (slotOf (a .asked)) (s .pre .0) l
     (i .result) (i .ensures .0) (c .before .before .before .before .before .before .before .before .before .before .before .before .before .before .before .before .if1 .left) _ _ _ (i .ensures .2 (c .before .before .before .before .before .before .before .before .before .before .before .before .before .before .before .before .if1 .left)) (i .ensures .3 (c .before .before .before .before .before .before .before .before .before .before .before .before .before .before .before .before .if1 .left))
-    (c .before .before .before .before .before .before .before .at-pair .result) (c .before .before .before .before .before .before .before .before .before .judge-window .result) (c .before .before .before .before .before .before .before .at-pair .ensures (a .frame)) (c .before .before .before .before .before .before .before .before .before .judge-window .ensures) (c .before .before .before .before .before .if2 .left)
+    (c .before .before .before .before .before .before .before .at-pair .result) (c .before .before .before .before .before .before .before .before .before .judge-window .result) (c .before .before .before .before .before .before .before .at-pair .ensures (a .frame)) (c .before .before .before .before .before .before .before .before .before .judge-window .ensures) (omega arith)
 
 pub of-outline-spec : {M : Type 1} → statement M
 of-outline-spec =

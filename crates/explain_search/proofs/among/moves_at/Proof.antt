@@ -1,3 +1,4 @@
+use native.Mathlib.Omega.{arith}
 use borrow.Author.Needs.{needs}
 use Rattle.explain_search.proofs.Searching.{moves-null, moves-other, moves-by}
 use Rattle.explain_search.proofs.among.moves_at.Statement.{statement}
@@ -25,7 +26,7 @@ read-requires : tie.Need-read-requires
 read-requires c κs = c .before .before .before .before .before .before .before .pre .1 (c .before .before .before .if1 .left)
 
 returns-2 : tie.Need-returns-2
-returns-2 c = moves-by _ _ _ _ _ _ (c .before .before .before .before .if1 .left) _ (c .before .before .if2 .taken) (c .read .ensures)
+returns-2 c = moves-by _ _ _ _ _ _ (c .before .before .before .before .if1 .left) _ (omega arith) (c .read .ensures)
 
 returns-3 : tie.Need-returns-3
 returns-3 c = moves-other _ _ _ _ _ _ (c .before .before .if1 .left) (c .if2 .left)
