@@ -348,7 +348,7 @@ fn short_long_and_empty_frames() {
     }
 }
 
-/// The call needs less than 250 KiB of stack, whatever the list.
+/// The call needs about 264 KiB of stack, whatever the list.
 #[test]
 fn a_thread_with_little_stack() {
     const STACK: usize = 280 * 1024;
