@@ -10,7 +10,7 @@ use generator::layout::Location;
 use generator::Rng;
 
 /// Frames in a run, in parts.
-const PARTS: u64 = 500;
+const PARTS: u64 = 650;
 const FRAMES_A_PART: u64 = 200;
 
 /// The refusals of pairs.
