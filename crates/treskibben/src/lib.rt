@@ -18,6 +18,7 @@ pub const LAST_MACHINE: u64 = 1;
 
 pub mod address_index;
 pub mod edition_calls;
+pub mod explain_calls;
 pub mod flat_sections;
 pub mod index_lookups;
 pub mod reports;
