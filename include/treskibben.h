@@ -516,6 +516,84 @@ treskibben_answer treskibben_thread_by_index(const uint8_t *section, size_t leng
                                              size_t index_length);
 
 /*
+ * Why a slot moves or does not.
+ *
+ * A slot of a frame is asked for: eight bytes of the stack by the address of their first one, or a register.
+ * The answer is what the move of this frame alone does to the slot, and why; it is for the one who wants to
+ * know before a move what will change, or what a refused frame lacks.
+ *
+ * The reason is the first of these that holds, in this order, which is not that of the numbers:
+ *
+ *   reason                         when
+ *   TRESKIBBEN_REASON_REFUSED   4  treskibben_relocate would refuse the frame
+ *   TRESKIBBEN_REASON_MOVED     3  a pointer in the slot is derived from a base that is not 0: the move adds
+ *                                  the new start of the base to the content and takes away the old one,
+ *                                  modulo 2^64
+ *   TRESKIBBEN_REASON_NULL_BASE 2  a pointer in the slot is derived from a base of 0: the content stays
+ *   TRESKIBBEN_REASON_ONLY_BASE 1  the slot is the base of a pointer, and none in it is derived: the content
+ *                                  stays
+ *   TRESKIBBEN_REASON_UNLISTED  0  the slot is none of a pointer's: no move is meant for it
+ *
+ * A slot in memory is its first byte. Each pointer of a pair has its own, not the location alone; an address
+ * inside a slot that isn't its first byte is unlisted, and what stands there changes with the bytes of that
+ * slot. So is every address outside the frame, and every register that is no slot on the machine, the two
+ * pointers and numbers from 32 on among them. A register is never the same slot as an address, whatever its
+ * number. Null pairs and deoptimisation values list nothing.
+ */
+#define TRESKIBBEN_REASON_UNLISTED UINT64_C(0)
+#define TRESKIBBEN_REASON_ONLY_BASE UINT64_C(1)
+#define TRESKIBBEN_REASON_NULL_BASE UINT64_C(2)
+#define TRESKIBBEN_REASON_MOVED UINT64_C(3)
+#define TRESKIBBEN_REASON_REFUSED UINT64_C(4)
+
+/*
+ * What is answered for a slot.
+ *
+ * reason:   one of the five above.
+ * number:   of refused, the number that treskibben_relocate gives the frame; else 0.
+ * place:    of refused, the place that it gives: of 1 to 9 a byte of the section, of 18 to 21 a pair, else 0.
+ *           0 for every other reason.
+ * pair:     of moved, the lowest pair with a pointer that is derived in the slot, counted from 0 among the
+ *           pairs and not among the pointers; else 0.
+ * old_base: of moved, the old start of the object that the pointer is in; else 0.
+ * new_base: of moved, the new one; else 0.
+ *
+ * The first field is not the number of a refusal: it is 0 where the slot is unlisted.
+ */
+typedef struct treskibben_reason {
+    uint64_t reason;
+    uint64_t number;
+    uint64_t place;
+    uint64_t pair;
+    uint64_t old_base;
+    uint64_t new_base;
+} treskibben_reason;
+
+/*
+ * The reason of the slot that begins at this address.
+ *
+ * All is lent that treskibben_relocate is, but that nothing is written: image and registers, too, are lent as
+ * the lists of starts are, and everything here may share its bytes with anything else. A call costs about as
+ * much as the move.
+ */
+treskibben_reason treskibben_explain_address(const uint8_t *section, size_t length,
+                                             const uint8_t *image, size_t image_length,
+                                             uint64_t first, const uint64_t *old_starts,
+                                             size_t old_count, const uint64_t *new_starts,
+                                             size_t new_count, uint64_t machine,
+                                             treskibben_frame frame, const uint64_t *registers,
+                                             size_t registers_length, uint64_t address);
+
+/* The reason of the register with this DWARF number; any number may be asked for. All else is as above. */
+treskibben_reason treskibben_explain_register(const uint8_t *section, size_t length,
+                                              const uint8_t *image, size_t image_length,
+                                              uint64_t first, const uint64_t *old_starts,
+                                              size_t old_count, const uint64_t *new_starts,
+                                              size_t new_count, uint64_t machine,
+                                              treskibben_frame frame, const uint64_t *registers,
+                                              size_t registers_length, uint64_t dwarf_register);
+
+/*
  * Flat sections.
  *
  * A flat section is source document 002's version 2 of the format: a header with the offsets of six

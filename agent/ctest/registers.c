@@ -4,6 +4,7 @@
  * their own.
  */
 #include "moves.h"
+#include "pairs.h"
 #include "rows.h"
 #include "tally.h"
 #include "treskibben.h"
@@ -11,41 +12,14 @@
 #include <stdio.h>
 #include <string.h>
 
-/* Where row H's first pair stands and the bytes of a location, and the same of version 1. */
-enum { PAIRS = 92, LOCATION = 12, PAIRS_1 = 72, LOCATION_1 = 8, SLOTS = 3, LOCATIONS = 4 };
-
-/* The kinds of locations. */
-enum { REGISTER = 1, DIRECT = 2, MEMORY = 3, CONSTANT = 4 };
+enum { SLOTS = 3 };
 
 #define FIRST UINT64_C(0x7000)
 #define OLD UINT64_C(0x50000)
 #define NEW UINT64_C(0x90000)
 #define DISTANCE UINT64_C(0x4e20)
 
-struct location {
-    uint8_t kind, size, reg, offset;
-};
-
 static const uint64_t old_starts[2] = {OLD, 0x60000}, new_starts[2] = {NEW, 0x30000};
-static const uint8_t stack_pointers[2] = {7, 31};
-
-/* Puts the four locations of row H's two pairs, and gives the section's length. */
-static size_t build(uint8_t *section, const struct location *locations, int older)
-{
-    const size_t length = older ? sizeof row_h_1 : sizeof row_h;
-    size_t i;
-
-    memcpy(section, older ? row_h_1 : row_h, length);
-    for (i = 0; i < LOCATIONS; i++) {
-        uint8_t *at = section + (older ? PAIRS_1 + LOCATION_1 * i : PAIRS + LOCATION * i);
-
-        at[0] = locations[i].kind;
-        at[older ? 1 : 2] = locations[i].size;
-        at[older ? 2 : 4] = locations[i].reg;
-        at[older ? 4 : 8] = locations[i].offset;
-    }
-    return length;
-}
 
 /* What a move is lent: the image, as words, and the registers, with room for one more. */
 struct lent {

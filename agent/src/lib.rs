@@ -7,9 +7,9 @@
 //! section is for many addresses at a time. [`to_listing`] writes a section as a plain row of items,
 //! and [`to_section`] writes the section again.
 //! [`relocate()`] moves the pointers of one stopped frame in a copy of its stack and of its [`Registers`],
-//! and [`relocate_thread`] those of a whole thread, all of its frames or none, on either [`Machine`]. Every
-//! slice of bytes gets an answer; none makes a function panic, read or write beyond its slices or run
-//! without end.
+//! and [`relocate_thread`] those of a whole thread, all of its frames or none, on either [`Machine`].
+//! [`explain()`] tells why a [`Slot`] of a frame moves or does not. Every slice of bytes gets an answer; none
+//! makes a function panic, read or write beyond its slices or run without end.
 //!
 //! A section's first byte is its version. Version 1 doesn't say which function has a record: there
 //! [`find_in_function`] takes the place of [`find`], and a [`Frame`] tells its function. All else is
@@ -37,6 +37,7 @@
 mod answers;
 mod conversions;
 pub mod editions;
+mod explain;
 #[allow(unsafe_code)]
 mod ffi;
 pub mod flat;
@@ -50,6 +51,7 @@ mod thread;
 
 pub use answers::{ContentPlace, Found, LiveOut, Location, LocationKind};
 pub use conversions::{listing_of, section_of, to_listing, to_section};
+pub use explain::{explain, Reason, Slot};
 pub use index::{fill_index, Index};
 pub use machine::{Machine, Registers, REGISTERS};
 pub use questions::{find, find_in_function, live_out, location, record};
