@@ -4,7 +4,7 @@
 //! scene is made whole, so that every frame of it is accepted; [`faults`] aims at the refusals of a
 //! frame, [`guests`] adds frames that share bytes with others, and [`plain`] says how a frame is
 //! answered and what becomes of the image and of the registers. [`thread`] makes lists of frames,
-//! [`reasons`] asks for slots, [`named`] makes editions that allow a move or don't, [`bench`] makes
+//! [`reasons`] asks for slots, [`named`] makes editions that allow a move or don't, [`mod@bench`] makes
 //! frames of the bench controller's product, and [`twice`] frames that are moved twice.
 
 pub mod bench;
