@@ -48,7 +48,7 @@ fn same(one: &Location, other: &Location) -> bool {
     place(one) == place(other)
 }
 
-/// Adds a pair of each base with itself to every statepoint where it isn't listed, in any order.
+/// Adds a pair of each base with itself to every statepoint where it isn't listed.
 pub fn list_bases(scene: &mut Scene) {
     for record in &mut scene.section.records {
         let Some(first) = plain::first_pair(record) else {
@@ -88,4 +88,40 @@ pub fn base_alone(scene: &Scene, stop: usize) -> Option<(usize, Slot)> {
         .flat_map(|(nth, pair)| pair.iter().map(move |[base, _]| (nth, *base)));
     let mut alone = bases.filter(|(_, base)| !itself.contains(base));
     alone.next()
+}
+
+#[cfg(test)]
+mod tests {
+    use super::*;
+
+    #[test]
+    fn bases_are_alone_until_they_are_listed() {
+        let mut rng = Rng::new(1);
+        let mut alone = 0;
+        for _ in 0..1_000 {
+            let mut scene = Scene::many(&mut rng, 2);
+            let is_alone = |scene: &Scene, stop| base_alone(scene, stop).is_some();
+            alone += (0..2).filter(|stop| is_alone(&scene, *stop)).count();
+            list_bases(&mut scene);
+            assert!((0..2).all(|stop| !is_alone(&scene, stop)));
+        }
+        assert!((500..1_500).contains(&alone), "{alone}");
+    }
+
+    #[test]
+    fn tables_after_a_table_have_no_fault() {
+        let mut rng = Rng::new(1);
+        let mut joined = 0;
+        for _ in 0..1_000 {
+            let table = Table::any(&mut rng);
+            let next = table.next(&mut rng);
+            for table in [&next, &table.joined(&next)] {
+                assert!(table.olds.is_sorted_by(|one, next| one < next));
+                assert!(!table.olds.contains(&0) && !table.news.contains(&0));
+                assert_eq!(table.olds.len(), table.news.len());
+            }
+            joined += usize::from(!table.joined(&next).olds.is_empty());
+        }
+        assert!(joined > 500, "{joined}");
+    }
 }

@@ -1,16 +1,14 @@
 //! `--moves` several times: one restore by the joined table, and the same as one restore after the other; or a
 //! frame is named that has a base slot which is not listed with itself.
 
+mod random;
+
 use super::receipts::digest;
 use super::registers::{in_rbx, register};
 use super::{Restore, FILES, RECEIPT};
 use crate::fixtures::{constant, location, of_pairs, one_function, rsp, statepoint, words};
 use crate::run::{Folder, Ran};
-use generator::frames::plain::{self, Slot};
-use generator::frames::twice::{base_alone, list_bases};
-use generator::frames::{Scene, Table};
 use generator::layout::Location;
-use generator::{Rng, Version};
 use serde_json::{json, Value};
 
 const REST: u64 = 0xEEEE_EEEE_EEEE_EEEE;
@@ -226,41 +224,25 @@ fn what_the_receipt_says() {
     ran.done("image: 1 frame moved, 2 pointers\n");
     let receipt: Value = serde_json::from_slice(&folder.get(RECEIPT)).unwrap();
     let joined = folder.run(["join", "moves", "second"]).out;
-    let entry = |file: &str, bytes: &[u8]| json!({ "file": file, "bytes": bytes.len(), "sha256": digest(bytes) });
+    let entry = |file: &str, bytes: &[u8]| {
+        let (length, sha256) = (bytes.len(), digest(bytes));
+        json!({ "file": file, "bytes": length, "sha256": sha256 })
+    };
     assert_eq!(receipt["moves"], entry("moves + second", &joined));
-    let of = [
-        ("moves", row.moves.as_bytes()),
-        ("second", b"90000 a0000\n"),
-    ];
-    assert_eq!(
-        receipt["joined"],
-        json!(of.map(|(file, bytes)| entry(file, bytes)))
-    );
+    let first = entry("moves", row.moves.as_bytes());
+    let of = json!([first, entry("second", b"90000 a0000\n")]);
+    assert_eq!(receipt["joined"], of);
     // It keeps the image from being restored once more, by either way.
-    let (again, second) = (row.call(&mut folder.command()).output(), "--moves=second");
-    assert_eq!(again.unwrap().status.code(), Some(1));
-    let ran = Ran::of(row.call(&mut folder.command()).arg(second));
-    assert!(ran.err.contains("it was restored already"), "{}", ran.err);
+    for more in [&[][..], &["--moves", "second"]] {
+        let ran = Ran::of(row.call(&mut folder.command()).args(more));
+        let start = "image: refused: it was restored already; ";
+        assert!(ran.err.starts_with(start), "{}", ran.err);
+    }
     // A table that is joined already is one file's, and moves the same.
-    folder.put("joined", &joined);
+    folder.put("moves", &joined);
     folder.put("image", &row.image);
-    let call = [
-        "--image",
-        "image",
-        "--first",
-        "7000",
-        "--section",
-        "section",
-        "--frames",
-        "frames",
-    ];
-    let ran = folder.run(
-        [
-            &["restore", "--moves", "joined", "--output", "new"],
-            &call[..],
-        ]
-        .concat(),
-    );
+    let mut command = folder.command();
+    let ran = Ran::of(row.inputs(&mut command).args(["--output", "new"]));
     ran.done("new: 1 frame moved, 2 pointers\n");
     let one: Value = serde_json::from_slice(&folder.get("new.receipt.json")).unwrap();
     assert_eq!(one["moves"]["sha256"], receipt["moves"]["sha256"]);
@@ -268,146 +250,4 @@ fn what_the_receipt_says() {
         (&one["after"]["sha256"], one.get("joined")),
         (&receipt["after"]["sha256"], None)
     );
-}
-
-/// The text of a table, and that of a scene's frames with all registers.
-fn text(table: &Table) -> String {
-    let entries = table.olds.iter().zip(&table.news);
-    entries
-        .map(|(old, new)| format!("{old:x} {new:x}\n"))
-        .collect()
-}
-
-/// The names of the registers that a frame of a scene brings.
-fn names(scene: &Scene) -> Vec<String> {
-    let x86_64 = "RAX RDX RCX RBX RSI RDI RBP RSP R8 R9 R10 R11 R12 R13 R14 R15";
-    match scene.machine {
-        0 => x86_64.split(' ').map(String::from).collect(),
-        _ => {
-            let numbered = (0..31).map(|nth| format!("X{nth}"));
-            numbered.chain(["SP".to_string()]).collect()
-        }
-    }
-}
-
-fn lines(scene: &Scene) -> String {
-    let names = names(scene);
-    let line = |stop: &generator::frames::Stop| {
-        let place = match scene.section.version {
-            Version::One => format!("{}+{:x}", stop.named, stop.address),
-            Version::Three => format!("{:x}", stop.address),
-        };
-        let registers = names.iter().zip(stop.registers);
-        let registers = registers.map(|(name, content)| format!(" {name}={content:x}"));
-        format!("{place}{}\n", registers.collect::<String>())
-    };
-    scene.stops.iter().map(line).collect()
-}
-
-/// Runs a restore of a scene's section into a folder.
-fn restore(
-    folder: &Folder,
-    scene: &Scene,
-    image: &str,
-    frames: &str,
-    tables: &[&str],
-    into: &str,
-) -> Ran {
-    let machine = ["x86-64", "aarch64"][scene.machine as usize];
-    let first = format!("{:x}", scene.first);
-    let mut command = folder.command();
-    command.args([
-        "restore",
-        "--section",
-        "section",
-        "--image",
-        image,
-        "--frames",
-        frames,
-    ]);
-    command.args([
-        "--first",
-        &first,
-        "--machine",
-        machine,
-        "--into",
-        into,
-        "--again",
-    ]);
-    command.args(tables.iter().flat_map(|table| ["--moves", table]));
-    Ran::of(&mut command)
-}
-
-/// What is seen of a random scene: 0 the same, 1 refused in both ways, 2 a base alone.
-fn compare(rng: &mut Rng) -> usize {
-    let count = 1 + rng.below(3);
-    let mut scene = Scene::many(rng, count);
-    if !rng.one_in(3) {
-        list_bases(&mut scene);
-    }
-    let (folder, second) = (Folder::new(), scene.table.next(rng));
-    folder.put("section", scene.section.encode());
-    folder.put("image", &scene.image);
-    folder.put("frames", lines(&scene));
-    folder.put("first", text(&scene.table));
-    folder.put("second", text(&second));
-    let once = restore(
-        &folder,
-        &scene,
-        "image",
-        "frames",
-        &["first", "second"],
-        "once",
-    );
-    let mut by_joined = scene.clone();
-    by_joined.table = scene.table.joined(&second);
-    let accepted = (0..count).all(|stop| plain::own_refusal(&by_joined, stop) == (0, 0));
-    let alone = (0..count).find_map(|stop| Some((stop, base_alone(&scene, stop)?)));
-    if let Some((stop, (pair, slot))) = alone.filter(|_| accepted) {
-        let slot = match slot {
-            Slot::Stack(at) => format!("at {:#x}", i128::from(scene.stack_pointer(stop)) + at),
-            Slot::Register(register) => names(&scene)[register].clone(),
-        };
-        let start = format!("frames:{}: {ALONE}{stop} (", stop + 1);
-        assert!(once.err.contains(&start), "{}", once.err);
-        let told = format!(": the base slot of pair {pair} is {slot}, and ");
-        assert!(once.err.contains(&told), "{}", once.err);
-        assert_eq!((once.status, folder.at("once").exists()), (Some(1), false));
-        return 2;
-    }
-    let one = restore(&folder, &scene, "image", "frames", &["first"], "one");
-    let two = (one.status == Some(0)).then(|| {
-        restore(
-            &folder,
-            &scene,
-            "one/image",
-            "one/frames",
-            &["second"],
-            "two",
-        )
-    });
-    let done = two.as_ref().is_some_and(|two| two.status == Some(0));
-    if alone.is_none() {
-        assert_eq!(once.status == Some(0), done, "{once:?}, {one:?}, {two:?}");
-    }
-    assert_eq!(once.status == Some(0), accepted, "{once:?}");
-    if !accepted {
-        assert_eq!(once.status, Some(1), "{once:?}");
-        return 1;
-    }
-    for name in ["image", "frames"] {
-        let [once, two] = ["once", "two"].map(|way| folder.get(&format!("{way}/{name}")));
-        assert!(once == two, "{name}");
-    }
-    0
-}
-
-#[test]
-fn as_two_restores_of_random_frames() {
-    let mut rng = Rng::part(11, 0);
-    let mut seen = [0; 3];
-    for _ in 0..200 {
-        seen[compare(&mut rng)] += 1;
-    }
-    assert!(seen.iter().all(|count| *count >= 15), "{seen:?}");
 }
