@@ -93,9 +93,10 @@ mod tests {
     type Entries<'a> = &'a [(u64, u64)];
 
     fn joined(first: Entries, second: Entries) -> Result<Vec<(u64, u64)>, u64> {
-        let lists = |entries: Entries| entries.iter().copied().unzip();
-        let (first, second): ((Vec<u64>, Vec<u64>), (Vec<u64>, Vec<u64>)) =
-            (lists(first), lists(second));
+        let [first, second] = [first, second].map(|entries| {
+            let entries = entries.iter().copied();
+            entries.unzip::<u64, u64, Vec<u64>, Vec<u64>>()
+        });
         let joined = join((&first).into(), (&second).into());
         let (olds, news) = joined.map_err(|refusal| refusal.number())?;
         Ok(olds.into_iter().zip(news).collect())

@@ -34,9 +34,8 @@ impl Inputs<'_> {
         let pairs = self.at_frames(pairs);
         for (position, entry) in self.lines.iter().enumerate() {
             let line = &entry.value;
-            let Some(Some(pairs)) = pairs.get(&line.frame.address) else {
-                continue;
-            };
+            let pairs = pairs.get(&line.frame.address).and_then(Option::as_ref);
+            let pairs = pairs.expect("a frame that is accepted stands at one record");
             if let Some((pair, slot)) = without_itself(pairs, line) {
                 let slot = match slot {
                     Slot::Memory(address) => format!("at {address:#x}"),

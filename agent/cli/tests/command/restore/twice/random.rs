@@ -140,5 +140,5 @@ fn as_two_restores_of_random_frames() {
     for _ in 0..200 {
         seen[compare(&mut rng)] += 1;
     }
-assert!(seen.iter().all(|count| *count >= 25), "{seen:?}");
+    assert!(seen.iter().all(|count| *count >= 25), "{seen:?}");
 }
