@@ -7,9 +7,10 @@
 //! section is for many addresses at a time. [`to_listing`] writes a section as a plain row of items,
 //! and [`to_section`] writes the section again.
 //! [`relocate()`] moves the pointers of one stopped frame in a copy of its stack and of its [`Registers`],
-//! and [`relocate_thread`] those of a whole thread, all of its frames or none, on either [`Machine`].
-//! [`explain()`] tells why a [`Slot`] of a frame moves or does not. Every slice of bytes gets an answer; none
-//! makes a function panic, read or write beyond its slices or run without end.
+//! and [`relocate_thread`] those of a whole thread, all of its frames or none, on either [`Machine`];
+//! [`explain()`] tells why a [`Slot`] of a frame moves or does not, and [`join()`] makes one move table of
+//! two. Every slice of bytes gets an answer; none makes a function panic, read or write beyond its slices or
+//! run without end.
 //!
 //! A section's first byte is its version. Version 1 doesn't say which function has a record: there
 //! [`find_in_function`] takes the place of [`find`], and a [`Frame`] tells its function. All else is
@@ -42,6 +43,7 @@ mod explain;
 mod ffi;
 pub mod flat;
 mod index;
+mod join;
 mod machine;
 mod questions;
 mod refusal;
@@ -53,6 +55,7 @@ pub use answers::{ContentPlace, Found, LiveOut, Location, LocationKind};
 pub use conversions::{listing_of, section_of, to_listing, to_section};
 pub use explain::{explain, Reason, Slot};
 pub use index::{fill_index, Index};
+pub use join::join;
 pub use machine::{Machine, Registers, REGISTERS};
 pub use questions::{find, find_in_function, live_out, location, record};
 pub use refusal::Refusal;

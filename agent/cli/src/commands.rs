@@ -8,6 +8,7 @@ mod edition;
 mod find;
 mod flat;
 mod index;
+mod join;
 mod list;
 mod report;
 mod restore;
@@ -26,6 +27,7 @@ pub enum Command {
     Flat(flat::Arguments),
     Edition(edition::Arguments),
     Report(report::Arguments),
+    Join(join::Arguments),
     Restore(restore::Arguments),
     Completions(completions::Arguments),
 }
@@ -42,7 +44,9 @@ impl Command {
             Command::Edition(arguments) => arguments.json(),
             Command::Report(arguments) => arguments.json,
             Command::Restore(arguments) => arguments.json,
-            Command::Build(_) | Command::Index(_) | Command::Completions(_) => false,
+            Command::Build(_) | Command::Index(_) | Command::Join(_) | Command::Completions(_) => {
+                false
+            }
         };
         if json {
             Voice::Json
@@ -63,6 +67,7 @@ impl Command {
             Command::Flat(arguments) => flat::run(&arguments, voice),
             Command::Edition(arguments) => edition::run(&arguments, voice),
             Command::Report(arguments) => report::run(&arguments, voice),
+            Command::Join(arguments) => join::run(&arguments),
             Command::Restore(arguments) => restore::run(&arguments, voice),
             Command::Completions(arguments) => completions::run(&arguments),
         }

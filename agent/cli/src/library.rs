@@ -156,6 +156,18 @@ pub struct Table {
     pub new: Vec<u64>,
 }
 
+/// Whether a move takes a table: else 14.
+pub fn check_table(table: &Table) -> Result<(), Refusal> {
+    Ok(MoveTable::new(&table.old, &table.new).check()?)
+}
+
+/// The joined table of two: 14 of either.
+pub fn joined(first: &Table, second: &Table) -> Result<Table, Refusal> {
+    let [first, second] = [first, second].map(|table| MoveTable::new(&table.old, &table.new));
+    let (old, new) = treskibben::join(first, second)?;
+    Ok(Table { old, new })
+}
+
 /// The totals of a report.
 pub use treskibben::report::{Kinds, Totals};
 

@@ -19,6 +19,7 @@ mod json;
 mod library;
 mod listing;
 mod lists;
+mod moves;
 mod names;
 mod numbers;
 mod output;

@@ -20,7 +20,12 @@ pub struct Receipt {
     /// The version of the library and the command.
     pub treskibben: String,
     pub section: Entry,
+    /// The table that the frames were moved by. Where several were joined, it is in no file: these are its bytes
+    /// as `join` writes them.
     pub moves: Entry,
+    /// The files that it was joined of, in order; none where it is one file's.
+    #[serde(default, skip_serializing_if = "Vec::is_empty")]
+    pub joined: Vec<Entry>,
     pub frames: Entry,
     /// The machine that the frames are of. Receipts from before there were two have none.
     #[serde(default)]

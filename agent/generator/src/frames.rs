@@ -4,8 +4,8 @@
 //! scene is made whole, so that every frame of it is accepted; [`faults`] aims at the refusals of a
 //! frame, [`guests`] adds frames that share bytes with others, and [`plain`] says how a frame is
 //! answered and what becomes of the image and of the registers. [`thread`] makes lists of frames,
-//! [`reasons`] asks for slots, [`named`] makes editions that allow a move or don't, and [`bench`] makes
-//! frames of the bench controller's product.
+//! [`reasons`] asks for slots, [`named`] makes editions that allow a move or don't, [`mod@bench`] makes
+//! frames of the bench controller's product, and [`twice`] frames that are moved twice.
 
 pub mod bench;
 mod building;
@@ -20,6 +20,7 @@ mod pool;
 pub mod reasons;
 mod table;
 pub mod thread;
+pub mod twice;
 
 use crate::layout::{Section, Version};
 use crate::questions::addresses;

@@ -13,7 +13,7 @@
 //!
 //! A restore names an edition ([`restore`]); recorded ones are replayed
 //! ([`replay`]), and the bench controller takes those of one product
-//! ([`bench`]). [`explain`] says why a slot of a frame is set or left as it is.
+//! ([`mod@bench`]). [`explain`] says why a slot of a frame is set or left as it is.
 //!
 //! Every function answers every input: with a result, or with a [`Refusal`]
 //! that has a fixed number and place. A refused call changes no byte of what

@@ -4,10 +4,12 @@ mod place;
 mod refused;
 mod registers;
 mod single;
+mod twice;
 
 use crate::frames::{Line, Naming};
-use crate::library::{self, Frame, Registers, Table};
-use crate::lists::{self, Entry, Numbers};
+use crate::library::{self, Frame, Registers};
+use crate::lists::{self, Entry};
+use crate::moves::Moves;
 use crate::names::shown;
 use crate::numbers::{address, count};
 use crate::receipt::{self, Receipt};
@@ -30,8 +32,9 @@ use std::path::{Path, PathBuf};
 /// image, 14 of the moves, 25 of the frames as a list; a frame with a pair in a register that its line
 /// doesn't tell; then the first frame of the list that is refused by itself, by 10, 15, 12, 16, 18, 17 (of
 /// version 1 17, 18), or 19 to 21; then 26 at the first frame whose extent shares a byte with an earlier
-/// one's; a list of no frames; last a register that would change, where no --into is said. The place of a
-/// frame's refusal is its position in the list, counted from 0.
+/// one's; with several --moves the first frame that has a base slot which is not listed with itself; a list of
+/// no frames; last a register that would change, where no --into is said. The place of a frame's refusal is
+/// its position in the list, counted from 0.
 #[derive(clap::Args)]
 #[command(override_usage = USAGE)]
 #[command(group = clap::ArgGroup::new("where").required(true).args(["into", "output", "in_place"]))]
@@ -45,9 +48,14 @@ pub struct Arguments {
     /// The address of the image's first byte
     #[arg(long, value_name = "ADDRESS", value_parser = address)]
     first: u64,
-    /// Where the objects of the heap were and are: lines 'OLD NEW', old starts rising
-    #[arg(long, value_name = "FILE")]
-    moves: PathBuf,
+    /// Where the objects of the heap were and are: lines 'OLD NEW', old starts rising; may be said again
+    ///
+    /// Where the objects were moved several times, each time has its --moves, in order: the frames are then
+    /// moved once, by the joined table of all, as 'treskibben join' writes it. That is what the moves one after
+    /// the other would do where every pointer's base slot is also listed with itself, and a frame where one
+    /// isn't is refused.
+    #[arg(long, value_name = "FILE", required = true)]
+    moves: Vec<PathBuf>,
     /// The stopped frames: lines 'ADDRESS RBP RSP', of version 1 'FUNCTION+OFFSET RBP RSP', and other
     /// registers as 'rbx=VALUE'; on AArch64 X29 and SP stand in place of RBP and RSP
     #[arg(long, value_name = "FILE")]
@@ -88,14 +96,14 @@ pub struct Arguments {
 
 const USAGE: &str = "\
 treskibben restore --section FILE --image FILE --first ADDRESS
-           --moves FILE --frames FILE --into DIR | --output NEW | --in-place [OPTIONS]";
+           --moves FILE [--moves FILE..] --frames FILE
+           --into DIR | --output NEW | --in-place [OPTIONS]";
 
 /// All that a restore reads.
 struct Inputs<'a> {
     arguments: &'a Arguments,
     section: Vec<u8>,
-    moves_text: Vec<u8>,
-    moves: Vec<Entry<[u64; 2]>>,
+    moves: Moves<'a>,
     frames_text: Vec<u8>,
     naming: Naming,
     machine: Machine,
@@ -121,7 +129,7 @@ pub fn run(arguments: &Arguments, voice: Voice) -> Result<Status, Trouble> {
         frames,
         ..
     } = arguments;
-    files::standard_input_once([section, image, moves, frames].into_iter())?;
+    files::standard_input_once([section, image, frames].into_iter().chain(moves))?;
     let inputs = Inputs::read(arguments)?;
     let mut target = Target::open(arguments)?;
     let image = target.read()?;
@@ -146,8 +154,7 @@ pub fn run(arguments: &Arguments, voice: Voice) -> Result<Status, Trouble> {
 impl<'a> Inputs<'a> {
     fn read(arguments: &'a Arguments) -> Result<Inputs<'a>, Trouble> {
         let section = files::read(&arguments.section, files::SECTION)?;
-        let moves_text = lists::text(&arguments.moves)?;
-        let moves = lists::read(&arguments.moves, &moves_text, &Numbers("OLD NEW"))?;
+        let moves = Moves::read(&arguments.moves)?;
         let naming = Naming::of(&section);
         let frames_text = lists::text(&arguments.frames)?;
         let machine = arguments.machine.unwrap_or_default();
@@ -155,7 +162,6 @@ impl<'a> Inputs<'a> {
         Ok(Inputs {
             arguments,
             section,
-            moves_text,
             moves,
             frames_text,
             naming,
@@ -173,20 +179,13 @@ impl<'a> Inputs<'a> {
         lines.map(|entry| entry.value.registers).collect()
     }
 
-    fn table(&self) -> Table {
-        Table {
-            old: self.moves.iter().map(|entry| entry.value[0]).collect(),
-            new: self.moves.iter().map(|entry| entry.value[1]).collect(),
-        }
-    }
-
     /// Moves all frames on copies of the image and of their registers, or says why not.
     fn move_frames(&self, before: Vec<u8>, voice: Voice) -> Result<Moved, Trouble> {
         self.not_twice(&before)?;
         if listing::all_at_zero(&self.section) && library::check(&self.section).is_ok() {
             found::warn_of_zeros(&self.arguments.section, voice);
         }
-        let (table, frames) = (self.table(), self.frames());
+        let (table, frames) = (&self.moves.table, self.frames());
         let (mut after, mut registers) = (before.clone(), self.registers());
         let first = self.arguments.first;
         let (section, machine) = (&self.section, self.machine);
@@ -194,7 +193,7 @@ impl<'a> Inputs<'a> {
             section,
             &mut after,
             first,
-            &table,
+            table,
             machine,
             &frames,
             &mut registers,
@@ -204,6 +203,7 @@ impl<'a> Inputs<'a> {
         }
         let pointers =
             moved.map_err(|(refusal, position)| self.refused(refusal, position, &before))?;
+        self.one_for_all()?;
         if frames.is_empty() && !self.arguments.allow_empty {
             let why = "an unwinder that failed leaves such a list; --allow-empty accepts it";
             return Err(Trouble::declined(
@@ -269,7 +269,8 @@ impl<'a> Inputs<'a> {
         Receipt {
             treskibben: library::VERSION.to_string(),
             section: entry(&arguments.section, &self.section),
-            moves: entry(&arguments.moves, &self.moves_text),
+            moves: self.moves.used(),
+            joined: self.moves.joined_of(),
             frames: entry(&arguments.frames, &self.frames_text),
             machine: self.machine.name().to_string(),
             first: format!("{:#x}", arguments.first),

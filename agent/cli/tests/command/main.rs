@@ -9,6 +9,7 @@ mod fixtures;
 mod flat;
 mod full;
 mod index;
+mod join;
 mod json;
 mod list;
 mod report;

@@ -11,6 +11,7 @@ mod receipts;
 mod refusals;
 pub mod registers;
 mod threads;
+mod twice;
 mod worked;
 
 use crate::fixtures::{row_h, words};

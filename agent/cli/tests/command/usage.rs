@@ -5,7 +5,7 @@ use crate::run::{Folder, Ran, PROGRAM};
 use std::path::Path;
 use std::process::{Command, Stdio};
 
-const COMMANDS: [&str; 11] = [
+const COMMANDS: [&str; 12] = [
     "check",
     "list",
     "build",
@@ -15,6 +15,7 @@ const COMMANDS: [&str; 11] = [
     "flat",
     "edition",
     "report",
+    "join",
     "restore",
     "completions",
 ];

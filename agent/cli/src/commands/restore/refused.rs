@@ -23,27 +23,23 @@ impl Inputs<'_> {
     /// The file and, of 14, the line in it.
     fn of_file(&self, refusal: Refusal, image: &[u8]) -> Refused {
         let arguments = self.arguments;
-        let (file, line, found) = match refusal.number {
+        let (file, found) = match refusal.number {
             13 => {
                 let found = found::of_image(&arguments.image, image, arguments.first);
-                (&arguments.image, None, Some(found))
+                (&arguments.image, Some(found))
             }
-            14 => {
-                let (line, found) = found::of_moves(&self.moves).unzip();
-                (&arguments.moves, line, found)
-            }
+            14 => return self.moves.at_fault(),
             25 => {
                 let frames = count(self.lines.len() as u64, "frame");
-                (&arguments.frames, None, Some(format!("it has {frames}")))
+                (&arguments.frames, Some(format!("it has {frames}")))
             }
             _ => {
                 let found = found::of_section(&arguments.section, &self.section, refusal);
-                (&arguments.section, None, found)
+                (&arguments.section, found)
             }
         };
         Refused {
             file: file.clone(),
-            line,
             found,
             ..Refused::default()
         }
@@ -52,9 +48,9 @@ impl Inputs<'_> {
     /// A frame of the list: its line, the pair at fault, and what 16 and 26 found.
     fn of_frame(&self, refusal: Refusal, position: usize, image: &[u8]) -> Refused {
         let (line, first) = (&self.lines[position].value, self.arguments.first);
-        let (section, table, machine) = (&self.section, self.table(), self.machine);
+        let (section, table, machine) = (&self.section, &self.moves.table, self.machine);
         let (frame, registers) = (line.frame, line.registers);
-        let pair = library::pair_at_fault(section, image, first, &table, machine, frame, registers);
+        let pair = library::pair_at_fault(section, image, first, table, machine, frame, registers);
         let sizes = || Sizes::of(&self.section, self.naming, self.machine);
         let more = match refusal.number {
             10 => Some(self.naming.not_there(&self.section, &frame)),
@@ -63,6 +59,9 @@ impl Inputs<'_> {
                 let line = self.lines[earlier].line;
                 format!("it is shared with frame {earlier} of line {line}")
             }),
+            21 if self.moves.are_joined() => {
+                pair.map(|pair| format!("pair {pair}, by the joined table"))
+            }
             _ => pair.map(|pair| format!("pair {pair}")),
         };
         self.at_frame(position, pair, more)

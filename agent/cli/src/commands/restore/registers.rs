@@ -14,7 +14,7 @@ impl Inputs<'_> {
     /// A register that isn't told would count as 0 and its pointer stay where it is: so every register
     /// that the statepoint of a frame lists has to stand in the frame's line.
     pub fn all_told(&self) -> Result<(), Trouble> {
-        let listed = self.listed();
+        let listed = self.at_frames(|_, record| self.in_registers(record));
         for (position, entry) in self.lines.iter().enumerate() {
             let line = &entry.value;
             let Some(Some(listed)) = listed.get(&line.frame.address) else {
@@ -34,10 +34,10 @@ impl Inputs<'_> {
         Ok(())
     }
 
-    /// What is listed at the addresses, or of version 1 at the offsets, of the frames: nothing where more
+    /// What the records say at the addresses, or of version 1 at the offsets, of the frames: nothing where more
     /// than one record is there, which the library refuses by 15.
-    fn listed(&self) -> HashMap<u64, Option<Listed>> {
-        let mut listed: HashMap<u64, Option<Listed>> = HashMap::new();
+    pub fn at_frames<T>(&self, say: impl Fn(&Listing, &Record) -> T) -> HashMap<u64, Option<T>> {
+        let mut listed: HashMap<u64, Option<T>> = HashMap::new();
         let frames = self.frames().into_iter();
         let asked: std::collections::HashSet<u64> = frames.map(|frame| frame.address).collect();
         let listing = library::listing_of(&self.section).unwrap_or_default();
@@ -49,7 +49,7 @@ impl Inputs<'_> {
             };
             let place = start.wrapping_add(record.offset.into());
             if asked.contains(&place) {
-                let own = self.in_registers(&record);
+                let own = say(&listing, &record);
                 let there = listed.entry(place);
                 there.and_modify(|there| *there = None).or_insert(Some(own));
             }

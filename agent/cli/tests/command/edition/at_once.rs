@@ -100,13 +100,14 @@ fn a_locked_store() {
     assert_eq!(numbers(&folder), (vec![5], 5));
     assert_eq!(folder.get("s"), bytes);
     assert_eq!(folder.names(), ["s"]);
-    drop(held);
+    // Dropped, it would stay locked for as long as a process that another test starts has the file too.
+    held.unlock().unwrap();
     // So it is where only the name beside it is locked.
     let beside = folder.put(BESIDE, "");
     let held = File::open(beside).unwrap();
     held.lock().unwrap();
     make(&folder, &[]).failed("s: cannot be replaced: ", BUSY);
-    drop(held);
+    held.unlock().unwrap();
     make(&folder, &[]).done("s: edition 6 made: at most 256 pointers, x86-64, versions 1 and 3\n");
     assert_eq!(folder.names(), ["s"]);
 }
