@@ -519,26 +519,25 @@ treskibben_answer treskibben_thread_by_index(const uint8_t *section, size_t leng
  * Why a slot moves or does not.
  *
  * A slot of a frame is asked for: eight bytes of the stack by the address of their first one, or a register.
- * The answer is what the move of this frame alone does to the slot, and why; it is for the one who wants to
- * know before a move what will change, or what a refused frame lacks.
+ * The answer is what treskibben_relocate would do to the slot, given the same, and why.
  *
  * The reason is the first of these that holds, in this order, which is not that of the numbers:
  *
  *   reason                         when
- *   TRESKIBBEN_REASON_REFUSED   4  treskibben_relocate would refuse the frame
+ *   TRESKIBBEN_REASON_REFUSED   4  the frame would be refused, and nothing of it moved
  *   TRESKIBBEN_REASON_MOVED     3  a pointer in the slot is derived from a base that is not 0: the move adds
  *                                  the new start of the base to the content and takes away the old one,
  *                                  modulo 2^64
  *   TRESKIBBEN_REASON_NULL_BASE 2  a pointer in the slot is derived from a base of 0: the content stays
  *   TRESKIBBEN_REASON_ONLY_BASE 1  the slot is the base of a pointer, and none in it is derived: the content
  *                                  stays
- *   TRESKIBBEN_REASON_UNLISTED  0  the slot is none of a pointer's: no move is meant for it
+ *   TRESKIBBEN_REASON_UNLISTED  0  no pointer has the slot as base or is derived in it
  *
- * A slot in memory is its first byte. Each pointer of a pair has its own, not the location alone; an address
- * inside a slot that isn't its first byte is unlisted, and what stands there changes with the bytes of that
- * slot. So is every address outside the frame, and every register that is no slot on the machine, the two
- * pointers and numbers from 32 on among them. A register is never the same slot as an address, whatever its
- * number. Null pairs and deoptimisation values list nothing.
+ * A slot in memory is its first byte, and each pointer of a pair has its own. Unlisted are an address inside a
+ * slot that isn't its first byte, where the content changes with that slot's bytes; every address outside the
+ * frame; and every register that is no slot on the machine, the two pointers and numbers from 32 on among
+ * them. A register is never the same slot as an address, whatever its number. Null pairs and deoptimisation
+ * values list nothing.
  */
 #define TRESKIBBEN_REASON_UNLISTED UINT64_C(0)
 #define TRESKIBBEN_REASON_ONLY_BASE UINT64_C(1)
@@ -551,12 +550,11 @@ treskibben_answer treskibben_thread_by_index(const uint8_t *section, size_t leng
  *
  * reason:   one of the five above.
  * number:   of refused, the number that treskibben_relocate gives the frame; else 0.
- * place:    of refused, the place that it gives: of 1 to 9 a byte of the section, of 18 to 21 a pair, else 0.
- *           0 for every other reason.
+ * place:    of refused, the place that it gives: of 18 to 21 a pair, of 1 to 9 as treskibben_check says; else 0.
  * pair:     of moved, the lowest pair with a pointer that is derived in the slot, counted from 0 among the
  *           pairs and not among the pointers; else 0.
- * old_base: of moved, the old start of the object that the pointer is in; else 0.
- * new_base: of moved, the new one; else 0.
+ * old_base: of moved, what the base of that pointer holds, the old start of an object; else 0.
+ * new_base: of moved, the new start of the same object; else 0.
  *
  * The first field is not the number of a refusal: it is 0 where the slot is unlisted.
  */
