@@ -1,11 +1,11 @@
 //! Whole frames: every address in and around a frame and every register is asked for, and what a move leaves is
 //! worked out from the reasons alone.
 
-use crate::asked::{ask, by_c};
+use crate::asked::ask;
 use crate::calls::Call;
 use crate::common::{assert_often, count_random, say};
 use crate::shapes::of_frame;
-use generator::frames::reasons::MOVED;
+use generator::frames::reasons::{MOVED, REFUSED};
 use generator::frames::{plain, Scene, Size, Table};
 use generator::Rng;
 use treskibben::Slot;
@@ -125,7 +125,7 @@ fn the_largest_table_and_image() {
                 assert_eq!(call.news[nth], told[5]);
                 moved += 1;
             }
-            assert_eq!(by_c(&call, slot), told, "the same again");
+            assert_ne!(told[0], REFUSED, "at the limits");
         }
     }
     assert!(moved > 0);
