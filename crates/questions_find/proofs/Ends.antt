@@ -12,7 +12,7 @@ use Rattle.stackmap.specs.Section.{numConstants, entries, address}
 use Rattle.stackmap.specs.Check.{walkCheck}
 use Rattle.stackmap.specs.Walk.{ownerAt, entryAt}
 use Rattle.stackmap.proofs.OneWalk.{Folding, fold-end}
-use Rattle.stackmap_check.specs.Pass.{Stopped}
+use Rattle.stackmap_check.specs.Pass.{Not, Stopped}
 use Rattle.stackmap_check.proofs.Pass.{fold-passed}
 use Rattle.questions.specs.declared.Found.{Found}
 use Rattle.questions.specs.declared.Hits.{Hits}
@@ -28,13 +28,13 @@ not-noted a s h number i p n = passed a (entryAt s number i p) h (ne-eqb _ _ (λ
 
 -- where a walk over `count` records has stopped, what it had kept is still what it keeps
 pub kept-on : (a count : ℕ) {s : List ℕ} {c next left remaining p next′ left′ remaining′ p′ : ℕ} {h : Hits}
-    (t : Stopped s c a next left remaining p next′ left′ remaining′ p′) → remaining ≤ count
+    (t : Stopped s c (Not a) next left remaining p next′ left′ remaining′ p′) → remaining ≤ count
     → Folding (noted a) s c noHits next left remaining (count - remaining) p h
     → Folding (noted a) s c noHits (t .beforeNext) (t .beforeLeft) remaining′ (count - remaining′) p′ h
 kept-on a count {s} {remaining = remaining} {remaining′ = remaining′} {h = h} t l f =
     let n = t .counted in
     let y : count - remaining + t .many ≡ count - remaining′ = omega arith in
-    rw y at (fold-passed (noted a) (not-noted a s h) (t .passed) f)
+    rw y at (fold-passed (noted a) (Not a) (not-noted a s h) (t .passed) f)
 
 module _ (a : ℕ) {s : List ℕ} {c next left remaining number p : ℕ} {h : Hits} (x : Found) (e : c ≡ numConstants s)
     (f : Folding (noted a) s c noHits next left remaining number p h) (z : remaining ≡ 0)

@@ -17,9 +17,9 @@ pub shifted : (v : Verdict) (at r : ℕ) → at ≤ r → v ≡ Valid (r - at) �
 unfolding shift
 shifted v at r i e = rw e (ap Valid (omega arith))
 
-module _ {H : Type 0} (add : Entry → H → H) {s : List ℕ} {c wanted : ℕ} {h₀ h : H}
-    (keeps : (number i p : ℕ) → (ownerAt s i .function .address + word 4 s (p + 8) ≡ wanted → ⊥) → add (entryAt s number i p) h ≡ h) where
-  pub fold-passed : {next left remaining number p k n l r q : ℕ} → Passed s c wanted next left remaining p k n l r q
+module _ {H : Type 0} (add : Entry → H → H) {s : List ℕ} {c : ℕ} (Over : ℕ → Type 0) {h₀ h : H}
+    (keeps : (number i p : ℕ) → Over (ownerAt s i .function .address + word 4 s (p + 8)) → add (entryAt s number i p) h ≡ h) where
+  pub fold-passed : {next left remaining number p k n l r q : ℕ} → Passed s c Over next left remaining p k n l r q
       → Folding add s c h₀ next left remaining number p h → Folding add s c h₀ n l r (number + k) q h
   fold-passed {number = number} none f = let z : number + 0 ≡ number = omega arith in rw z f
   fold-passed {number = number} (more {k} {n} {l} {r} {q} n′ l′ q′ m e o b v) f =

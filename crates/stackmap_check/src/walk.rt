@@ -12,7 +12,7 @@ ghost use Rattle.stackmap.specs.Record.{recordCheck};
 ghost use Rattle.stackmap.specs.Check.{recordsCheck};
 ghost use Rattle.stackmap.specs.Walk.{ahead, ownerAt, firstTurn, Turning, Walkable};
 ghost use Rattle.stackmap.proofs.Turns.{Walking};
-ghost use Rattle.stackmap_check.specs.Pass.{Stopped};
+ghost use Rattle.stackmap_check.specs.Pass.{Not, Stopped};
 use stackmap::Turn;
 use stackmap::Verdict;
 use stackmap::layout;
@@ -143,7 +143,7 @@ pub fn pass(
     wanted: u64,
 ) -> Stop
     requires { ⌜ (old ≡ isOld (now s)) × (constantsAt (now s) ≤ length (now s)) × Walking (now s) constants (recordsAt (now s)) (from .next) (from .left) count at ⌝ }
-    ensures { λ r. ⌜ Stopped (now (s .entry)) constants wanted (from .next) (from .left) count at (r .next) (r .left) (r .remaining) (r .at) ⌝ }
+    ensures { λ r. ⌜ Stopped (now (s .entry)) constants (Not wanted) (from .next) (from .left) count at (r .next) (r .left) (r .remaining) (r .at) ⌝ }
 {
     let mut remaining = count;
     let mut turn = from;

@@ -1,2 +1,3 @@
 pub mod Gathering
 pub mod Walked
+pub mod Passing

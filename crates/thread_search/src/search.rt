@@ -41,9 +41,9 @@ fn walk_all(
     ensures { λ r. ⌜ (r ≡ walkCheck (now (s .entry))) × ((e : ℕ) → r ≡ Valid e → Sought (now (s .entry)) (now (keys .entry)) count (now (hits .exit))) ⌝ }
 {
     let constants = wire::u32_at(s, layout::NUM_CONSTANTS_AT);
-    let mut remaining = wire::u32_at(s, layout::NUM_RECORDS_AT);
-    let mut index: usize = 0;
+    let total = wire::u32_at(s, layout::NUM_RECORDS_AT);
     let old = tables::is_old(s);
+    let mut remaining = total;
     let mut turn = walk::start(s, old);
     let mut p = at;
     let mut gap = Gap {
@@ -52,27 +52,39 @@ fn walk_all(
         place: 0,
     };
     while remaining > 0 {
-        let t = walk::owner(s, turn);
-        let next = t.next;
-        match walk::record_at(s, old, constants, next - 1, p) {
+        let stop = thread_pass::between(
+            s,
+            old,
+            constants,
+            turn,
+            p,
+            remaining,
+            gap.below,
+            gap.above,
+        );
+        let ahead = stop.remaining;
+        let here = stop.at;
+        if ahead == 0 {
+            return thread_pass::ended(s, here);
+        }
+        let next = stop.next;
+        let left = stop.left;
+        match thread_pass::verdict(s, old, constants, next - 1, here, stop.end) {
             Verdict::Refused(n, q) => return Verdict::Refused(n, q),
             Verdict::Valid(end) => {
                 let start = walk::owner_address(s, old, next - 1);
-                gap = thread_marks::mark(s, start, index, next - 1, p, keys, count, hits, gap);
+                let index = (total - ahead) as usize;
+                gap = thread_marks::mark(s, start, index, next - 1, here, keys, count, hits, gap);
                 p = end;
             }
         }
         turn = Turn {
             next,
-            left: t.left - 1,
+            left: left - 1,
         };
-        index += 1;
-        remaining -= 1;
+        remaining = ahead - 1;
     }
-    if p != s.len() {
-        return Verdict::Refused(9, p);
-    }
-    Verdict::Valid(p)
+    thread_pass::ended(s, p)
 }
 
 // The check of the section, and what it has of the addresses.

@@ -5,13 +5,13 @@ use native.Mathlib.Omega.{arith}
 use borrow.Author.Needs.{needs}
 use Rattle.stackmap.specs.Section.{recordsAt}
 use Rattle.stackmap.proofs.Turns.{Walking, walk-on}
-use Rattle.stackmap_check.specs.Pass.{Passed, none, more, Passing, Owned}
+use Rattle.stackmap_check.specs.Pass.{Not, Passed, none, more, Passing, Owned}
 use Rattle.stackmap_check.proofs.walk.pass.Statement.{statement}
 use Rattle.stackmap_check.proofs.walk.pass.Tie as tie
 
 abbrev Inv-loop : tie.InvT-loop
 Inv-loop s old constants at count wanted remaining₀ turn₀ p₀ remaining turn p =
-    (k : ℕ) × Passed s constants wanted (turn₀ .next) (turn₀ .left) count at k (turn .next) (turn .left) remaining p × (k + remaining ≡ count) × Walking s constants (recordsAt s) (turn .next) (turn .left) remaining p
+    (k : ℕ) × Passed s constants (Not wanted) (turn₀ .next) (turn₀ .left) count at k (turn .next) (turn .left) remaining p × (k + remaining ≡ count) × Walking s constants (recordsAt s) (turn .next) (turn .left) remaining p
 
 abbrev μ-loop : tie.MeasureT-loop
 μ-loop s old constants at count wanted remaining₀ turn₀ p₀ remaining turn p = remaining
@@ -64,7 +64,7 @@ loop-again c =
     let q = c .before .before .before .before .before .before .before in
     let g = c .before .past .ensures (omega arith) in
     let a = c .before .before .owner-address .ensures in
-    let v : Passing (q .args .s .now) (q .args .constants) (q .args .wanted) (o .result .next) (l .p) (c .before .past .result) = record { right = rw (← a, ← q .pre .0) (g .0); apart = rw (← a) (g .1) } in (
+    let v : Passing (q .args .s .now) (q .args .constants) (Not (q .args .wanted)) (o .result .next) (l .p) (c .before .past .result) = record { right = rw (← a, ← q .pre .0) (g .0); apart = rw (← a) (g .1) } in (
       suc (l .inv .0),
       more (o .result .next) (o .result .left) (c .before .past .result) (l .inv .1) (o .ensures .0) (record { some = o .ensures .1; begun = o .ensures .2; most = o .ensures .3 }) (c .before .before .before .before .loop-test .taken) v,
       omega arith,

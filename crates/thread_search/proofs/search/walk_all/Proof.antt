@@ -1,29 +1,30 @@
--- One walk checks the records and keeps what the search finds.
+-- One walk checks the records and keeps what the search finds; it stops at records that may have one of the addresses.
 use Prim.Native.Nat.{ℕ, _+_, _-_, _^_, _≤_, _<_}
 use mathlib.Core.Path.{_≡_, sym, _∙_}
 use native.Mathlib.Omega.{arith}
 use Rattle.wire.specs.Word.{Bytes}
 use Rattle.stackmap.specs.Walk.{entryAt}
-use Rattle.stackmap.proofs.Turns.{walk-stop, walk-end}
-use Rattle.stackmap.proofs.OneWalk.{Folding, fold-start, fold-on, fold-end}
+use Rattle.stackmap.proofs.Turns.{walk-stop}
+use Rattle.stackmap.proofs.OneWalk.{fold-start, fold-on}
 use Rattle.stackmap.proofs.Within.{here-inside}
-use Rattle.questions.specs.declared.Hits.{Hits}
 use Rattle.questions.specs.Kept.{noHits}
 use Rattle.sorted_numbers.specs.Numbers.{Between}
 use Rattle.sorted_numbers.proofs.Gaps.{between-start}
-use Rattle.thread.specs.Code.{Holding, Counted, notedAll}
-use Rattle.thread_search.proofs.Walked.{address-fits, sought, walk-refused, walk-after, walk-whole, never-valid}
+use Rattle.thread.specs.Code.{Counted, notedAll}
+use Rattle.thread_marks.proofs.Marks.{counted-more}
+use Rattle.thread_search.proofs.Walked.{address-fits, walk-refused, never-valid}
+use Rattle.thread_search.proofs.Passing.{Keeping, stop-kept, ended-all}
 use borrow.Author.Needs.{needs}
 use Rattle.thread_search.proofs.search.walk_all.Statement.{statement}
 use Rattle.thread_search.proofs.search.walk_all.Tie as tie
 
 abbrev Inv-loop : tie.InvT-loop
-Inv-loop s at keys count hits₀ constants remaining₀ index₀ old turn₀ p₀ gap₀ hits remaining index turn p gap =
-    (h : ℕ → Hits) × Folding notedAll s constants (λ a. noHits) (turn .next) (turn .left) remaining index p h × Holding keys count hits h × Counted hits index
-    × (index + remaining < 2 ^ 32) × Between keys count (gap .below) (gap .above) (gap .place)
+Inv-loop s at keys count hits₀ constants total old remaining₀ turn₀ p₀ gap₀ hits remaining turn p gap =
+    Keeping keys hits count s constants (λ a. noHits) (turn .next) (turn .left) remaining (total - remaining) p × Counted hits (total - remaining)
+    × (remaining ≤ total) × (total < 2 ^ 32) × Between keys count (gap .below) (gap .above) (gap .place)
 
 abbrev μ-loop : tie.MeasureT-loop
-μ-loop s at keys count hits₀ constants remaining₀ index₀ old turn₀ p₀ gap₀ hits remaining index turn p gap = remaining
+μ-loop s at keys count hits₀ constants total old remaining₀ turn₀ p₀ gap₀ hits remaining turn p gap = remaining
 
 u32-at-requires : tie.Need-u32-at-requires Inv-loop μ-loop
 u32-at-requires c κs = let w = c .before .pre .0 .inside in omega arith
@@ -40,94 +41,124 @@ start-requires c κs = (c .is-old .ensures, c .before .before .before .before .p
 loop-holds : tie.Need-loop-holds Inv-loop μ-loop
 loop-holds c =
     let q = c .before .before .before .before .before in
-    ((λ a. noHits), fold-start notedAll (λ a. noHits) (q .pre .0) (c .start .ensures) (q .pre .1) (q .pre .2) (c .before .before .u32-at2 .ensures), q .pre .5, q .pre .6, omega arith, between-start _ _)
+    let n = c .before .before .u32-at2 in
+    let z : n .result - n .result ≡ 0 = omega arith in (
+      rw z (record { kept = λ a. noHits; folding = fold-start notedAll (λ a. noHits) (q .pre .0) (c .start .ensures) (q .pre .1) (q .pre .2) (n .ensures); holding = q .pre .5 }),
+      rw z (q .pre .6),
+      omega arith,
+      omega arith,
+      between-start _ _,
+    )
 
-owner-requires : tie.Need-owner-requires Inv-loop μ-loop
-owner-requires c κs =
-    let w = c .before .loop .inv .1 .walking in
-    let n = w .counted in
-    (c .before .before .before .before .before .before .before .pre .0 .inside, w .turning, omega arith)
+between-requires : tie.Need-between-requires Inv-loop μ-loop
+between-requires c κs = (c .before .before .before .is-old .ensures, c .before .before .before .before .before .before .before .pre .0 .inside, c .before .loop .inv .0 .folding .walking)
 
-sub-record-at : tie.Need-sub-record-at Inv-loop μ-loop
-sub-record-at c = search needs
+ended-requires : tie.Need-ended-requires Inv-loop μ-loop
+ended-requires c κs = search needs
 
-record-at-requires : tie.Need-record-at-requires Inv-loop μ-loop
-record-at-requires c κs =
-    let w = c .before .before .loop .inv .1 .walking in
-    (c .before .before .before .before .is-old .ensures, c .before .before .before .before .before .before .before .before .pre .0 .inside, (λ z. let m = c .owner .ensures .3 z in let k = c .owner .ensures .2 in omega arith), w .inside)
+returns : tie.Need-returns Inv-loop μ-loop
+returns c =
+    let l = c .before .before .before .before .loop in
+    let e = c .ended .ensures in
+    let t = c .before .before .between .ensures .0 in
+    ended-all (c .ended .result) (c .before .before .before .before .before .before .before .before .u32-at .ensures) (stop-kept (l .inv .4) _ t (l .inv .2) (l .inv .0)) (c .before .if1 .taken) (e .0) (e .1)
+
+sub-verdict : tie.Need-sub-verdict Inv-loop μ-loop
+sub-verdict c = let b = c .before .between .ensures .0 .owned (omega arith) .begun in omega arith
+
+verdict-requires : tie.Need-verdict-requires Inv-loop μ-loop
+verdict-requires c κs =
+    let l = c .before .before .before .loop in
+    let t = c .before .between .ensures in
+    let o = t .0 .owned (omega arith) in
+    let i = c .before .before .before .before .before .before .before .before .before .pre .0 .inside in
+    (c .before .before .before .before .before .is-old .ensures, i, (λ z. let m = o .most z in let b = o .begun in omega arith), stop-kept (l .inv .4) _ (t .0) (l .inv .2) (l .inv .0) .folding .walking .inside, t .1)
 
 enum-known-n : tie.Need-enum-known-n Inv-loop μ-loop
 enum-known-n c = search needs
 
-returns : tie.Need-returns Inv-loop μ-loop
-returns c =
-    let r = walk-refused (c .before .before .before .before .before .before .before .before .before .before .before .before .args .s .now) _ (c .before .before .before .before .before .before .before .before .before .before .u32-at .ensures) _ _
-    (walk-stop (c .before .before .before .before .owner .result .next) (c .before .before .before .before .owner .result .left) (c .before .before .before .before .before .before .loop .inv .1 .walking) (c .before .before .before .before .owner .ensures .0) (c .before .before .before .before .owner .ensures .1)
-    (sym (c .before .before .before .record-at .ensures) ∙ c .before .n .given .1)) in
-    (r, λ e z. never-valid z)
+returns-2 : tie.Need-returns-2 Inv-loop μ-loop
+returns-2 c =
+    let l = c .before .before .before .before .before .before .before .loop in
+    let s = c .before .before .before .before .before .between in
+    let t = s .ensures .0 in
+    let k = stop-kept (l .inv .4) _ t (l .inv .2) (l .inv .0) in
+    let v = sym (c .before .before .before .verdict .ensures) ∙ c .before .n .given .1 in
+    let n = c .before .before .before .before .before .before .before .before .before .before .before .u32-at .ensures in
+    let w = walk-stop (s .result .next) (s .result .left) (k .folding .walking) (t .same) (t .owned (omega arith) .some) v in
+    (walk-refused _ _ n _ _ w, λ e z. never-valid z)
 
 enum-known-end : tie.Need-enum-known-end Inv-loop μ-loop
 enum-known-end c = search needs
 
 sub-owner-address : tie.Need-sub-owner-address Inv-loop μ-loop
-sub-owner-address c = search needs
+sub-owner-address c = let b = c .before .before .before .before .before .between .ensures .0 .owned (omega arith) .begun in omega arith
 
 owner-address-requires : tie.Need-owner-address-requires Inv-loop μ-loop
 owner-address-requires c κs =
-    (c .before .before .before .before .before .before .before .before .is-old .ensures, c .before .before .before .before .before .before .before .before .before .before .before .before .pre .0 .inside, λ z. let m = c .before .before .before .before .owner .ensures .3 z in let k = c .before .before .before .before .owner .ensures .2 in omega arith)
+    let o = c .before .before .before .before .before .between .ensures .0 .owned (omega arith) in
+    let i = c .before .before .before .before .before .before .before .before .before .before .before .before .before .pre .0 .inside in
+    (c .before .before .before .before .before .before .before .before .before .is-old .ensures, i, λ z. let m = o .most z in let b = o .begun in omega arith)
+
+sub-index : tie.Need-sub-index Inv-loop μ-loop
+sub-index c =
+    let n = c .before .before .before .before .before .before .between .ensures .0 .counted in
+    let m = c .before .before .before .before .before .before .before .before .loop .inv .2 in
+    omega arith
+
+cast-index : tie.Need-cast-index Inv-loop μ-loop
+cast-index c = search needs
 
 sub-mark : tie.Need-sub-mark Inv-loop μ-loop
-sub-mark c = search needs
+sub-mark c = let b = c .before .before .before .before .before .before .between .ensures .0 .owned (omega arith) .begun in omega arith
 
 mark-requires : tie.Need-mark-requires Inv-loop μ-loop
 mark-requires c κs =
-    let w = c .before .before .before .before .before .before .before .before .loop .inv .1 .walking in
-    let q = c .before .before .before .before .before .before .before .before .before .before .before .before .before .before in
-    let v = sym (c .before .before .before .before .before .record-at .ensures) ∙ c .before .before .before .end .given .1 in
-    let i = here-inside _ _ _ _ _ _ (w .inside) v in
-    let b : Bytes (q .args .s .now) = record { below = λ j. omega (arith, c .before .before .before .before .before .before .before .before .before .before .before .before .before .shared-slice-known .given j) } in
-    (c .before .owner-address .ensures, i, omega (arith, c .before .before .before .before .before .before .before .before .loop .inv .4), address-fits (q .args .s .now) _ (c .before .before .before .before .before .before .before .before .loop .index) _ _ _ b v, q .pre .3, q .pre .4, c .before .before .before .before .before .before .before .before .loop .inv .3, c .before .before .before .before .before .before .before .before .loop .inv .5)
+    let l = c .before .before .before .before .before .before .before .before .before .loop in
+    let t = c .before .before .before .before .before .before .before .between .ensures .0 in
+    let n = t .counted in
+    let q = c .before .before .before .before .before .before .before .before .before .before .before .before .before .before .before in
+    let k = stop-kept (l .inv .4) _ t (l .inv .2) (l .inv .0) in
+    let v = sym (c .before .before .before .before .before .verdict .ensures) ∙ c .before .before .before .end .given .1 in
+    let i = here-inside _ _ _ _ _ _ (k .folding .walking .inside) v in
+    let b : Bytes (q .args .s .now) = record { below = λ j. omega (arith, c .before .before .before .before .before .before .before .before .before .before .before .before .before .before .shared-slice-known .given j) } in
+    (c .before .owner-address .ensures, i, omega (arith, l .inv .3), address-fits (q .args .s .now) _ _ _ _ _ b v, q .pre .3, q .pre .4, counted-more _ _ _ (omega (arith, n, l .inv .2)) (l .inv .1), l .inv .4)
 
-sub-t24 : tie.Need-sub-t24 Inv-loop μ-loop
-sub-t24 c = search needs
-
-add-index : tie.Need-add-index Inv-loop μ-loop
-add-index c = search needs
+sub-t29 : tie.Need-sub-t29 Inv-loop μ-loop
+sub-t29 c = let b = c .before .before .before .before .before .before .before .before .between .ensures .0 .owned (omega arith) .some in omega arith
 
 sub-remaining : tie.Need-sub-remaining Inv-loop μ-loop
 sub-remaining c = search needs
 
 loop-less : tie.Need-loop-less Inv-loop μ-loop
-loop-less c = search needs
+loop-less c = let n = c .before .before .before .before .before .before .before .before .between .ensures .0 .counted in omega arith
 
 loop-again : tie.Need-loop-again Inv-loop μ-loop
 loop-again c =
     let l = c .before .before .before .before .before .before .before .before .before .before .loop in
-    let o = c .before .before .before .before .before .before .before .before .owner in
-    let q = c .before .before .before .before .before .before .before .before .before .before .before .before .before .before .before .before in (
-      notedAll (entryAt (q .args .s .now) (l .index) (o .result .next - 1) (l .p)) (l .inv .0),
-      fold-on notedAll (o .result .next) (o .result .left) (l .inv .1) (o .ensures .0) (o .ensures .1) (o .ensures .2) (o .ensures .3)
-          (c .before .before .before .before .before .before .before .before .before .loop-test .taken) (sym (c .before .before .before .before .before .before .before .record-at .ensures) ∙ c .before .before .before .before .before .end .given .1),
-      c .before .mark .ensures .0 (l .inv .0) (l .inv .2),
-      c .before .mark .ensures .1,
-      omega arith,
-      c .before .mark .ensures .2,
+    let s = c .before .before .before .before .before .before .before .before .between in
+    let t = s .ensures .0 in
+    let n = t .counted in
+    let o = t .owned (omega arith) in
+    let all = c .before .before .before .before .before .before .before .before .before .before .before .before .before .u32-at2 .result in
+    let v = sym (c .before .before .before .before .before .before .verdict .ensures) ∙ c .before .before .before .before .end .given .1 in
+    let k = stop-kept (l .inv .4) all t (l .inv .2) (l .inv .0) in
+    let f = fold-on notedAll (s .result .next) (s .result .left) (k .folding) (t .same) (o .some) (o .begun) (o .most) (omega arith) v in
+    let z : all - (s .result .remaining - 1) ≡ all - s .result .remaining + 1 = omega (arith, n, l .inv .2) in (
+      rw z (record { kept = _; folding = f; holding = c .mark .ensures .0 (k .kept) (k .holding) }),
+      rw z (c .mark .ensures .1),
+      omega (arith, n, l .inv .2),
+      l .inv .3,
+      c .mark .ensures .2,
     )
 
-returns-2 : tie.Need-returns-2 Inv-loop μ-loop
-returns-2 c =
-    let none : c .before .before .loop .remaining ≡ 0 = omega arith in
-    let q = c .before .before .before .before .before .before .before .before in
-    (walk-after (q .args .s .now) _ (c .before .before .before .before .before .before .u32-at .ensures) _ (walk-end (c .before .before .loop .inv .1 .walking) none) (c .if1 .taken), λ e z. never-valid z)
+ended-requires-2 : tie.Need-ended-requires-2 Inv-loop μ-loop
+ended-requires-2 c κs = search needs
 
 returns-3 : tie.Need-returns-3 Inv-loop μ-loop
 returns-3 c =
-    let none : c .before .before .loop .remaining ≡ 0 = omega arith in
-    let q = c .before .before .before .before .before .before .before .before in
-    let f = c .before .before .loop .inv .1 in (
-      walk-whole (q .args .s .now) _ (c .before .before .before .before .before .before .u32-at .ensures) _ (walk-end (f .walking) none) (c .if1 .left),
-      λ e z. sought (q .args .s .now) _ _ _ (c .before .before .loop .inv .0) (fold-end notedAll f none) (c .before .before .loop .inv .2),
-    )
+    let e = c .ended2 .ensures in
+    ended-all (c .ended2 .result) (c .before .before .before .before .before .before .u32-at .ensures) (c .before .before .loop .inv .0) (omega arith) (e .0) (e .1)
 
 pub walk-all-spec : {M : Type 1} → statement M
 walk-all-spec =
@@ -140,20 +171,23 @@ walk-all-spec =
     is-old-requires
     start-requires
     loop-holds
-    owner-requires
-    sub-record-at
-    record-at-requires
-    enum-known-n
+    between-requires
+    ended-requires
     returns
+    sub-verdict
+    verdict-requires
+    enum-known-n
+    returns-2
     enum-known-end
     sub-owner-address
     owner-address-requires
+    sub-index
+    cast-index
     sub-mark
     mark-requires
-    sub-t24
-    add-index
+    sub-t29
     sub-remaining
     loop-less
     loop-again
-    returns-2
+    ended-requires-2
     returns-3)
