@@ -35,11 +35,7 @@ pub extern "C" fn treskibben_find_all_by_index(
     ensures { λ r. ⌜ (r ≡ listed (allByIndex (now (section .entry)) (now (index .entry)) (now (addresses .entry)) (now (answers .entry)))) × (now (answers .exit) ≡ allByIndex (now (section .entry)) (now (index .entry)) (now (addresses .entry)) (now (answers .entry)) .output) ⌝ }
 {
     let w = index_find_all::find_all_by_index(section, index, addresses, answers);
-    treskibben_answers::Answer {
-        number: w.number as u64,
-        place: w.place as u64,
-        value: w.written as u64,
-    }
+    treskibben_answers::written_answer(w)
 }
 
 // The move of a whole thread that is handed an index: as `treskibben_thread`, and 27 and 29 between 14 and 25.

@@ -153,6 +153,17 @@ pub fn conversion_answer(c: listing::Conversion) -> Answer
     }
 }
 
+// A call that writes numbers into a lent list: a refusal, or how many it wrote.
+pub fn written_answer(w: index::Written) -> Answer
+    ensures { λ r. ⌜ r ≡ record { number = w .number; place = w .place; value = w .written } ⌝ }
+{
+    Answer {
+        number: w.number as u64,
+        place: w.place as u64,
+        value: w.written as u64,
+    }
+}
+
 // A move for a machine that is not known: the section's refusal, or 33.
 pub fn unknown_machine(v: Verdict) -> Answer
     ensures { λ r. ⌜ r ≡ moveAnswer (ask refusedMove (refusedMove 33 0) v) ⌝ }

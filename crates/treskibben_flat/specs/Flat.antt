@@ -7,13 +7,13 @@ use Rattle.flat_read.specs.declared.RegisterAnswer.{RegisterAnswer}
 use Rattle.flat_read.specs.declared.RecordAnswer.{RecordAnswer}
 use Rattle.flat_read.specs.declared.LocationAnswer.{LocationAnswer}
 use Rattle.flat_read.specs.declared.LiveOutAnswer.{LiveOutAnswer}
-use Rattle.treskibben.specs.declared.flat_sections.Answer.{Answer}
-use Rattle.treskibben.specs.declared.flat_sections.Match.{Match}
-use Rattle.treskibben.specs.declared.flat_sections.Frame.{Frame}
-use Rattle.treskibben.specs.declared.flat_sections.Register.{Register}
-use Rattle.treskibben.specs.declared.flat_sections.Record.{Record}
-use Rattle.treskibben.specs.declared.flat_sections.Location.{Location}
-use Rattle.treskibben.specs.declared.flat_sections.LiveOut.{LiveOut}
+use Rattle.treskibben_flat.specs.declared.Answer.{Answer}
+use Rattle.treskibben_flat.specs.declared.Match.{Match}
+use Rattle.treskibben_flat.specs.declared.Frame.{Frame}
+use Rattle.treskibben_flat.specs.declared.Register.{Register}
+use Rattle.treskibben_flat.specs.declared.Record.{Record}
+use Rattle.treskibben_flat.specs.declared.Location.{Location}
+use Rattle.treskibben_flat.specs.declared.LiveOut.{LiveOut}
 
 -- the answer of the check, whose place is always 0
 abbrev pub checked : ℕ → Answer
