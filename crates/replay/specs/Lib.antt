@@ -1,0 +1,4 @@
+pub mod Layout
+pub mod Trace
+pub mod Replay
+pub mod Code
