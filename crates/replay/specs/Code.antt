@@ -65,18 +65,29 @@ pub record Done (R : Restore) (t : List ℕ) (n i : ℕ) (kept : Outcome) (im : 
   pub image : imageFrom R t (n - i) i im ≡ imageFrom R t (n - j) j im′
   pub long : length im′ ≡ length im
 
--- 33, 13, 14: the refusal of a frame that needs no record, or 0
+-- 13, 14: the refusal of all frames whose machine and version are allowed, or 0; and before it 33
+unfoldable pub fault : Restore → ℕ → ℕ
+fault R n = need (imageRight (R .first) n) 13 (need (tableRight (R .olds) (R .news)) 14 0)
+
 unfoldable pub early : Restore → ℕ → Machine → ℕ
-early R n m = need (allowed R m) 33 (need (imageRight (R .first) n) 13 (need (tableRight (R .olds) (R .news)) 14 0))
+early R n m = need (allowed R m) 33 (fault R n)
 
 -- the addresses of n frames from number i on, in order
 pub record Gathered (t : List ℕ) (i : ℕ) (keys : List ℕ) (n : ℕ) : Type 0 where
   pub sorted : Sorted keys n
   pub each : (k : ℕ) → k < n → EntryOf keys n (frameAt t (stepSize * (i + k)) .address)
 
--- the section is accepted, and the records of these frames are found
-pub record Looked (s t : List ℕ) (i : ℕ) (keys : List ℕ) (n : ℕ) (hits : List ℕ) : Type 0 where
+-- The section is accepted, and the records of n frames from number i on are found; the trace holds `all` steps, these among them.
+pub record Looked (s t : List ℕ) (all i n : ℕ) (keys hits : List ℕ) : Type 0 where
   pub section-right : Accepted s
+  pub holds : Holds t all
+  pub room : i + n ≤ all
   pub most : n ≤ framesMost
   pub gathered : Gathered t i keys n
   pub found : Sought s keys n hits
+
+-- all that the moves of these frames rely on, in an image of `long` bytes
+pub record Ready (R : Restore) (long : ℕ) (t : List ℕ) (all i n : ℕ) (keys hits : List ℕ) (f : ℕ) : Type 0 where
+  pub looked : Looked (R .section) t all i n keys hits
+  pub most-right : R .settings .most ≤ pairsMost
+  pub fault-is : f ≡ fault R long
