@@ -1,0 +1,33 @@
+-- What else is promised of a replay.
+use Prim.Native.Nat.{ℕ}
+use mathlib.Core.Path.{_≡_}
+use mathlib.Core.List.{List, map, List·Permᴰ}
+use Rattle.editions.specs.declared.Store.{Store}
+use Rattle.editions_settings.specs.Under.{under}
+use Rattle.moves.specs.declared.Move.{Move}
+use Rattle.moves.specs.Settle.{refusedMove}
+use Rattle.relocate.specs.declared.Settings.{Settings}
+use Rattle.relocate.specs.Restore.{Restore, restore}
+use Rattle.relocate.specs.Stopped.{Stopped}
+use Rattle.relocate.specs.Relocation.{answer}
+use Rattle.relocate.specs.Lists.{Disjoint}
+use Rattle.replay.specs.declared.Outcome.the-variants.{Broken}
+use Rattle.replay.specs.Trace.{Step, broken, whole, trace}
+use Rattle.replay.specs.Replay.{compared, framesOf, finalUnder, replayAnswer, replayImage}
+
+-- A broken trace is 35, whatever else is handed in, and leaves the image as lent.
+pub record BrokenFirst : Type 0 where
+  pub answer-is : (st : Store) (e : ℕ) (R : Settings → Restore) (im t : List ℕ) (p : ℕ) → trace t ≡ broken p → replayAnswer st e R im t ≡ Broken p
+  pub image-is : (st : Store) (e : ℕ) (R : Settings → Restore) (im t : List ℕ) (p : ℕ) → trace t ≡ broken p → replayImage st e R im t ≡ im
+
+-- the answers of the frames' plain moves, each by itself on the starting image
+abbrev pub plainUnder : Store → ℕ → (Settings → Restore) → List ℕ → List Stopped → List Move
+plainUnder st e R im fs = under st e (map (λ (f : Stopped). refusedMove 31 0) fs) (λ settings. map (answer (R settings) im) fs)
+
+-- Where no two frames of the trace have extents that share a byte, the recorded answers are compared with the plain ones, and the image ends
+-- as any other order of the frames would leave it.
+pub record ReplaysApart : Type 0 where
+  pub plain : (st : Store) (e : ℕ) (s olds news : List ℕ) (first : ℕ) (im t : List ℕ) (ss : List Step) → trace t ≡ whole ss → Disjoint s (framesOf ss)
+      → replayAnswer st e (restore s olds news first) im t ≡ compared 0 ss (plainUnder st e (restore s olds news first) im (framesOf ss))
+  pub any-order : (st : Store) (e : ℕ) (s olds news : List ℕ) (first : ℕ) (im t : List ℕ) (ss : List Step) → trace t ≡ whole ss → Disjoint s (framesOf ss)
+      → (gs : List Stopped) → List·Permᴰ (framesOf ss) gs → replayImage st e (restore s olds news first) im t ≡ finalUnder st e (restore s olds news first) im gs
