@@ -1,2 +1,4 @@
 pub mod Laws
 pub mod Replaying
+pub mod Written
+pub mod Recording

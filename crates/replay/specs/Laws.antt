@@ -1,19 +1,23 @@
 -- What else is promised of a replay.
 use Prim.Native.Nat.{ℕ}
 use mathlib.Core.Path.{_≡_}
-use mathlib.Core.List.{List, map, List·Permᴰ}
+use mathlib.Core.List.{List, [], _∷_, map, List·Memᴰ, List·Permᴰ}
+use lib.ListN.{length}
+use Rattle.stackmap.specs.Fields.{Fit}
 use Rattle.editions.specs.declared.Store.{Store}
 use Rattle.editions_settings.specs.Under.{under}
 use Rattle.moves.specs.declared.Move.{Move}
 use Rattle.moves.specs.Settle.{refusedMove}
 use Rattle.relocate.specs.declared.Settings.{Settings}
+use Rattle.relocate.specs.Limits.{registerCount}
 use Rattle.relocate.specs.Restore.{Restore, restore}
 use Rattle.relocate.specs.Stopped.{Stopped}
 use Rattle.relocate.specs.Relocation.{answer}
 use Rattle.relocate.specs.Lists.{Disjoint}
-use Rattle.replay.specs.declared.Outcome.the-variants.{Broken}
-use Rattle.replay.specs.Trace.{Step, broken, whole, trace}
-use Rattle.replay.specs.Replay.{compared, framesOf, finalUnder, replayAnswer, replayImage}
+use Rattle.replay.specs.declared.Recorded.{Recorded}
+use Rattle.replay.specs.declared.Outcome.the-variants.{Broken, Same}
+use Rattle.replay.specs.Trace.{Step, broken, whole, trace, stepItems, traceOf}
+use Rattle.replay.specs.Replay.{valueOf, compared, framesOf, answersUnder, finalUnder, replayAnswer, replayImage}
 
 -- A broken trace is 35, whatever else is handed in, and leaves the image as lent.
 pub record BrokenFirst : Type 0 where
@@ -31,3 +35,30 @@ pub record ReplaysApart : Type 0 where
       → replayAnswer st e (restore s olds news first) im t ≡ compared 0 ss (plainUnder st e (restore s olds news first) im (framesOf ss))
   pub any-order : (st : Store) (e : ℕ) (s olds news : List ℕ) (first : ℕ) (im t : List ℕ) (ss : List Step) → trace t ≡ whole ss → Disjoint s (framesOf ss)
       → (gs : List Stopped) → List·Permᴰ (framesOf ss) gs → replayImage st e (restore s olds news first) im t ≡ finalUnder st e (restore s olds news first) im gs
+
+-- a step that a trace can hold: 32 registers, and each number fits in its bytes
+pub record Recordable (s : Step) : Type 0 where
+  pub registers-right : length (s .frame .registers) ≡ registerCount
+  pub fits : Fit (stepItems s)
+
+-- What is written is read back, whole.
+abbrev pub TraceBack : Type 0
+TraceBack = (ss : List Step) → ((s : Step) → List·Memᴰ s ss → Recordable s) → trace (traceOf ss) ≡ whole ss
+
+-- frames with their answers, as they are recorded
+abbrev pub recordedOf : Move → Recorded
+recordedOf m = record { number = m .number; value = valueOf m }
+
+abbrev pub recording : List Stopped → List Move → List Step
+recording [] ms = []
+recording (f ∷ fs) [] = []
+recording (f ∷ fs) (m ∷ ms) = record { frame = f; recorded = recordedOf m } ∷ recording fs ms
+
+-- A restore that was recorded differs in nothing when it is replayed from the same start, and leaves the image that it left.
+pub record ReplaysRecorded : Type 0 where
+  pub same : (st : Store) (e : ℕ) (R : Settings → Restore) (im : List ℕ) (fs : List Stopped)
+      → ((s : Step) → List·Memᴰ s (recording fs (answersUnder st e R im fs)) → Recordable s)
+      → replayAnswer st e R im (traceOf (recording fs (answersUnder st e R im fs))) ≡ Same
+  pub same-image : (st : Store) (e : ℕ) (R : Settings → Restore) (im : List ℕ) (fs : List Stopped)
+      → ((s : Step) → List·Memᴰ s (recording fs (answersUnder st e R im fs)) → Recordable s)
+      → replayImage st e R im (traceOf (recording fs (answersUnder st e R im fs))) ≡ finalUnder st e R im fs

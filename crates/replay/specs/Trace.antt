@@ -2,14 +2,16 @@
 -- by its answer; then one end, and nothing after it.
 use Prim.Native.Nat.{ℕ, zero, suc, _+_}
 use mathlib.Core.Bool.{Bool, cond, _&&_}
-use mathlib.Core.List.{List, [], _∷_}
+use mathlib.Core.List.{List, [], _∷_, _++_}
 use lib.Dec.{eqb, leb}
 use lib.ListN.{length, getD}
 use Rattle.wire.specs.Word.{word}
-use Rattle.stackmap.specs.Fields.{many}
+use Rattle.stackmap.specs.Fields.{Field, _of_, bytesOf, all, many}
 use Rattle.stackmap.specs.Verdict.{need}
 use Rattle.listing.specs.Listing.{stands}
 use Rattle.relocate.specs.declared.Frame.{Frame}
+use Rattle.relocate.specs.declared.Machine.{Machine}
+use Rattle.relocate.specs.declared.Machine.the-variants.{Amd64, Aarch64}
 use Rattle.relocate.specs.Limits.{registerCount}
 use Rattle.relocate.specs.Stopped.{Stopped, stopped}
 use Rattle.editions_settings.specs.Machine.{machineKnown, machineOf}
@@ -65,3 +67,29 @@ module _ (t : List ℕ) where
 
   unfoldable pub trace : Traced
   trace = traceFrom (suc (length t)) 0
+
+-- A trace as it is written.
+
+-- 0 AMD64, 1 AArch64
+abbrev pub machineNumber : Machine → ℕ
+machineNumber Amd64 = 0
+machineNumber Aarch64 = 1
+
+abbrev pub registerField : ℕ → List Field
+registerField v = (8 of v) ∷ []
+
+unfoldable pub frameItem : Stopped → List Field
+frameItem f =
+    (1 of frameKind) ∷ (1 of machineNumber (f .frame .machine)) ∷ (8 of f .frame .address) ∷ (8 of f .frame .function) ∷ all registerField (f .registers)
+
+unfoldable pub answerItem : Recorded → List Field
+answerItem r = (1 of answerKind) ∷ (1 of r .number) ∷ (8 of r .value) ∷ []
+
+unfoldable pub stepItems : Step → List Field
+stepItems s = frameItem (s .frame) ++ answerItem (s .recorded)
+
+abbrev pub endItem : List Field
+endItem = (1 of endKind) ∷ []
+
+unfoldable pub traceOf : List Step → List ℕ
+traceOf ss = bytesOf (all stepItems ss ++ endItem)

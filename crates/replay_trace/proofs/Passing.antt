@@ -5,40 +5,31 @@ use mathlib.Core.Bool.{Bool, true, false, cond, _&&_}
 use mathlib.Core.List.{List, [], _∷_}
 use native.Mathlib.Omega.{arith}
 use native.Mathlib.Numerals.{add-one}
-use borrow.Author.Tests.{leb-true, lt-leb, le-leb}
+use borrow.Author.Tests.{le-leb}
 use lib.Dec.{eqb, leb}
 use lib.ListN.{length, getD}
 use Rattle.stackmap.specs.Fields.{many}
 use Rattle.stackmap.proofs.Tests.{and-true}
 use Rattle.listing.specs.Listing.{stands}
-use Rattle.editions_settings.specs.Machine.{machineKnown}
+use Rattle.listing.proofs.Items.{is-item}
 use Rattle.replay.specs.Trace.{Step, stepAt, Traced, broken, whole, before, frameStands, answerStands, endStands, traceFrom, trace}
 use Rattle.replay.specs.Code.{stepsFrom, Holds}
 use Rattle.replay_trace.specs.Shapes.{Shapes, ended}
 
 -- items
 
-module _ (k n : ℕ) (t : List ℕ) (at : ℕ) where
-  pub stands-inside : stands k n t at ≡ true → at + n ≤ length t
-  unfolding stands
-  stands-inside h = leb-true _ _ (and-true (leb (at + n) (length t)) (eqb (getD t at 0) k) h .0)
-
-  pub stands-cut : length t < at + n → false ≡ stands k n t at
-  unfolding stands
-  stands-cut h = rw (lt-leb (at + n) (length t) h)
-
-  pub stands-kind : at + n ≤ length t → eqb (getD t at 0) k ≡ stands k n t at
-  unfolding stands
-  stands-kind h = rw (le-leb (at + n) (length t) h)
+pub stands-kind : (k n : ℕ) (t : List ℕ) (at : ℕ) → at + n ≤ length t → eqb (getD t at 0) k ≡ stands k n t at
+unfolding stands
+stands-kind k n t at h = rw (le-leb (at + n) (length t) h)
 
 module _ (t : List ℕ) (at : ℕ) where
   pub frame-inside : frameStands t at ≡ true → at + 274 ≤ length t
   unfolding frameStands
-  frame-inside h = stands-inside 1 274 t at (and-true (stands 1 274 t at) (leb (getD t (at + 1) 0) 1) h .0)
+  frame-inside h = is-item 1 274 t at (and-true (stands 1 274 t at) (leb (getD t (at + 1) 0) 1) h .0) .0
 
   pub step-inside : (frameStands t at && answerStands t (at + 274)) ≡ true → at + 284 ≤ length t
   unfolding answerStands
-  step-inside h = let i = stands-inside 2 10 t (at + 274) (and-true (frameStands t at) (answerStands t (at + 274)) h .1) in omega arith
+  step-inside h = let i = is-item 2 10 t (at + 274) (and-true (frameStands t at) (answerStands t (at + 274)) h .1) in omega arith
 
 -- steps before what is still to be read
 
@@ -95,7 +86,7 @@ module _ {t : List ℕ} {n p : ℕ} (g : Passing t n p) where
 
   end-room : endStands t p ≡ true → Holds t n
   unfolding endStands
-  end-room e = let i = stands-inside 3 1 t p e in record { room = omega (arith, g .place) }
+  end-room e = let i = is-item 3 1 t p e in record { room = omega (arith, g .place) }
 
   by-tests : (f a e l : Bool) → frameStands t p ≡ f → answerStands t (p + 274) ≡ a → endStands t p ≡ e → eqb (p + 1) (length t) ≡ l → (f && a) ≡ false
       → Shapes t (ended t n p)

@@ -1,7 +1,7 @@
 use native.Mathlib.Omega.{arith}
 use mathlib.Core.Path.{_≡_, sym, _∙_}
 use Rattle.replay.specs.Trace.{frameStands}
-use Rattle.replay_trace.proofs.Passing.{stands-inside}
+use Rattle.listing.proofs.Items.{is-item}
 use borrow.Author.Needs.{needs}
 use Rattle.replay_trace.proofs.items.frame_stands.Statement.{statement}
 use Rattle.replay_trace.proofs.items.frame_stands.Tie as tie
@@ -15,7 +15,7 @@ add-result c = search needs
 shared-slice-read-result : tie.Need-shared-slice-read-result
 shared-slice-read-result c =
     let a = c .before .before .before .before .args in
-    let i = stands-inside 1 274 (a .t .now) (a .at) (sym (c .before .before .stands .ensures) ∙ c .before .if1 .taken) in
+    let i = is-item 1 274 (a .t .now) (a .at) (sym (c .before .before .stands .ensures) ∙ c .before .if1 .taken) in
     omega arith
 
 returns : tie.Need-returns

@@ -1,6 +1,7 @@
 use native.Mathlib.Omega.{arith}
-use mathlib.Core.Path.{_≡_}
-use Rattle.replay_trace.proofs.Passing.{stands-cut, stands-kind}
+use mathlib.Core.Path.{sym}
+use Rattle.listing.proofs.Items.{no-room}
+use Rattle.replay_trace.proofs.Passing.{stands-kind}
 use borrow.Author.Needs.{needs}
 use Rattle.replay_trace.proofs.items.stands.Statement.{statement}
 use Rattle.replay_trace.proofs.items.stands.Tie as tie
@@ -9,7 +10,7 @@ sub-if1 : tie.Need-sub-if1
 sub-if1 c = search needs
 
 returns : tie.Need-returns
-returns c = let a = c .before .args in stands-cut (a .kind) (a .size) (a .t .now) (a .at) (omega arith)
+returns c = let a = c .before .args in sym (no-room (a .kind) (a .size) (a .t .now) (a .at) (omega arith))
 
 shared-slice-read-result : tie.Need-shared-slice-read-result
 shared-slice-read-result c = search needs
