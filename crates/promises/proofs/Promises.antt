@@ -13,6 +13,7 @@ use Rattle.relocate_twice.proofs.Without
 use Rattle.explain.proofs.Laws
 use Rattle.thread.proofs.OneInstant
 use Rattle.report.proofs.Reports
+use Rattle.replay.proofs.Bound as Traces
 use Rattle.replay.proofs.Laws as Replays
 use Rattle.replay.proofs.Written
 use Rattle.replay.proofs.Recording
@@ -47,6 +48,7 @@ promises =
       without-self-pair = Without.without-self-pair;
       explains = Laws.explains;
       broken-first = Replays.broken-first;
+      trace-bound = Traces.trace-bound;
       trace-back = Written.trace-back;
       replays-recorded = Recording.replays-recorded;
       replays-apart = Replays.replays-apart;

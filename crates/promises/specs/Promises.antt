@@ -10,7 +10,7 @@ use Rattle.relocate_twice.specs.Twice.{TwoMoves, JoinedTables}
 use Rattle.relocate_twice.specs.Without.{WithoutSelfPair}
 use Rattle.explain.specs.Laws.{Explains}
 use Rattle.thread.specs.Theorems.{OneInstant}
-use Rattle.replay.specs.Laws.{BrokenFirst, ReplaysApart, TraceBack, ReplaysRecorded}
+use Rattle.replay.specs.Laws.{BrokenFirst, TraceBound, TraceBack, ReplaysRecorded, ReplaysApart}
 use Rattle.report.specs.Laws as Report
 use Rattle.promises.specs.Worked.{WorkedTable}
 
@@ -50,6 +50,7 @@ pub record Promises : Type 0 where
   -- a broken trace is 35 and leaves the image; a trace is read back as it was written, a recorded restore differs in nothing when it is replayed, and
   -- where no two extents share a byte its answers are the plain ones and the order of its frames could be any
   pub broken-first : BrokenFirst
+  pub trace-bound : TraceBound
   pub trace-back : TraceBack
   pub replays-recorded : ReplaysRecorded
   pub replays-apart : ReplaysApart

@@ -1,3 +1,4 @@
+pub mod Bound
 pub mod Laws
 pub mod Replaying
 pub mod Written

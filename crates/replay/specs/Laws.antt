@@ -1,5 +1,5 @@
 -- What else is promised of a replay.
-use Prim.Native.Nat.{ℕ}
+use Prim.Native.Nat.{ℕ, suc, _≤_}
 use mathlib.Core.Path.{_≡_}
 use mathlib.Core.List.{List, [], _∷_, map, List·Memᴰ, List·Permᴰ}
 use lib.ListN.{length}
@@ -16,7 +16,7 @@ use Rattle.relocate.specs.Relocation.{answer}
 use Rattle.relocate.specs.Lists.{Disjoint}
 use Rattle.replay.specs.declared.Recorded.{Recorded}
 use Rattle.replay.specs.declared.Outcome.the-variants.{Broken, Same}
-use Rattle.replay.specs.Trace.{Step, broken, whole, trace, stepItems, traceOf}
+use Rattle.replay.specs.Trace.{Step, broken, whole, traceFrom, trace, stepItems, traceOf}
 use Rattle.replay.specs.Replay.{valueOf, compared, framesOf, answersUnder, finalUnder, replayAnswer, replayImage}
 
 -- A broken trace is 35, whatever else is handed in, and leaves the image as lent.
@@ -35,6 +35,10 @@ pub record ReplaysApart : Type 0 where
       → replayAnswer st e (restore s olds news first) im t ≡ compared 0 ss (plainUnder st e (restore s olds news first) im (framesOf ss))
   pub any-order : (st : Store) (e : ℕ) (s olds news : List ℕ) (first : ℕ) (im t : List ℕ) (ss : List Step) → trace t ≡ whole ss → Disjoint s (framesOf ss)
       → (gs : List Stopped) → List·Permᴰ (framesOf ss) gs → replayImage st e (restore s olds news first) im t ≡ finalUnder st e (restore s olds news first) im gs
+
+-- The bound of `trace` suffices: a larger one changes nothing.
+abbrev pub TraceBound : Type 0
+TraceBound = (t : List ℕ) (m : ℕ) → length t ≤ m → traceFrom t (suc m) 0 ≡ trace t
 
 -- a step that a trace can hold: 32 registers, and each number fits in its bytes
 pub record Recordable (s : Step) : Type 0 where

@@ -36,7 +36,7 @@ returns c =
     let a = q .args in
     let R = restore (a .s .now) (a .olds .now) (a .news .now) (a .first) (a .settings) in
     let g = q .pre .0 in
-    let e = early-is R (length (a .image .now)) _ _ _ _ (c .before .before .before .is-old .ensures) (g .fault-is) (c .before .before .early .ensures) in
+    let e = early-is R (length (a .image .now)) (c .before .before .before .before .frame-at .result .machine) _ _ _ (c .before .before .before .is-old .ensures) (g .fault-is) (c .before .before .early .ensures) in
     rw (c .refused .ensures)
     (early-refused R (a .image .now) (g .looked .section-right) (frameNumber (a .t .now) (a .k)) _ (rw (c .before .before .before .before .frame-at .ensures) at e) (omega arith))
 
@@ -46,7 +46,7 @@ move-found-requires c κs =
     let a = q .args in
     let R = restore (a .s .now) (a .olds .now) (a .news .now) (a .first) (a .settings) in
     let g = q .pre .0 in
-    let e = early-is R (length (a .image .now)) _ _ _ _ (c .before .before .before .is-old .ensures) (g .fault-is) (c .before .before .early .ensures) in
+    let e = early-is R (length (a .image .now)) (c .before .before .before .before .frame-at .result .machine) _ _ _ (c .before .before .before .is-old .ensures) (g .fault-is) (c .before .before .early .ensures) in
     (g, q .pre .1, q .pre .2, c .before .before .before .before .frame-at .ensures, sym e ∙ c .before .if1 .left)
 
 same-length : tie.Need-same-length
