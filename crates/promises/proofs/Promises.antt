@@ -14,6 +14,10 @@ use Rattle.explain.proofs.Laws
 use Rattle.restores.proofs.Editions
 use Rattle.thread.proofs.OneInstant
 use Rattle.report.proofs.Reports
+use Rattle.replay.proofs.Bound as Traces
+use Rattle.replay.proofs.Laws as Replays
+use Rattle.replay.proofs.Written
+use Rattle.replay.proofs.Recording
 use Rattle.promises.specs.Promises.{Promises}
 use Rattle.promises.proofs.Worked
 
@@ -46,6 +50,11 @@ promises =
       two-moves = Twice.two-moves;
       without-self-pair = Without.without-self-pair;
       explains = Laws.explains;
+      broken-first = Replays.broken-first;
+      trace-bound = Traces.trace-bound;
+      trace-back = Written.trace-back;
+      replays-recorded = Recording.replays-recorded;
+      replays-apart = Replays.replays-apart;
       keeps-cursor = Consequences.keeps-cursor;
       keeps-distance = Consequences.keeps-distance;
       only-slots-count = Consequences.only-slots-count;

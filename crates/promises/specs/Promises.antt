@@ -11,6 +11,7 @@ use Rattle.relocate_twice.specs.Without.{WithoutSelfPair}
 use Rattle.explain.specs.Laws.{Explains}
 use Rattle.restores.specs.Laws.{UnderEdition, UnknownEdition}
 use Rattle.thread.specs.Theorems.{OneInstant}
+use Rattle.replay.specs.Laws.{BrokenFirst, TraceBound, TraceBack, ReplaysRecorded, ReplaysApart}
 use Rattle.report.specs.Laws as Report
 use Rattle.promises.specs.Worked.{WorkedTable}
 
@@ -50,6 +51,13 @@ pub record Promises : Type 0 where
   pub without-self-pair : WithoutSelfPair
   -- what the lab is told of a slot is what the move does to it
   pub explains : Explains
+  -- a broken trace is 35 and leaves the image; a trace is read back as it was written, a recorded restore differs in nothing when it is replayed, and
+  -- where no two extents share a byte its answers are the plain ones and the order of its frames could be any
+  pub broken-first : BrokenFirst
+  pub trace-bound : TraceBound
+  pub trace-back : TraceBack
+  pub replays-recorded : ReplaysRecorded
+  pub replays-apart : ReplaysApart
   -- the consequences that are wanted, that no move changes frame and stack pointer, and the worked table
   pub keeps-cursor : KeepsCursor
   pub keeps-distance : KeepsDistance

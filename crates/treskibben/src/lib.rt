@@ -21,6 +21,7 @@ pub mod edition_moves;
 pub mod explain_calls;
 pub mod flat_sections;
 pub mod index_lookups;
+pub mod replays;
 pub mod reports;
 
 // The number of this interface, which include/treskibben.h has as TRESKIBBEN_VERSION.
