@@ -1,0 +1,2 @@
+pub mod Breaches
+pub mod Pairs
