@@ -1,2 +1,3 @@
 pub mod Breaches
 pub mod Pairs
+pub mod Profiles

@@ -2,24 +2,16 @@ use mathlib.Core.Path.{sym, _∙_}
 use borrow.Author.Needs.{needs}
 use Rattle.controller_record.proofs.body_keeps.Statement.{statement}
 use Rattle.controller_record.proofs.body_keeps.Tie as tie
-use Rattle.controller_record.proofs.body_keeps.Reads as reads
-use Rattle.controller_record.proofs.body_keeps.Lts as lts
-use Rattle.controller_record.proofs.pairs_keep.Reads as pairs-keep-reads
-use Rattle.relocate_pairs.proofs.statepoint.is_statepoint.Reads as is-statepoint-reads
 
--- src/lib.rt:49:8
 is-statepoint-requires : tie.Need-is-statepoint-requires
 is-statepoint-requires c κs = search needs
 
--- src/lib.rt:50:9
 pairs-keep-requires : tie.Need-pairs-keep-requires
 pairs-keep-requires c κs = (c .before .before .before .pre, sym (c .before .is-statepoint .ensures) ∙ c .if1 .taken)
 
--- src/lib.rt:50:9
 returns : tie.Need-returns
 returns c = rw (sym (c .before .before .is-statepoint .ensures) ∙ c .before .if1 .taken) (c .pairs-keep .ensures)
 
--- src/lib.rt:45:1
 returns-2 : tie.Need-returns-2
 returns-2 c = rw (sym (c .before .is-statepoint .ensures) ∙ c .if1 .left)
 

@@ -4,26 +4,18 @@ use Rattle.controller_record.proofs.Keeping.{pairs-wrong, pairs-right, 
 use borrow.Author.Needs.{needs}
 use Rattle.controller_record.proofs.pairs_keep.Statement.{statement}
 use Rattle.controller_record.proofs.pairs_keep.Tie as tie
-use Rattle.controller_record.proofs.pairs_keep.Reads as reads
-use Rattle.controller_record.proofs.pairs_keep.Lts as lts
-use Rattle.relocate_pairs.proofs.pairs.check_forms.Reads as check-forms-reads
-use Rattle.relocate_pairs.proofs.statepoint.pairs_of.Reads as pairs-of-reads
 
--- src/lib.rt:35:9
 pairs-of-requires : tie.Need-pairs-of-requires
 pairs-of-requires c κs = search needs
 
--- src/lib.rt:37:9
 check-forms-requires : tie.Need-check-forms-requires
 check-forms-requires c κs = search needs
 
--- src/lib.rt:39:9
 returns : tie.Need-returns
 returns c =
     let a = c .before .before .before .before .before .args in
     rw (pairs-wrong (poolOf (a .s .now)) (recordOf (a .s .now) (a .at)) _ _ (c .before .before .before .pairs-of .ensures .counted) (c .before .before .check-forms .ensures .0) (c .if1 .taken))
 
--- src/lib.rt:31:1
 returns-2 : tie.Need-returns-2
 returns-2 c =
     let a = c .before .before .before .before .before .before .args in

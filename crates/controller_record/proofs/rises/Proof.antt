@@ -2,14 +2,10 @@ use Rattle.controller_record.proofs.Keeping.{later-above}
 use borrow.Author.Needs.{needs}
 use Rattle.controller_record.proofs.rises.Statement.{statement}
 use Rattle.controller_record.proofs.rises.Tie as tie
-use Rattle.controller_record.proofs.rises.Reads as reads
-use Rattle.controller_record.proofs.rises.Lts as lts
 
--- src/lib.rt:25:9
 returns : tie.Need-returns
 returns c = search needs
 
--- src/lib.rt:21:1
 returns-2 : tie.Need-returns-2
 returns-2 c = later-above (c .before .args .number) (c .before .args .last) (c .before .args .address) (c .if1 .left)
 
