@@ -1,5 +1,8 @@
 // The settings of the edition that a restore names, document 02, request 9: 31 where it is unknown or retired.
 ghost use mathlib.Core.Path.{_≡_};
+ghost use Prim.Native.Nat.{_≤_};
+ghost use Rattle.moves.specs.Limits.{pairsMost};
+ghost use Rattle.relocate.specs.Restore as restore;
 ghost use Rattle.editions_settings.specs.Machine.{machineOf};
 ghost use Rattle.editions_settings.specs.Under.{settingsOf};
 ghost use Rattle.editions_settings.specs.Code.{unnamed, Names};
@@ -37,19 +40,25 @@ fn settings_of(kept: editions::Settings) -> Settings
     }
 }
 
-// What stands beside 31: nothing reads it.
+// Settings that allow everything to a frame of this machine.
+pub fn everything(machine: Machine) -> Settings
+    ensures { λ r. ⌜ (r ≡ restore.everything machine) × (r .most ≤ pairsMost) ⌝ }
+{
+    Settings {
+        most: moves::PAIRS_MOST,
+        machine,
+        version1: true,
+        version3: true,
+    }
+}
+
+// 31, beside settings that nothing reads.
 fn unnamed() -> NamedSettings
     ensures { λ r. ⌜ r ≡ unnamed ⌝ }
 {
-    let settings = Settings {
-        most: moves::PAIRS_MOST,
-        machine: Machine::Amd64,
-        version1: true,
-        version3: true,
-    };
     NamedSettings {
         number: UNKNOWN_EDITION,
-        settings,
+        settings: everything(Machine::Amd64),
     }
 }
 

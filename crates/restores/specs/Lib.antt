@@ -1,0 +1,3 @@
+pub mod Restores
+pub mod Moves
+pub mod Code
