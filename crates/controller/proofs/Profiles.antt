@@ -14,12 +14,26 @@ use Rattle.stackmap.specs.Check.{sectionCheck, Accepted}
 use Rattle.stackmap.proofs.Tests.{and-true, not-true}
 use Rattle.stackmap.proofs.Verdicts.{must-held, must-rest, chain-first, chain-rest}
 use Rattle.stackmap.proofs.Forth.{accepted-length}
+use Rattle.questions.specs.declared.Found.{Found}
+use Rattle.questions.specs.Kept.{searched, ofSection}
+use Rattle.questions.specs.Questions.{ask}
+use Rattle.questions.proofs.Searched.{section-refused}
 use Rattle.relocate.specs.declared.Machine.{Machine}
 use Rattle.relocate.specs.declared.Machine.the-variants.{Amd64, Aarch64}
 use Rattle.relocate.specs.Restore.{sameMachine}
 use Rattle.controller.specs.Profile.{firstBreach, atBreach, profileCheck}
 
+chain-asks : (v k : Verdict) → chain v k ≡ ask Refused k v
+unfolding chain ask
+chain-asks (Valid e) k = refl
+chain-asks (Refused n p) k = refl
+
 module _ (m : Machine) (s : List ℕ) where
+  -- the section's own refusal, as a search for any address finds it
+  pub profile-searched : (a : ℕ) (r : Found) → r ≡ searched s a → ofSection r ≡ true → profileCheck m s ≡ Refused (r .number) (r .place)
+  unfolding profileCheck
+  profile-searched a r e h = chain-asks (sectionCheck s) _ ∙ section-refused s a r e Refused _ h
+
   pub profile-section : {n p : ℕ} → sectionCheck s ≡ Refused n p → Refused n p ≡ profileCheck m s
   unfolding profileCheck chain
   profile-section h = rw h

@@ -1,3 +1,5 @@
 pub mod Profile
 pub mod Controller
+pub mod Lists
+pub mod Laws
 pub mod Kept

@@ -32,7 +32,7 @@ module _ (Q : Request) (im : List ℕ) (g : Numbered) (b : Begun) (begins : Begi
       → MovesUnder Q im g r after registers
   moves-passed r after registers moves t =
       let k : Relocates (withSettings Q (b .settings)) im (stoppedOf g) r after registers =
-        subst (λ (m : Machine). Relocates (withSettings Q (b .settings)) im (stoppedWith m g) r after registers) (machine-is Q (g .machine) b begins t) moves
+      subst (λ (m : Machine). Relocates (withSettings Q (b .settings)) im (stoppedWith m g) r after registers) (machine-is Q (g .machine) b begins t) moves
       in
       record {
         answer-is = k .answer-is ∙ sym (by-passed Q (g .machine) b begins t refusedMove (λ R. answer R im (stoppedOf g)));
