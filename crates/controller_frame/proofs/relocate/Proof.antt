@@ -7,27 +7,16 @@ use Rattle.controller.proofs.Steps.{control-refused, control-base}
 use borrow.Author.Needs.{needs}
 use Rattle.controller_frame.proofs.relocate.Statement.{statement}
 use Rattle.controller_frame.proofs.relocate.Tie as tie
-use Rattle.controller_frame.proofs.relocate.Reads as reads
-use Rattle.controller_frame.proofs.relocate.Lts as lts
-use Rattle.controller_profile.proofs.of_accepted.Reads as of-accepted-reads
-use Rattle.questions_find.proofs.find.of_section.Reads as of-section-reads
-use Rattle.questions_find.proofs.find.records.Reads as records-reads
-use Rattle.relocate_frame.proofs.moving.refused.Reads as refused-reads
-use Rattle.relocate_frame.proofs.relocate_found.Reads as relocate-found-reads
 
--- src/lib.rt:29:9
 records-requires : tie.Need-records-requires
 records-requires c κs = search needs
 
--- src/lib.rt:30:8
 of-section-requires : tie.Need-of-section-requires
 of-section-requires c κs = search needs
 
--- src/lib.rt:31:9
 refused-requires : tie.Need-refused-requires
 refused-requires c κs = search needs
 
--- src/lib.rt:31:9
 returns : tie.Need-returns
 returns c =
     let a = c .before .before .before .before .before .before .before .before .before .args in
@@ -35,44 +24,35 @@ returns c =
     let R = restore (a .section .now) (a .olds .now) (a .news .now) (a .first) (a .settings) in
     control-refused R (a .image .now) (stopped (a .frame) (a .registers .now)) (profile-searched _ (a .section .now) (a .frame .address) (r .result) (r .ensures) (sym (c .before .before .of-section .ensures) ∙ c .before .if1 .taken)) (c .refused .ensures)
 
--- src/lib.rt:34:11
 of-accepted-requires : tie.Need-of-accepted-requires
 of-accepted-requires c κs =
     let r = c .before .before .records in
     section-accepted _ _ (r .result) (r .ensures) (sym (c .before .of-section .ensures) ∙ c .if1 .left)
 
--- src/lib.rt:35:26
 enum-known-n : tie.Need-enum-known-n
 enum-known-n c = search needs
 
--- src/lib.rt:35:35
 refused-requires-2 : tie.Need-refused-requires-2
 refused-requires-2 c κs = search needs
 
--- src/lib.rt:37:29
 enum-told : tie.Need-enum-told
 enum-told c = search needs
 
--- src/lib.rt:36:30
 relocate-found-requires : tie.Need-relocate-found-requires
 relocate-found-requires c κs = (c .before .before .before .before .before .before .before .records .ensures, sym (c .before .before .before .before .before .before .of-section .ensures) ∙ c .before .before .before .before .before .if1 .left, c .before .before .before .before .before .before .before .before .before .before .before .before .before .pre)
 
--- src/lib.rt:16:1
 returns-2 : tie.Need-returns-2
 returns-2 c =
     let a = c .before .before .before .before .before .before .before .before .before .before .before .before .before .args in
     let R = restore (a .section .now) (a .olds .now) (a .news .now) (a .first) (a .settings) in
     control-refused R (a .image .now) (stopped (a .frame) (a .registers .now)) (sym (c .before .before .before .before .of-accepted .ensures) ∙ c .before .before .n .given .1) (c .refused2 .ensures)
 
--- src/lib.rt:16:1
 same-length : tie.Need-same-length
 same-length c = search needs
 
--- src/lib.rt:16:1
 same-length-2 : tie.Need-same-length-2
 same-length-2 c = search needs
 
--- src/lib.rt:16:1
 returns-3 : tie.Need-returns-3
 returns-3 c =
     let a = c .before .before .before .before .before .before .before .before .before .before .before .before .before .before .before .before .before .before .args in
