@@ -1,13 +1,14 @@
 // The exported functions that are handed an address index, for C and Rust, and nothing else.
 ghost use mathlib.Core.Path.{_≡_};
 ghost use Rattle.index.specs.Index.{byIndex, allByIndex};
+ghost use Rattle.moves.specs.Settle.{refusedMove};
 ghost use Rattle.relocate.specs.Restore.{restore, everything};
 ghost use Rattle.thread_index.specs.ByIndex.{threadByIndexAnswer, threadByIndexImage, threadByIndexRegisters};
 ghost use Rattle.thread.specs.Thread.{threadOf};
 ghost use Rattle.treskibben_answers.specs.Answer.{findAnswerOf, moveAnswer};
-ghost use Rattle.treskibben_answers.specs.Machine.{machineOf, ofMachine, leftOf};
+ghost use Rattle.editions_settings.specs.Machine.{machineOf, ofMachine, leftOf};
 ghost use Rattle.treskibben.specs.AddressIndex.{listed};
-use crate::LAST_MACHINE;
+use restores::LAST_MACHINE;
 
 // The question by address through an index: the section's refusal, 27 on version 1, 29 unless the list is the section's index, 10 exactly if
 // no record has the address; or the first record with it, its function, and how many records share it.
@@ -54,7 +55,7 @@ pub extern "C" fn treskibben_thread_by_index(
     registers: &mut [u64],
     index: &[u64],
 ) -> treskibben_answers::Answer
-    ensures { λ r. ⌜ (r ≡ moveAnswer (ofMachine machine (now (section .entry)) (threadByIndexAnswer (restore (now (section .entry)) (now (olds .entry)) (now (news .entry)) first (everything (machineOf machine)))
+    ensures { λ r. ⌜ (r ≡ moveAnswer (ofMachine refusedMove machine (now (section .entry)) (threadByIndexAnswer (restore (now (section .entry)) (now (olds .entry)) (now (news .entry)) first (everything (machineOf machine)))
         (now (image .entry)) (now (index .entry)) (threadOf (machineOf machine) (now (frames .entry)) (now (registers .entry))))))
         × (now (image .exit) ≡ leftOf machine (now (image .entry)) (threadByIndexImage (restore (now (section .entry)) (now (olds .entry)) (now (news .entry)) first (everything (machineOf machine)))
         (now (image .entry)) (now (index .entry)) (threadOf (machineOf machine) (now (frames .entry)) (now (registers .entry)))))
@@ -64,7 +65,7 @@ pub extern "C" fn treskibben_thread_by_index(
     if machine > LAST_MACHINE {
         return treskibben_answers::unknown_machine(stackmap_check::check(section));
     }
-    let known = treskibben_answers::machine_of(machine);
+    let known = editions_settings::machine_of(machine);
     treskibben_answers::move_answer(thread_index::relocate_thread_by_index(
         section,
         image,
@@ -75,6 +76,6 @@ pub extern "C" fn treskibben_thread_by_index(
         frames,
         registers,
         index,
-        treskibben_answers::everything(known),
+        editions_settings::everything(known),
     ))
 }

@@ -23,7 +23,7 @@ unknown-machine-requires c κs = search needs
 returns-2 : tie.Need-returns-2
 returns-2 c =
     begins-33 _ _ _ _ _ (c .before .before .before .before .before .named .ensures) _ _ (c .unknown-machine .ensures) (c .before .check .ensures) (omega arith)
-    (lt-leb _ _ (c .before .before .if2 .taken))
+    (lt-leb (c .before .before .before .before .before .before .before .args .machine) 1 (omega arith))
 
 machine-of-requires : tie.Need-machine-of-requires
 machine-of-requires c κs = search needs
@@ -31,7 +31,7 @@ machine-of-requires c κs = search needs
 returns-3 : tie.Need-returns-3
 returns-3 c =
     begins-on _ _ _ _ _ (c .before .before .before .before .before .named .ensures) _ (c .machine-of .ensures) (omega arith)
-    (le-leb _ _ (c .before .before .if2 .left))
+    (le-leb (c .before .before .before .before .before .before .before .args .machine) 1 (omega arith))
 
 pub begin-spec : {M : Type 1} → statement M
 begin-spec =
