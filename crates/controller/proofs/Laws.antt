@@ -26,6 +26,7 @@ use Rattle.controller.proofs.Profiles.{profiled}
 use Rattle.controller.proofs.Own.{Own, own}
 use Rattle.controller.proofs.Excluded.{other, base-excluded}
 use Rattle.controller.proofs.Lists.{ask-valid, taken-answer, taken-image, taken-registers, final-taken, plain-taken, taken-disjoint, taken-perm}
+use Rattle.controller.proofs.Worked.{worked-profile}
 
 -- an accepted answer is no refusal of the controller's own
 only-valid : (m : Move) (v : Verdict) → Own v → ask refusedMove m v .number ≡ 0 → (isValid v ≡ true) × (m .number ≡ 0)
@@ -108,4 +109,12 @@ one-instant =
     }
 
 pub controller-laws : ControllerLaws
-controller-laws = record { as-base = as-base; never-gives = never-gives; demand3 = demand3; order-free = order-free; one-instant = one-instant }
+controller-laws =
+    record {
+      as-base = as-base;
+      never-gives = never-gives;
+      demand3 = demand3;
+      order-free = order-free;
+      one-instant = one-instant;
+      worked = worked-profile;
+    }

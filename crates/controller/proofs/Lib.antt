@@ -5,4 +5,5 @@ pub mod Steps
 mod Own
 mod Excluded
 mod Lists
+mod Worked
 pub mod Laws

@@ -13,6 +13,7 @@ use Rattle.thread.specs.Thread.{listRight, framesOf}
 use Rattle.controller.specs.Profile.{pointersMost}
 use Rattle.controller.specs.Controller.{controllerAnswer, controllerImage, controllerRegisters, controllerThreadAnswer, controllerThreadImage, controllerThreadRegisters}
 use Rattle.controller.specs.Lists.{controllerAnswers, controllerFinal, controllerFinalRegisters, inProfile, taken}
+use Rattle.controller.specs.Worked.{WorkedProfile}
 
 -- 1. What the profile takes is moved exactly as the base does; nothing else is accepted, and a refusal changes nothing.
 pub record AsBase : Type 0 where
@@ -78,3 +79,5 @@ pub record ControllerLaws : Type 0 where
   pub demand3 : ControllerDemand3
   pub order-free : ControllerOrderFree
   pub one-instant : ControllerOneInstant
+  -- and the worked sections
+  pub worked : WorkedProfile

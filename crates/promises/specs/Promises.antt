@@ -11,6 +11,7 @@ use Rattle.relocate_twice.specs.Without.{WithoutSelfPair}
 use Rattle.explain.specs.Laws.{Explains}
 use Rattle.restores.specs.Laws.{UnderEdition, UnknownEdition}
 use Rattle.thread.specs.Theorems.{OneInstant}
+use Rattle.controller.specs.Laws.{ControllerLaws}
 use Rattle.report.specs.Laws as Report
 use Rattle.promises.specs.Worked.{WorkedTable}
 
@@ -36,6 +37,8 @@ pub record Promises : Type 0 where
   pub unknown-edition : UnknownEdition
   -- a whole thread in one call: all frames move, or none does
   pub one-instant : OneInstant
+  -- the bench controller: what its profile takes is moved as the base does, all else changes nothing; 12, 15 and 18 are never given
+  pub controller : ControllerLaws
   -- an address index is the one order of a section's rows, and with it a lookup gives what the plain walk gives
   pub index-ordered : IndexOrdered
   pub index-answers : IndexAnswers
