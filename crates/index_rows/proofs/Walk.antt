@@ -16,7 +16,7 @@ use Rattle.stackmap.specs.Walk.{ownerAt, entryAt, ahead}
 use Rattle.stackmap.proofs.Addresses.{right-fits}
 use Rattle.stackmap.proofs.Verdicts.{must-held, chain-first, chain-rest, bind-first, shift-valid}
 use Rattle.stackmap.proofs.Within.{BeforeRecords, begin-held, section-parts, is-inside, here-inside, part-from}
-use Rattle.stackmap.proofs.Turns.{allOwners, checkedAt, walk-here}
+use Rattle.stackmap.proofs.Turns.{allOwners, Walking, checkedAt, walk-here}
 use Rattle.stackmap.proofs.OneWalk.{Folding, here-ends, fold-on}
 use Rattle.index_rows.specs.Filled.{Filling, filled}
 
@@ -32,18 +32,18 @@ module _ (s : List ℕ) (k : Accepted s) where
   unfolding walkCheck
   all-valid = let b = bind-first _ _ _ (chain-rest _ _ _ (sym (section-parts s) ∙ k)) in (b .0, b .1)
 
-  -- the next record, whose owner stands before next′
-  module _ {h₀ h : Filling} {next left remaining number p : ℕ} (f : Folding filled s (numConstants s) h₀ next left remaining number p h)
+  -- the next record of a walk, whose owner stands before next′
+  module _ {next left remaining p : ℕ} (w : Walking s (numConstants s) (recordsAt s) next left remaining p)
       (next′ left′ : ℕ) (e : ahead s next′ left′ ≡ ahead s next left) (l : 0 < left′) where
-    next-valid : checkedAt s (numConstants s) next′ p ≡ Valid (p + recordLength (isOld s) (drop p s))
+    pub next-valid : checkedAt s (numConstants s) next′ p ≡ Valid (p + recordLength (isOld s) (drop p s))
     next-valid =
-        let v = bind-first _ _ _ (sym (walk-here next′ left′ (f .walking) e l) ∙ all-valid .1) in
+        let v = bind-first _ _ _ (sym (walk-here next′ left′ w e l) ∙ all-valid .1) in
         let d = here-ends (isOld s) s (numConstants s) (ownerAt s (next′ - 1) .function .address) p _ (v .1) in
         v .1 ∙ rw d
 
     -- its head is inside
     pub next-head : p + 16 ≤ length s
-    next-head = here-inside (isOld s) s (numConstants s) (ownerAt s (next′ - 1) .function .address) p _ (f .walking .inside) next-valid
+    next-head = here-inside (isOld s) s (numConstants s) (ownerAt s (next′ - 1) .function .address) p _ (w .inside) next-valid
 
     checked : (q : ℕ) × (recordCheck (isOld s) (drop p s) (numConstants s) (ownerAt s (next′ - 1) .function .address) ≡ Valid q)
     checked = let x = shift-valid _ _ _ next-valid in (x .0, x .1)
@@ -61,13 +61,15 @@ module _ (s : List ℕ) (k : Accepted s) where
         (must-held _ 8 0 (recordBytes (isOld s) (drop p s) (numConstants s)) _ (chain-rest _ _ _ (checked .1))) in
         omega arith
 
-    -- and its row is put after those before it
-    pub fill-on : 0 < next′ → (isOld s ≡ false → next′ ≤ numFunctions s) → 0 < remaining → {a size : ℕ} {list : List ℕ} {rises : Bool}
-        → a ≡ address (entryAt s 0 (next′ - 1) p) → list ≡ set (set (h .list) (2 * number) a) (2 * number + 1) number → rises ≡ (h .rises && leb (h .last) a)
-        → size ≡ recordLength (isOld s) (drop p s)
-        → Folding filled s (numConstants s) h₀ next′ (left′ - 1) (remaining - 1) (number + 1) (p + size) (record { list = list; last = a; rises = rises })
-    unfolding filled address
-    fill-on b m r w x y z = rw (z, x, y, w) (fold-on filled next′ left′ f e l b m r next-valid)
+  -- and its row is put after those before it
+  pub fill-on : {h₀ h : Filling} {next left remaining number p : ℕ} (f : Folding filled s (numConstants s) h₀ next left remaining number p h)
+      (next′ left′ : ℕ) → ahead s next′ left′ ≡ ahead s next left → 0 < left′ → 0 < next′ → (isOld s ≡ false → next′ ≤ numFunctions s) → 0 < remaining
+      → {a size : ℕ} {list : List ℕ} {rises : Bool}
+      → a ≡ address (entryAt s 0 (next′ - 1) p) → list ≡ set (set (h .list) (2 * number) a) (2 * number + 1) number → rises ≡ (h .rises && leb (h .last) a)
+      → size ≡ recordLength (isOld s) (drop p s)
+      → Folding filled s (numConstants s) h₀ next′ (left′ - 1) (remaining - 1) (number + 1) (p + size) (record { list = list; last = a; rises = rises })
+  unfolding filled address
+  fill-on f next′ left′ e l b m r w x y z = rw (z, x, y, w) (fold-on filled next′ left′ f e l b m r (next-valid (f .walking) next′ left′ e l))
 
 -- the part `&s[p..]`, as it is seen by what is called
 pub part-whole : (s : List ℕ) (p : ℕ) → isOld s ≡ false → recordLength (isOld s) (drop p s) ≤ length (drop p s)

@@ -35,7 +35,7 @@ fn still_rises(rises: bool, last: u64, address: u64) -> bool
 }
 
 // Where the records of a version 3 section begin.
-fn first_record(s: &[u8]) -> usize
+pub fn first_record(s: &[u8]) -> usize
     requires { ⌜ (isOld (now s) ≡ false) × (recordsAt (now s) ≤ length (now s)) ⌝ }
     ensures { λ r. ⌜ r ≡ recordsAt (now (s .entry)) ⌝ }
 {
@@ -45,7 +45,7 @@ fn first_record(s: &[u8]) -> usize
 }
 
 // The address of the record at `at`, of function number `function`.
-fn address_at(s: &[u8], function: usize, at: usize) -> u64
+pub fn address_at(s: &[u8], function: usize, at: usize) -> u64
     requires { ⌜ (isOld (now s) ≡ false) × (constantsAt (now s) ≤ length (now s)) × (function < numFunctions (now s))
         × (at + 16 ≤ length (now s)) × (address (entryAt (now s) 0 function at) < 2 ^ 64) ⌝ }
     ensures { λ r. ⌜ r ≡ address (entryAt (now (s .entry)) 0 function at) ⌝ }

@@ -13,6 +13,7 @@ use Rattle.relocate_twice.proofs.Without
 use Rattle.explain.proofs.Laws
 use Rattle.restores.proofs.Editions
 use Rattle.thread.proofs.OneInstant
+use Rattle.controller.proofs.Laws as controlled
 use Rattle.report.proofs.Reports
 use Rattle.replay.proofs.Bound as Traces
 use Rattle.replay.proofs.Laws as Replays
@@ -40,6 +41,7 @@ promises =
       under-edition = Editions.under-edition;
       unknown-edition = Editions.unknown-edition;
       one-instant = OneInstant.one-instant;
+      controller = controlled.controller-laws;
       index-ordered = Ordered.index-ordered;
       index-answers = Same.index-answers;
       report-sums = Reports.sums;

@@ -12,6 +12,7 @@ use Rattle.explain.specs.Laws.{Explains}
 use Rattle.restores.specs.Laws.{UnderEdition, UnknownEdition}
 use Rattle.thread.specs.Theorems.{OneInstant}
 use Rattle.replay.specs.Laws.{BrokenFirst, TraceBound, TraceBack, ReplaysRecorded, ReplaysApart}
+use Rattle.controller.specs.Laws.{ControllerLaws}
 use Rattle.report.specs.Laws as Report
 use Rattle.promises.specs.Worked.{WorkedTable}
 
@@ -37,6 +38,8 @@ pub record Promises : Type 0 where
   pub unknown-edition : UnknownEdition
   -- a whole thread in one call: all frames move, or none does
   pub one-instant : OneInstant
+  -- the bench controller: what its profile takes is moved as the base does, all else changes nothing; 12, 15 and 18 are never given
+  pub controller : ControllerLaws
   -- an address index is the one order of a section's rows, and with it a lookup gives what the plain walk gives
   pub index-ordered : IndexOrdered
   pub index-answers : IndexAnswers

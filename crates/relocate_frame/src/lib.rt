@@ -124,6 +124,39 @@ fn of_section(
     moving::refused(13, 0)
 }
 
+// 33 and what follows, of a frame whose records are searched for in a section that is accepted.
+// No entry point: it requires that search, and settings that the crates above have read or made.
+pub fn relocate_found(
+    section: &[u8],
+    found: Found,
+    image: &mut [u8],
+    first: u64,
+    olds: &[u64],
+    news: &[u64],
+    frame: Frame,
+    registers: &mut [u64],
+    settings: Settings,
+) -> Move
+    requires { ⌜ (found ≡ searched (now section) (frame .address)) × (ofSection found ≡ false) × (settings .most ≤ pairsMost) ⌝ }
+    ensures { λ r. ⌜ Relocates (restore (now (section .entry)) (now (olds .entry)) (now (news .entry)) first settings) (now (image .entry)) (stopped frame (now (registers .entry))) r (now (image .exit)) (now (registers .exit)) ⌝ }
+{
+    let machine = frame.machine;
+    if allowed(tables::is_old(section), machine, settings) {
+        return of_section(
+            section,
+            found,
+            image,
+            first,
+            olds,
+            news,
+            frame,
+            registers,
+            settings,
+        );
+    }
+    moving::refused(33, 0)
+}
+
 // Relocates one frame in the stack image that starts at the address `first`, by the move table of old and new starts: a refusal's
 // number and place, with the image and the registers as they were; or 0, 0 and the number of pointers, with each derived slot moved.
 // No entry point: it requires settings that the crates above have read or made.
@@ -144,19 +177,15 @@ pub fn relocate(
     if find::of_section(found) {
         return moving::refused(found.number, found.place);
     }
-    let machine = frame.machine;
-    if allowed(tables::is_old(section), machine, settings) {
-        return of_section(
-            section,
-            found,
-            image,
-            first,
-            olds,
-            news,
-            frame,
-            registers,
-            settings,
-        );
-    }
-    moving::refused(33, 0)
+    relocate_found(
+        section,
+        found,
+        image,
+        first,
+        olds,
+        news,
+        frame,
+        registers,
+        settings,
+    )
 }

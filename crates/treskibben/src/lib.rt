@@ -16,6 +16,7 @@ use restores::LAST_MACHINE;
 use treskibben_answers as answers;
 
 pub mod address_index;
+pub mod controllers;
 pub mod edition_calls;
 pub mod edition_moves;
 pub mod explain_calls;

@@ -50,7 +50,7 @@ sub-address-at c = search needs
 address-at-requires : tie.Need-address-at-requires Inv-loop μ-loop
 address-at-requires c κs =
     let q = c .before .before .before .before .before .before .before .before in
-    let f = c .before .before .loop .inv .0 in
+    let f = c .before .before .loop .inv .0 .walking in
     let o = c .owner in
     let m = o .ensures .3 (q .pre .1) in
     (q .pre .1, tabled _ (q .pre .0) .walkable .inside, omega (arith, o .ensures .2), next-head _ (q .pre .0) f _ _ (o .ensures .0) (o .ensures .1), next-address _ (q .pre .0) f _ _ (o .ensures .0) (o .ensures .1) (q .pre .1))
@@ -77,14 +77,14 @@ record-shape-requires c κs =
     let q = c .before .before .before .before .before .before .before .before .before .before .before .before .before .before .before in
     let o = c .before .before .before .before .before .before .before .owner in
     let w = c .before .before .before .before .before .before .before .before .before in
-    part-whole (q .args .s .now) (w .loop .p) (q .pre .1) (next-whole _ (q .pre .0) (w .loop .inv .0) _ _ (o .ensures .0) (o .ensures .1))
+    part-whole (q .args .s .now) (w .loop .p) (q .pre .1) (next-whole _ (q .pre .0) (w .loop .inv .0 .walking) _ _ (o .ensures .0) (o .ensures .1))
 
 add-p : tie.Need-add-p Inv-loop μ-loop
 add-p c =
     let q = c .before .before .before .before .before .before .before .before .before .before .before .before .before .before .before .before .before in
     let l = c .before .before .before .before .before .before .before .before .before .before .before .loop in
     let o = c .before .before .before .before .before .before .before .before .before .owner in
-    let w = next-whole _ (q .pre .0) (l .inv .0) _ _ (o .ensures .0) (o .ensures .1) in
+    let w = next-whole _ (q .pre .0) (l .inv .0 .walking) _ _ (o .ensures .0) (o .ensures .1) in
     let z = part-size (q .args .s .now) (l .p) (q .pre .1) (c .before .record-shape .ensures .ends) in
     omega (arith, length-drop (l .p) (q .args .s .now), l .inv .0 .walking .inside)
 
