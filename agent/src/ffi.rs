@@ -10,7 +10,10 @@ pub(crate) mod editions;
 pub(crate) mod explain;
 pub(crate) mod flat;
 pub(crate) mod index;
+pub(crate) mod replay;
 pub(crate) mod report;
+pub(crate) mod restore;
+pub(crate) mod rows;
 #[cfg(test)]
 mod tests;
 
