@@ -37,7 +37,7 @@ use under::{known_under, Under};
 
 /// Frames in a run, made in parts that each have a source of random numbers.
 const PARTS: u64 = 1_000;
-const FRAMES_A_PART: u64 = 300;
+const FRAMES_A_PART: u64 = 400;
 
 /// How often each number was the answer, 0 to 33, for each version that sections were made of.
 const ANSWERS: usize = 34;

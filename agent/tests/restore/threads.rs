@@ -11,7 +11,7 @@ use generator::{aimed, damage, section_in, Rng, Version};
 
 /// Lists in a run, made in parts that each have a source of random numbers.
 const PARTS: u64 = 1_000;
-const LISTS_A_PART: u64 = 220;
+const LISTS_A_PART: u64 = 260;
 
 /// The numbers of a thread, and those that only an index adds.
 const NUMBERS: usize = 34;
