@@ -31,6 +31,7 @@
 //! ```
 
 mod file;
+mod replay;
 mod restore;
 #[cfg(test)]
 mod tests;

@@ -1,12 +1,11 @@
-//! Restores that name an edition: the moves of a frame and of a thread, their explanations, and a replay.
+//! Restores that name an edition: the moves of a frame and of a thread, and their explanations.
 
 use super::Editions;
 use crate::explain::told;
 use crate::explained::{frame_rows, thread_rows};
 use crate::ffi::restore::{self, Mover, Restore};
-use crate::trace::replayed;
 use crate::{ffi, relocate, thread};
-use crate::{Difference, ExplainedPointer, Frame, Frames, Index, Machine, MoveTable};
+use crate::{ExplainedPointer, Frame, Frames, Index, Machine, MoveTable};
 use crate::{Reason, Refusal, Slot, ThreadRefusal};
 
 /// An edition of a store by its number, for restores to name.
@@ -164,29 +163,5 @@ impl<'a> Edition<'a> {
         thread_rows(frames, |rows| {
             ffi::rows::thread(&restore, image, frames, registers, rows)
         })
-    }
-
-    /// Moves each frame of a trace, and tells the first recorded answer that differs from the one that
-    /// the frame gets now.
-    pub fn replay(
-        &self,
-        section: &[u8],
-        image: &mut [u8],
-        first: u64,
-        table: MoveTable,
-        trace: &[u8],
-    ) -> Result<Option<Difference>, Refusal> {
-        let (olds, news) = (table.old_starts(), table.new_starts());
-        let store = &self.editions.store;
-        replayed(ffi::replay::replay(
-            store,
-            self.number,
-            section,
-            image,
-            first,
-            olds,
-            news,
-            trace,
-        ))
     }
 }
