@@ -8,10 +8,11 @@
 //! - none has over 16 pointers, null pairs counting one each,
 //! - and their addresses rise strictly, from each record to the next of the section.
 //!
-//! The functions are not limited, and slots may lie anywhere: 19 and 20 are no breach. Frames are of AMD64 alone. A breach
-//! is 50, at the lowest record that has any; the version and the machine are tested before the records, at 0, which is
-//! not told apart from a breach of record 0. What keeps the profile is moved exactly as without the controller: by
-//! [`Edition::relocate`] and [`Edition::relocate_thread`], whose arguments those of the calls here are.
+//! The functions are not limited, and slots may lie anywhere: 19 and 20 are no breach. Frames are of AMD64 alone. A
+//! breach is 50, at the lowest record that has any; the version and the machine are tested before the records, at
+//! 0, which is not told apart from a breach of record 0. What keeps the profile is moved exactly as without the
+//! controller: by [`Edition::relocate`] and [`Edition::relocate_thread`], whose arguments those of the calls here
+//! are.
 
 use crate::editions::Edition;
 use crate::ffi::restore::{controller_check, Mover};
@@ -49,8 +50,8 @@ pub fn check(section: &[u8]) -> Result<(), Refusal> {
     controller_check(section).outcome().map(|_| ())
 }
 
-/// Moves the pointers of one frame as [`Edition::relocate`] does, where the profile is kept, and gives its number of
-/// pointers.
+/// Moves the pointers of one frame as [`Edition::relocate`] does, where the profile is kept, and gives its number
+/// of pointers.
 ///
 /// # Errors
 ///
@@ -113,8 +114,8 @@ pub fn relocate(
     one::pointers(Mover::Controller.relocate(&restore, image, frame, registers))
 }
 
-/// Moves the pointers of a whole thread as [`Edition::relocate_thread`] does, where the profile is kept, all of its frames
-/// or none, and gives their number.
+/// Moves the pointers of a whole thread as [`Edition::relocate_thread`] does, where the profile is kept, all of its
+/// frames or none, and gives their number.
 ///
 /// # Errors
 ///

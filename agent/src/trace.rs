@@ -169,8 +169,8 @@ impl fmt::Display for Difference {
     }
 }
 
-/// A frame of a trace with its recorded answer: what a call that moves one frame was given and answered, beside what all
-/// frames share.
+/// A frame of a trace with its recorded answer: what a call that moves one frame was given and answered, beside
+/// what all frames share.
 #[derive(Clone, Copy, Debug, PartialEq, Eq, Hash)]
 pub struct Step {
     /// The machine.

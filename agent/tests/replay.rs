@@ -1,12 +1,12 @@
-//! Replays of recorded restores by the proved library and by the second implementation: traces of frames with faults of
-//! every number, frames that share bytes, both machines, under editions that allow them or don't; traces with wrong
-//! answers, cut and broken ones, and very long ones.
+//! Replays of recorded restores by the proved library and by the second implementation: traces of frames with
+//! faults of every number, frames that share bytes, both machines, under editions that allow them or don't; traces
+//! with wrong answers, cut and broken ones, and very long ones.
 //!
-//! The library is asked as C asks it and as Rust does, and the trace is read by `treskibben::trace` too. Answers and whole
-//! images are compared, also after a difference and of a broken trace. Of the traces that the generator records, it knows
-//! the answer beforehand; under any other edition the second implementation records them, and the replay has to find no
-//! difference, and after that the one wrong answer that is put in. The random traces follow from a seed. It is printed;
-//! `TRESKIBBEN_SEED` sets it.
+//! The library is asked as C asks it and as Rust does, and the trace is read by `treskibben::trace` too. Answers
+//! and whole images are compared, also after a difference and of a broken trace. Of the traces that the generator
+//! records, it knows the answer beforehand; under any other edition the second implementation records them, and the
+//! replay has to find no difference, and after that the one wrong answer that is put in. The random traces follow
+//! from a seed. It is printed; `TRESKIBBEN_SEED` sets it.
 
 mod common;
 
@@ -36,11 +36,12 @@ use stores::Stores;
 const PARTS: u64 = 800;
 const TRACES_A_PART: u64 = 160;
 
-/// What is counted of the traces that the generator knows: those without difference, those with one, and those that are
-/// broken, by each way.
+/// What is counted of the traces that the generator knows: those without difference, those with one, and those that
+/// are broken, by each way.
 const KNOWN: usize = 2 + Break::ALL.len();
 
-/// The answers that a frame of a trace can get beside the section's own: it always has 32 registers, so that 25 is none.
+/// The answers that a frame of a trace can get beside the section's own: it always has 32 registers, so that 25 is
+/// none.
 const OF_FRAME: [u64; 14] = [0, 10, 12, 13, 14, 15, 16, 17, 18, 19, 20, 21, 31, 33];
 
 /// How often each number was the answer of a frame, 0 to 33, of each version; and how often each shape was seen.
@@ -135,8 +136,8 @@ fn put_answers(steps: &mut [Step], answers: &[Recorded]) {
     both.for_each(|(step, answer)| step.answer = *answer);
 }
 
-/// Answers that are recorded wrongly: the first of them, whether its number or its value is wrong, and whether later
-/// ones are wrong too.
+/// Answers that are recorded wrongly: the first of them, whether its number or its value is wrong, and whether
+/// later ones are wrong too.
 #[derive(Clone, Copy, Debug)]
 pub struct Wrong {
     pub item: usize,

@@ -6,15 +6,15 @@ use crate::trace::{Difference, Recorded};
 use crate::{MoveTable, Refusal};
 
 impl Edition<'_> {
-    /// Moves the frames of a [`trace`](crate::trace) one after another, and names the first recorded answer that differs
-    /// from the one that its frame gets now, or none.
+    /// Moves the frames of a [`trace`](crate::trace) one after another, and names the first recorded answer that
+    /// differs from the one that its frame gets now, or none.
     ///
-    /// `section`, `first` and `table` are those of the recorded restore, and `image` is the stack from before it. Each
-    /// frame is moved as [`relocate`](Edition::relocate) moves it, on the machine and with the registers of its item, on the
-    /// image that the frame before has left. An answer is the same where its number is, and its place or its number of
-    /// pointers. Every refusal of a frame is an answer to compare, 31 of the edition and the section's own too. After a
-    /// difference the frames are moved all the same: the image ends as the frames moved one by one leave it. The
-    /// registers that they leave are dropped.
+    /// `section`, `first` and `table` are those of the recorded restore, and `image` is the stack from before it.
+    /// Each frame is moved as [`relocate`](Edition::relocate) moves it, on the machine and with the registers of
+    /// its item, on the image that the frame before has left. An answer is the same where its number is, and its
+    /// place or its number of pointers. Every refusal of a frame is an answer to compare, 31 of the edition and the
+    /// section's own too. After a difference the frames are moved all the same: the image ends as the frames moved
+    /// one by one leave it. The registers that they leave are dropped.
     ///
     /// Unlike those of a thread, the frames may share bytes of the stack, be of both machines, of which one is
     /// refused by 33, and be of any number.

@@ -1,5 +1,5 @@
-//! Broken traces: cut at every byte, every kind of item and every machine in every place, and damages anywhere. The image
-//! stays as it is lent, whatever frames stand before the bad item.
+//! Broken traces: cut at every byte, every kind of item and every machine in every place, and damages anywhere. The
+//! image stays as it is lent, whatever frames stand before the bad item.
 
 use crate::calls::Replay;
 use crate::common::{assert_often, count_random, say};
@@ -67,8 +67,8 @@ fn cut_at_every_byte() {
     assert_eq!(counts, [TRACES * (all - between), TRACES * between]);
 }
 
-/// Every kind in the place of every item, and every machine of every frame; all but the right ones are broken there, and
-/// an end in a frame's place one byte later. What is counted: broken ones, whole ones.
+/// Every kind in the place of every item, and every machine of every frame; all but the right ones are broken
+/// there, and an end in a frame's place one byte later. What is counted: broken ones, whole ones.
 #[test]
 fn every_kind_and_every_machine() {
     let counts = count_random("kinds and machines", TRACES, 1, |rng, counts| {
@@ -123,8 +123,8 @@ fn broken(
 const PARTS: u64 = 200;
 const DAMAGES_A_PART: u64 = 200;
 
-/// What is counted of damaged traces: those that are broken at 0, after whole frames, and those that are whole still,
-/// with a difference and without.
+/// What is counted of damaged traces: those that are broken at 0, after whole frames, and those that are whole
+/// still, with a difference and without.
 const NAMES: [&str; 4] = [
     "broken at the first item",
     "broken after whole frames",

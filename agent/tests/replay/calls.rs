@@ -9,8 +9,8 @@ use std::fmt::Write as _;
 use treskibben::trace;
 use treskibben::{Machine, MoveTable};
 
-/// An answer as numbers: number and place of a refusal; whether an answer differs, which one, and number and value of
-/// the one that its frame gets now.
+/// An answer as numbers: number and place of a refusal; whether an answer differs, which one, and number and value
+/// of the one that its frame gets now.
 pub type Numbers = [u64; 6];
 
 /// All that a replay is given.
@@ -88,8 +88,8 @@ impl<'a> Replay<'a> {
 
     fn by_c(&self) -> Outcome {
         let mut image = self.image.to_vec();
-        // SAFETY: each pointer and length are those of one slice, borrowed for the whole call, the image's alone for
-        // writing; the store is the struct of `treskibben.h`, and so is the declaration.
+        // SAFETY: each pointer and length are those of one slice, borrowed for the whole call, the image's alone
+        // for writing; the store is the struct of `treskibben.h`, and so is the declaration.
         let told = unsafe {
             treskibben_edition_replay(
                 self.stores.raw,
@@ -157,8 +157,8 @@ impl<'a> Replay<'a> {
         moves.collect()
     }
 
-    /// Compares all answers and images, sees that a broken trace leaves the image as it was lent, and that the trace is
-    /// read as the replay reads it. Gives the outcome.
+    /// Compares all answers and images, sees that a broken trace leaves the image as it was lent, and that the
+    /// trace is read as the replay reads it. Gives the outcome.
     pub fn compare(&self) -> Outcome {
         let (c, rust, second) = (self.by_c(), self.by_rust(), self.by_second());
         if c != second || rust != second {
@@ -173,8 +173,8 @@ impl<'a> Replay<'a> {
         c
     }
 
-    /// Reads the trace without replaying it: the same refusal, or the steps that the second implementation reads, of
-    /// which the same bytes are written again.
+    /// Reads the trace without replaying it: the same refusal, or the steps that the second implementation reads,
+    /// of which the same bytes are written again.
     fn read(&self, outcome: &Outcome) {
         let read = trace::steps(self.trace);
         let refused = read.as_ref().err().copied();

@@ -129,8 +129,8 @@ impl Replayed<'_> {
         })
     }
 
-    /// Whether a frame got another answer than it would have got on the starting image, where nothing is wrong with what
-    /// all frames share.
+    /// Whether a frame got another answer than it would have got on the starting image, where nothing is wrong with
+    /// what all frames share.
     fn changed(&self) -> bool {
         let scene = &self.trace.scene;
         if !self.named.allows(scene) || self.trace.section != scene.section.encode() {

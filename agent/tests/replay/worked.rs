@@ -27,8 +27,8 @@ fn stores(edition: u64) -> Stores {
     })
 }
 
-/// The bytes of a frame item: kind, machine, address, function, and 32 registers of which both machines' stack pointers
-/// are this one.
+/// The bytes of a frame item: kind, machine, address, function, and 32 registers of which both machines' stack
+/// pointers are this one.
 fn frame(machine: u8, address: u64, stack_pointer: u64) -> Vec<u8> {
     let mut registers = [0xdddd_dddd_dddd_dddd_u64; 32];
     (registers[7], registers[31]) = (stack_pointer, stack_pointer);
@@ -95,8 +95,8 @@ fn the_recorded_answers_are_the_answers() {
     assert_eq!(told(&both), (SAME, after()));
 }
 
-/// The first answer that differs, by its number, its count or its place, and what the frame gets now; and all frames
-/// are moved all the same.
+/// The first answer that differs, by its number, its count or its place, and what the frame gets now; and all
+/// frames are moved all the same.
 #[test]
 fn the_first_answer_that_differs() {
     let three = |answers: [(u8, u64); 3]| {
@@ -153,8 +153,8 @@ fn other_refusals_are_answers() {
     assert_eq!(told(&both), (SAME, after()), "the machine");
 }
 
-/// 35 comes before 31 and the section's own refusal, and leaves the image as it is, though whole frames stand before the
-/// bad item.
+/// 35 comes before 31 and the section's own refusal, and leaves the image as it is, though whole frames stand
+/// before the bad item.
 #[test]
 fn a_broken_trace_is_35_before_all_else() {
     let whole = [step(0x7000, 0, 2), step(0x7018, 0, 2)];
