@@ -1,10 +1,9 @@
-//! Restores that name an edition: the moves of a frame and of a thread, and a replay.
+//! Restores that name an edition: the moves of a frame and of a thread.
 
 use super::Editions;
 use crate::ffi::restore::{self, Mover, Restore};
-use crate::trace::replayed;
-use crate::{ffi, relocate, thread};
-use crate::{Difference, Frame, Frames, Index, Machine, MoveTable, Refusal, ThreadRefusal};
+use crate::{relocate, thread};
+use crate::{Frame, Frames, Index, Machine, MoveTable, Refusal, ThreadRefusal};
 
 /// An edition of a store, named by its number: what a restore is made under.
 ///
@@ -283,29 +282,5 @@ impl<'a> Edition<'a> {
         let (frames, entries) = (frames.into().numbers(), index.entries());
         let answer = restore::thread_by_index(&restore, image, frames, registers, entries);
         thread::pointers(answer)
-    }
-
-    /// Moves each frame of a trace, and tells the first recorded answer that differs from the one that
-    /// the frame gets now.
-    pub fn replay(
-        &self,
-        section: &[u8],
-        image: &mut [u8],
-        first: u64,
-        table: MoveTable,
-        trace: &[u8],
-    ) -> Result<Option<Difference>, Refusal> {
-        let (olds, news) = (table.old_starts(), table.new_starts());
-        let store = &self.editions.store;
-        replayed(ffi::replay::replay(
-            store,
-            self.number,
-            section,
-            image,
-            first,
-            olds,
-            news,
-            trace,
-        ))
     }
 }

@@ -2,7 +2,10 @@
 
 #[path = "by_edition.rs"]
 pub mod by_edition;
+#[path = "stored.rs"]
+pub mod stored;
 #[path = "stores.rs"]
+#[allow(dead_code)] // A store of one edition is for other tests.
 pub mod stores;
 
 use crate::calls::{Call, Moves};
@@ -10,7 +13,7 @@ use generator::frames::Scene;
 use generator::Version;
 use reference::editions::Settings;
 use reference::restore::Restore;
-use stores::Stored;
+use stored::Stored;
 use treskibben::{Frame, Frames, Index};
 
 type Answer = Result<u64, (u64, u64)>;

@@ -12,7 +12,7 @@ use generator::frames::{Scene, Size, Table};
 use generator::{aimed, damage, section_in, Rng, Version};
 use treskibben::Frames;
 
-use crate::under::stores::Stored;
+use crate::under::stored::Stored;
 
 /// Lists in a run, made in parts that each have a source of random numbers.
 const PARTS: u64 = 1_000;
