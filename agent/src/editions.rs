@@ -5,6 +5,9 @@
 //! place is used again, its number never. Any sequence of calls from an empty store is answered as the
 //! plain list of what was made and retired says; that is proved.
 //!
+//! A restore names an edition: [`Editions::edition`] gives an [`Edition`], which has the calls that move frames
+//! or tell why they move, and keeps them to its settings.
+//!
 //! [`Editions`] owns a store. Its bytes can be kept in a file: [`Editions::to_bytes`] and
 //! [`Editions::from_bytes`], which refuses what is damaged.
 //!
@@ -30,11 +33,15 @@
 //! # }
 //! ```
 
+mod explain;
 mod file;
+mod replay;
+mod restore;
 #[cfg(test)]
 mod tests;
 
 pub use file::Damage;
+pub use restore::Edition;
 
 use crate::ffi::editions as ffi;
 use crate::Refusal;
@@ -112,7 +119,7 @@ impl Settings {
 
 /// An edition that is live: its number and its settings.
 #[derive(Clone, Copy, Debug, PartialEq, Eq, Hash)]
-pub struct Edition {
+pub struct LiveEdition {
     /// The number, 1 to 2^32 - 1.
     pub number: u64,
     /// The settings that it was made with.
@@ -258,23 +265,23 @@ impl Editions {
     }
 
     /// The live editions, in the order of their numbers.
-    pub fn iter(&self) -> impl Iterator<Item = Edition> {
-        let mut live: Vec<Edition> = self.live().collect();
+    pub fn iter(&self) -> impl Iterator<Item = LiveEdition> {
+        let mut live: Vec<LiveEdition> = self.live().collect();
         live.sort_by_key(|edition| edition.number);
         live.into_iter()
     }
 
     /// The live editions, in the order of their places.
-    fn live(&self) -> impl Iterator<Item = Edition> + '_ {
+    fn live(&self) -> impl Iterator<Item = LiveEdition> + '_ {
         self.store.places.iter().filter_map(edition)
     }
 }
 
 /// The edition in a place.
-fn edition(place: &ffi::Place) -> Option<Edition> {
+fn edition(place: &ffi::Place) -> Option<LiveEdition> {
     let number = Some(place.number).filter(|number| *number != 0)?;
     let settings = Settings::of_numbers(place.settings)?;
-    Some(Edition { number, settings })
+    Some(LiveEdition { number, settings })
 }
 
 impl Default for Editions {

@@ -134,9 +134,13 @@ pub fn explain(
 ) -> Result<Reason, Refusal> {
     let (olds, news) = (table.old_starts(), table.new_starts());
     let machine = machine.number();
-    let told = ffi::explain(
+    told(ffi::explain(
         section, image, first, olds, news, machine, frame, registers, slot,
-    );
+    ))
+}
+
+/// The reason that is told, or the refusal.
+pub(crate) fn told(told: ffi::Told) -> Result<Reason, Refusal> {
     told.verdict.accepted()?;
     Ok(reason(
         told.reason,
@@ -146,7 +150,7 @@ pub fn explain(
 
 /// The reason of this number, with the pair, the old base and the new base that are told of a moved slot. The
 /// library is proved to answer no other number for a frame that it does not refuse.
-fn reason(number: u64, [pair, old_base, new_base]: [u64; 3]) -> Reason {
+pub(crate) fn reason(number: u64, [pair, old_base, new_base]: [u64; 3]) -> Reason {
     match number {
         0 => Reason::Unlisted,
         1 => Reason::OnlyBase,

@@ -10,7 +10,10 @@ pub(crate) mod editions;
 pub(crate) mod explain;
 pub(crate) mod flat;
 pub(crate) mod index;
+pub(crate) mod replay;
 pub(crate) mod report;
+pub(crate) mod restore;
+pub(crate) mod rows;
 #[cfg(test)]
 mod tests;
 
@@ -42,6 +45,21 @@ impl Answer {
     /// The value of an accepted call, or the refusal.
     pub(crate) fn outcome(self) -> Result<u64, Refusal> {
         self.verdict.accepted().map(|()| self.value)
+    }
+
+    /// The answer of an accepted call.
+    #[cfg(test)]
+    pub(crate) fn accepted(value: u64) -> Answer {
+        let (number, place) = (0, 0);
+        let verdict = Verdict { number, place };
+        Answer { verdict, value }
+    }
+
+    /// The answer of a refused call.
+    #[cfg(test)]
+    pub(crate) fn refused(number: u64, place: u64) -> Answer {
+        let verdict = Verdict { number, place };
+        Answer { verdict, value: 0 }
     }
 }
 

@@ -17,8 +17,10 @@
 //! asked of both versions alike. [`flat`] has the same kinds of calls for the flat proposal of a
 //! version 2.
 //!
-//! [`editions`] keeps what a site sets for its moves, in a store of 64 editions. [`report`] counts over many
-//! sections.
+//! [`editions`] keeps what a site sets for its moves, in a store of 64 editions. A restore that names an
+//! [`Edition`](editions::Edition) is kept to it; such a restore is explained as a whole, a frame or a thread at
+//! a time, and [replayed](editions::Edition::replay) from a [`trace`]. The [`controller`] serves one product.
+//! [`report`] counts over many sections.
 //!
 //! ```
 //! // A section of no functions, no constants and no records: version 3 and fifteen zeros.
@@ -36,9 +38,11 @@
 #![deny(missing_docs, unsafe_code)]
 
 mod answers;
+pub mod controller;
 mod conversions;
 pub mod editions;
 mod explain;
+mod explained;
 #[allow(unsafe_code)]
 mod ffi;
 pub mod flat;
@@ -50,10 +54,12 @@ mod refusal;
 mod relocate;
 pub mod report;
 mod thread;
+pub mod trace;
 
 pub use answers::{ContentPlace, Found, LiveOut, Location, LocationKind};
 pub use conversions::{listing_of, section_of, to_listing, to_section};
 pub use explain::{explain, Reason, Slot};
+pub use explained::{ExplainedPointer, ExplainedSlot};
 pub use index::{fill_index, Index};
 pub use join::join;
 pub use machine::{Machine, Registers, REGISTERS};
@@ -61,6 +67,7 @@ pub use questions::{find, find_in_function, live_out, location, record};
 pub use refusal::Refusal;
 pub use relocate::{relocate, Frame, MoveTable};
 pub use thread::{relocate_thread, Frames, ThreadRefusal};
+pub use trace::{Difference, Recorded};
 
 /// The version of the library's interface that this crate is written for.
 ///

@@ -6,8 +6,8 @@ use std::fmt;
 /// Why an input was refused, and where.
 ///
 /// The number names the cause. What the place counts depends on the cause: mostly it is a byte of
-/// the section or of the listing, a pair of a statepoint, a frame of a thread, or a section of a
-/// report, counted from 0, and it is 0 where none of them is to blame.
+/// the section, of the listing or of the trace, a pair of a statepoint, a frame of a thread, a section
+/// of a report, or a record, counted from 0, and it is 0 where none of them is to blame.
 #[derive(Clone, Copy, Debug, PartialEq, Eq, Hash)]
 pub struct Refusal {
     number: u64,
@@ -15,7 +15,7 @@ pub struct Refusal {
 }
 
 /// The cause of each refusal; the first is number 1.
-const CAUSES: [&str; 29] = [
+const CAUSES: [&str; 41] = [
     "section under 16 or over 16,777,216 bytes, or listing over 33,554,432 bytes",
     "version neither 1 nor 3",
     "a byte required to be zero isn't",
@@ -45,31 +45,24 @@ const CAUSES: [&str; 29] = [
     "question by address of version 1, or by function and offset of version 3",
     "version 1 listing with a record count not 0 or a size over 255",
     "index isn't exactly the entries that the section yields",
-];
-
-/// The causes of refusals by a store of editions: from number 30 on, and that of the settings alone, 51.
-const EDITION_CAUSES: [&str; 3] = [
     "64 editions are live",
     "edition unknown or retired",
     "new edition's number over 2^32 - 1",
-];
-const SETTINGS_CAUSES: [&str; 1] =
-    ["pointer count not 1 to 256, machine unknown, or no version allowed"];
-
-/// The cause of a machine's refusal, number 33. The safe calls know two machines alone, and never give it.
-const MACHINE_CAUSES: [&str; 1] = ["machine not known"];
-
-/// The cause of a report's refusal, number 34.
-const REPORT_CAUSES: [&str; 1] = ["a total of the report would pass 2^64 - 1"];
-
-/// The causes of a flat section's refusals; the first is number 36.
-const FLAT_CAUSES: [&str; 6] = [
+    "version or machine not allowed",
+    "a total of the report would pass 2^64 - 1",
+    "trace breaks its grammar",
     "flat section under 32 or over 16,777,216 bytes",
     "version not 2",
     "an offset or the end isn't the earliest aligned place",
     "an index plus count is past its array",
     "a padding or reserved bit is set",
     "no record of any frame is at the address",
+];
+
+/// The causes from number 50 on: the bench controller's profile, and the settings of an edition.
+const LAST_CAUSES: [&str; 2] = [
+    "outside the bench controller's profile",
+    "pointer count not 1 to 256, machine unknown, or no version allowed",
 ];
 
 /// The cause at this number in a table that begins with the number `first`.
@@ -101,11 +94,7 @@ impl Refusal {
     /// The cause in words.
     pub fn cause(&self) -> &'static str {
         cause_from(&CAUSES, 1, self.number)
-            .or_else(|| cause_from(&EDITION_CAUSES, 30, self.number))
-            .or_else(|| cause_from(&MACHINE_CAUSES, 33, self.number))
-            .or_else(|| cause_from(&REPORT_CAUSES, 34, self.number))
-            .or_else(|| cause_from(&SETTINGS_CAUSES, 51, self.number))
-            .or_else(|| cause_from(&FLAT_CAUSES, 36, self.number))
+            .or_else(|| cause_from(&LAST_CAUSES, 50, self.number))
             .unwrap_or("a cause that this version has no words for")
     }
 }
@@ -130,13 +119,7 @@ mod tests {
 
     #[test]
     fn each_number_has_words_of_its_own() {
-        let machine = (33..).zip(MACHINE_CAUSES);
-        let editions = (30..).zip(EDITION_CAUSES);
-        let settings = (51..).zip(SETTINGS_CAUSES);
-        let numbers = (1..).zip(CAUSES).chain((36..).zip(FLAT_CAUSES));
-        let report = (34..).zip(REPORT_CAUSES);
-        let numbers = numbers.chain(editions).chain(machine).chain(settings);
-        let numbers = numbers.chain(report);
+        let numbers = (1..).zip(CAUSES).chain((50..).zip(LAST_CAUSES));
         let mut met: Vec<&str> = vec![];
         for (number, cause) in numbers {
             assert_eq!(Refusal::new(number, 0).cause(), cause);
@@ -165,15 +148,17 @@ mod tests {
             (30, "64 editions"),
             (31, "unknown or retired"),
             (32, "2^32 - 1"),
-            (33, "machine not known"),
+            (33, "not allowed"),
             (34, "total of the report"),
-            (51, "pointer count"),
+            (35, "trace"),
             (36, "under 32"),
             (37, "version not 2"),
             (38, "aligned place"),
             (39, "index plus count"),
             (40, "reserved bit"),
             (41, "no record of any frame"),
+            (50, "profile"),
+            (51, "pointer count"),
         ];
         for (number, start) in words {
             let refusal = Refusal::new(number, 3);
@@ -186,7 +171,7 @@ mod tests {
 
     #[test]
     fn numbers_beyond_the_table_still_print() {
-        for number in [0, 50, 35, 42, u64::MAX] {
+        for number in [0, 42, 49, 52, u64::MAX] {
             let text = Refusal::new(number, 4).to_string();
             assert!(
                 text.starts_with(&format!("refused {number} at 4: a cause")),

@@ -227,6 +227,11 @@ pub fn relocate(
 ) -> Result<usize, Refusal> {
     let (olds, news, machine) = (table.old, table.new, machine.number());
     let answer = ffi::relocate(section, image, first, olds, news, machine, frame, registers);
+    pointers(answer)
+}
+
+/// The number of the pointers of a frame that is moved, or the refusal.
+pub(crate) fn pointers(answer: ffi::Answer) -> Result<usize, Refusal> {
     Ok(number(answer.outcome()?, 1))
 }
 

@@ -8,7 +8,7 @@ use std::fmt;
 mod tests;
 
 /// The most frames of a thread.
-const MOST_FRAMES: usize = 4_096;
+pub(crate) const MOST_FRAMES: usize = 4_096;
 
 /// The frames of a stopped thread as one list of numbers, two to a frame: address and function.
 ///
@@ -74,6 +74,11 @@ pub struct ThreadRefusal {
 }
 
 impl ThreadRefusal {
+    /// The refusal of a call that is given a thread.
+    pub(crate) fn new(refusal: Refusal) -> ThreadRefusal {
+        ThreadRefusal { refusal }
+    }
+
     /// The number of the cause, as [`Refusal`] has it.
     pub fn number(&self) -> u64 {
         self.refusal.number()
@@ -190,8 +195,6 @@ pub fn relocate_thread<'a>(
 
 /// The number of the pointers of a thread that is moved, or the refusal.
 pub(crate) fn pointers(answer: ffi::Answer) -> Result<usize, ThreadRefusal> {
-    let pointers = answer
-        .outcome()
-        .map_err(|refusal| ThreadRefusal { refusal })?;
+    let pointers = answer.outcome().map_err(ThreadRefusal::new)?;
     Ok(relocate::number(pointers, MOST_FRAMES))
 }

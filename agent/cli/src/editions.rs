@@ -3,7 +3,7 @@
 //! A store is changed by one process at a time: the file is locked from before it is read until the new one
 //! has its name, so that no number is given twice. It is replaced in one step.
 
-use crate::library::{self, Damage, Edition, Editions, Settings};
+use crate::library::{self, Damage, Editions, LiveEdition, Settings};
 use crate::numbers::count;
 use crate::replace::{self, Held};
 use crate::trouble::Trouble;
@@ -109,7 +109,7 @@ pub fn lines(editions: &Editions) -> Vec<String> {
     let live = count(editions.len() as u64, "live edition");
     let greatest = editions.greatest();
     let head = format!("store: {live} of 64, greatest number {greatest}");
-    let line = |own: Edition| format!("edition {}: {}", own.number, words(&own.settings));
+    let line = |own: LiveEdition| format!("edition {}: {}", own.number, words(&own.settings));
     [head]
         .into_iter()
         .chain(editions.iter().map(line))
@@ -165,7 +165,7 @@ pub fn objects<'a>(file: &'a str, editions: &Editions) -> Vec<Answer<'a>> {
         live: editions.len(),
         greatest: editions.greatest(),
     };
-    let object = |own: Edition| Answer::Edition(Told::of(own.number, &own.settings));
+    let object = |own: LiveEdition| Answer::Edition(Told::of(own.number, &own.settings));
     [head]
         .into_iter()
         .chain(editions.iter().map(object))

@@ -182,7 +182,7 @@ pub fn join(totals: &mut Totals, other: Totals) -> Result<(), Refusal> {
 }
 
 /// A store of editions, what it is made with, and what is wrong with one that is damaged.
-pub use treskibben::editions::{Damage, Edition, Editions, Machine, Settings, Versions};
+pub use treskibben::editions::{Damage, Editions, LiveEdition, Machine, Settings, Versions};
 
 /// The store that a file's bytes say, or what is wrong with them.
 pub fn editions_of(bytes: &[u8]) -> Result<Editions, Damage> {
