@@ -14,8 +14,8 @@ use Rattle.relocate.specs.Lists.{answers, final, finalRegisters}
 use Rattle.editions_settings.specs.Machine.{machineKnown}
 use Rattle.editions_settings.specs.Under.{settingsOf, under}
 use Rattle.restores.specs.Restores.{Request, withSettings, byEdition, leftByEdition}
-use Rattle.restores.specs.Moves.{Numbered, stoppedOf, movedUnder, registersUnder}
-use Rattle.restores.specs.Laws.{answersUnder, finalUnder, finalRegistersUnder, AllKnown, AsRestore, UnderEdition, Refused31, UnknownEdition}
+use Rattle.restores.specs.Moves.{Numbered, stoppedOf, movedUnder}
+use Rattle.restores.specs.Laws.{answersUnder, finalUnder, finalRegistersUnder, AllKnown, UnderEdition, UnknownEdition}
 
 -- whatever a restore gives and leaves under an edition that the store has, or doesn't have
 

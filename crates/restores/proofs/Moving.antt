@@ -9,7 +9,6 @@ use Rattle.relocate.specs.declared.Machine.{Machine}
 use Rattle.relocate.specs.Restore.{Restore}
 use Rattle.relocate.specs.Stopped.{Stopped, stopped}
 use Rattle.relocate.specs.Code.{Relocates}
-use Rattle.editions_settings.specs.Machine.{machineOf}
 use Rattle.restores.specs.declared.Begun.{Begun}
 use Rattle.restores.specs.Restores.{Request, withSettings}
 use Rattle.restores.specs.Moves.{Numbered, stoppedOf}
