@@ -32,9 +32,11 @@ same-length-2 c = search needs
 
 returns-2 : tie.Need-returns-2
 returns-2 c =
-    let a = c .before .before .before .before .before .before .before .before .before .before .before .before .before .before .before .before .before .args in
+    let m = c .before .before .before .before .before .before .before .before in
+    let a = m .before .before .before .before .before .before .before .before .before .args in
     let Q = request (a .store) (a .edition) (a .section .now) (a .olds .now) (a .news .now) (a .first) in
-    frame-on Q (a .image .now) _ (c .before .before .before .before .before .before .before .before .before .before .before .named .ensures) (numbered (a .machine) (a .address) (a .function) (a .registers .now)) _ (omega arith) (c .before .before .before .before .before .before .before .before .machine-of .ensures) (c .before .before .before .before .relocate .ensures)
+    let g = numbered (a .machine) (a .address) (a .function) (a .registers .now) in
+    frame-on Q (a .image .now) _ (m .before .before .before .named .ensures) g _ (omega arith) (m .machine-of .ensures) (c .before .before .before .before .relocate .ensures)
 
 pub relocate-spec : {M : Type 1} → statement M
 relocate-spec =

@@ -32,9 +32,11 @@ same-length-2 c = search needs
 
 returns-2 : tie.Need-returns-2
 returns-2 c =
-    let a = c .before .before .before .before .before .before .before .before .before .before .before .before .before .before .before .before .before .before .args in
+    let m = c .before .before .before .before .before .before .before .before in
+    let a = m .before .before .before .before .before .before .before .before .before .before .args in
     let Q = request (a .store) (a .edition) (a .section .now) (a .olds .now) (a .news .now) (a .first) in
-    thread-on Q (a .image .now) _ (c .before .before .before .before .before .before .before .before .before .before .before .named .ensures) (numberedThread (a .machine) (a .list .now) (a .registers .now)) _ (omega arith) (c .before .before .before .before .before .before .before .before .machine-of .ensures) (c .before .before .before .before .relocate-thread .ensures)
+    let t = numberedThread (a .machine) (a .list .now) (a .registers .now) in
+    thread-on Q (a .image .now) _ (m .before .before .before .named .ensures) t _ (omega arith) (m .machine-of .ensures) (c .before .before .before .before .relocate-thread .ensures)
 
 pub relocate-thread-spec : {M : Type 1} → statement M
 relocate-thread-spec =

@@ -22,7 +22,8 @@ returns c =
     let a = c .before .before .before .before .before .before .before .before .before .args in
     let r = c .before .before .before .records in
     let R = restore (a .section .now) (a .olds .now) (a .news .now) (a .first) (a .settings) in
-    control-refused R (a .image .now) (stopped (a .frame) (a .registers .now)) (profile-searched _ (a .section .now) (a .frame .address) (r .result) (r .ensures) (sym (c .before .before .of-section .ensures) ∙ c .before .if1 .taken)) (c .refused .ensures)
+    let h = profile-searched _ (a .section .now) (a .frame .address) (r .result) (r .ensures) (sym (c .before .before .of-section .ensures) ∙ c .before .if1 .taken) in
+    control-refused R (a .image .now) (stopped (a .frame) (a .registers .now)) h (c .refused .ensures)
 
 of-accepted-requires : tie.Need-of-accepted-requires
 of-accepted-requires c κs =
@@ -39,7 +40,9 @@ enum-told : tie.Need-enum-told
 enum-told c = search needs
 
 relocate-found-requires : tie.Need-relocate-found-requires
-relocate-found-requires c κs = (c .before .before .before .before .before .before .before .records .ensures, sym (c .before .before .before .before .before .before .of-section .ensures) ∙ c .before .before .before .before .before .if1 .left, c .before .before .before .before .before .before .before .before .before .before .before .before .before .pre)
+relocate-found-requires c κs =
+    let i = c .before .before .before .before .before in
+    (i .before .before .records .ensures, sym (i .before .of-section .ensures) ∙ i .if1 .left, i .before .before .before .before .before .before .before .before .pre)
 
 returns-2 : tie.Need-returns-2
 returns-2 c =
@@ -55,9 +58,11 @@ same-length-2 c = search needs
 
 returns-3 : tie.Need-returns-3
 returns-3 c =
-    let a = c .before .before .before .before .before .before .before .before .before .before .before .before .before .before .before .before .before .before .args in
+    let t = c .before .before .before .before .before .before .before in
+    let a = t .before .before .before .before .before .before .before .before .before .before .before .args in
     let R = restore (a .section .now) (a .olds .now) (a .news .now) (a .first) (a .settings) in
-    control-base R (a .image .now) (stopped (a .frame) (a .registers .now)) (sym (c .before .before .before .before .before .before .before .before .before .of-accepted .ensures) ∙ c .before .before .before .before .before .before .before .enum-told .given .1) (c .before .before .before .before .relocate-found .ensures)
+    let h = sym (t .before .before .of-accepted .ensures) ∙ t .enum-told .given .1 in
+    control-base R (a .image .now) (stopped (a .frame) (a .registers .now)) h (c .before .before .before .before .relocate-found .ensures)
 
 pub relocate-spec : {M : Type 1} → statement M
 relocate-spec =

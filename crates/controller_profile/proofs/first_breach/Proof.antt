@@ -63,14 +63,15 @@ add-p : tie.Need-add-p Inv-loop μ-loop
 add-p c =
     let o = c .before .before .before .before .before .owner in
     let q = c .before .before .before .before .before .before .before .before .before .before .before .before in
-    let r = next-stands _ (c .before .before .before .before .before .before .before .before .before .before .before .before .pre .0) (c .before .before .before .before .before .before .before .loop .inv .0 .folding .walking) _ _ (o .ensures .0) (o .ensures .1) in
+    let r = next-stands _ (q .pre .0) (c .before .before .before .before .before .before .before .loop .inv .0 .folding .walking) _ _ (o .ensures .0) (o .ensures .1) in
     omega (arith, r .inside, c .before .shape-at .ensures .ends, accepted-length _ _ (q .pre .0) .1)
 
 returns : tie.Need-returns Inv-loop μ-loop
 returns c =
     let o = c .before .before .before .owner in
-    let l = c .before .before .before .before .before .loop in
-    look-hit _ (c .before .before .before .before .before .before .before .before .before .before .pre .0) (l .inv .0) _ _ (o .ensures .0) (o .ensures .1) (o .ensures .2) (o .ensures .3) (omega arith) _ (c .before .before .address-at .ensures) _ (c .before .keeps .ensures) (c .if1 .left)
+    let l = c .before .before .before .before .before in
+    let f = look-hit _ (l .before .before .before .before .before .pre .0) (l .loop .inv .0) _ _ (o .ensures .0) (o .ensures .1) (o .ensures .2) (o .ensures .3) (omega arith) in
+    f _ (c .before .before .address-at .ensures) _ (c .before .keeps .ensures) (c .if1 .left)
 
 sub-t15 : tie.Need-sub-t15 Inv-loop μ-loop
 sub-t15 c = search needs
@@ -87,8 +88,10 @@ loop-less c = search needs
 loop-again : tie.Need-loop-again Inv-loop μ-loop
 loop-again c =
     let o = c .before .before .before .before .before .owner in
-    let l = c .before .before .before .before .before .before .before .loop in
-    (look-on _ (c .before .before .before .before .before .before .before .before .before .before .before .before .pre .0) (l .inv .0) _ _ (o .ensures .0) (o .ensures .1) (o .ensures .2) (o .ensures .3) (omega arith) _ (c .before .before .before .before .address-at .ensures) _ (c .before .before .before .keeps .ensures) (c .before .before .if1 .taken) (c .before .shape-at .ensures .ends), omega (arith, l .inv .1))
+    let l = c .before .before .before .before .before .before .before in
+    let k = c .before .before .before in
+    let f = look-on _ (l .before .before .before .before .before .pre .0) (l .loop .inv .0) _ _ (o .ensures .0) (o .ensures .1) (o .ensures .2) (o .ensures .3) (omega arith) _ (k .before .address-at .ensures) _ (k .keeps .ensures) in
+    (f (c .before .before .if1 .taken) (c .before .shape-at .ensures .ends), omega (arith, l .loop .inv .1))
 
 returns-2 : tie.Need-returns-2 Inv-loop μ-loop
 returns-2 c = look-end _ (c .before .before .before .before .before .before .pre .0) (c .before .loop .inv .0) (omega arith)

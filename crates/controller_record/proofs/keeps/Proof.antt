@@ -20,7 +20,8 @@ body-keeps-requires c κs = search needs
 returns-2 : tie.Need-returns-2
 returns-2 c =
     let a = c .before .before .before .before .before .args in
-    λ e n d b. keeps-body (poolOf (a .s .now)) (beforeOf (a .number) (a .last)) e (a .number) (a .address) (recordOf (a .s .now) (a .at)) n d b (c .before .before .before .if1 .left) (sym (c .before .before .rises .ensures) ∙ c .before .if2 .taken) _ (c .body-keeps .ensures)
+    let h = sym (c .before .before .rises .ensures) ∙ c .before .if2 .taken in
+    λ e n d b. keeps-body (poolOf (a .s .now)) (beforeOf (a .number) (a .last)) e (a .number) (a .address) (recordOf (a .s .now) (a .at)) n d b (c .before .before .before .if1 .left) h _ (c .body-keeps .ensures)
 
 returns-3 : tie.Need-returns-3
 returns-3 c =

@@ -35,9 +35,11 @@ same-length-2 c = search needs
 
 returns-2 : tie.Need-returns-2
 returns-2 c =
-    let a = c .before .before .before .before .before .before .before .before .before .before .before .before .before .before .before .before .args in
+    let t = c .before .before .before .before .before .before .before in
+    let a = t .before .before .before .before .before .before .before .before .before .args in
     let R = restore (a .section .now) (a .olds .now) (a .news .now) (a .first) (a .settings) in
-    thread-base R (a .image .now) (threadOf (a .machine) (a .list .now) (a .registers .now)) (sym (c .before .before .before .before .before .before .before .before .before .check .ensures) ∙ c .before .before .before .before .before .before .before .enum-told .given .1) (c .before .before .before .before .relocate-thread .ensures)
+    let h = sym (t .before .before .check .ensures) ∙ t .enum-told .given .1 in
+    thread-base R (a .image .now) (threadOf (a .machine) (a .list .now) (a .registers .now)) h (c .before .before .before .before .relocate-thread .ensures)
 
 pub relocate-thread-spec : {M : Type 1} → statement M
 relocate-thread-spec =
