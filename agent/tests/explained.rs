@@ -14,6 +14,8 @@ mod calls;
 mod cases;
 #[path = "explained/frames.rs"]
 mod frames;
+#[path = "common/thread_cases.rs"]
+mod thread_cases;
 #[path = "explained/threads.rs"]
 mod threads;
 #[path = "common/under.rs"]

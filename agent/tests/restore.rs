@@ -17,6 +17,8 @@ mod cases;
 mod orders;
 #[path = "restore/slots.rs"]
 mod slots;
+#[path = "common/thread_cases.rs"]
+mod thread_cases;
 #[path = "restore/threads.rs"]
 mod threads;
 #[path = "common/under.rs"]
