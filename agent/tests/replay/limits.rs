@@ -1,7 +1,7 @@
 //! Traces of no frame, of one, and of very many: a replay has no limit of frames as a thread has.
 
 use crate::calls::{Outcome, Replay};
-use crate::stores::Stores;
+use crate::edition;
 use treskibben::trace::{self, Step};
 use treskibben::{Frame, Machine, Recorded};
 
@@ -26,14 +26,14 @@ fn step(number: u8, value: u64) -> Step {
 
 /// The replay of row I's frame so often, with one answer that is recorded wrongly, if any.
 fn replay(frames: usize, wrong: Option<usize>) -> Outcome {
-    let stores = Stores::one(256, 0, [false, true]);
+    let stored = edition(0);
     let mut steps = vec![step(0, 2); frames];
     if let Some(wrong) = wrong {
         steps[wrong].answer.value = 3;
     }
     let (before, after) = (image([0x50000, 0x54e20]), image([0x90000, 0x94e20]));
     let replay = Replay {
-        stores: &stores,
+        stored: &stored,
         section: H,
         image: &before,
         first: 0x7000,
