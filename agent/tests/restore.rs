@@ -17,6 +17,8 @@ mod cases;
 mod orders;
 #[path = "restore/slots.rs"]
 mod slots;
+#[path = "common/thread_cases.rs"]
+mod thread_cases;
 #[path = "restore/threads.rs"]
 mod threads;
 #[path = "common/under.rs"]
@@ -32,12 +34,12 @@ use generator::frames::named::Named;
 use generator::frames::{plain, Scene, MOST_POINTERS};
 use generator::{aimed, Rng, Version};
 use treskibben::Frame;
-use under::stores::Stored;
+use under::stored::Stored;
 use under::{known_under, Under};
 
 /// Frames in a run, made in parts that each have a source of random numbers.
 const PARTS: u64 = 1_000;
-const FRAMES_A_PART: u64 = 300;
+const FRAMES_A_PART: u64 = 400;
 
 /// How often each number was the answer, 0 to 33, for each version that sections were made of.
 const ANSWERS: usize = 34;

@@ -180,6 +180,8 @@ impl<'a> Edition<'a> {
     ///
     /// The count of the edition is for each frame by itself, not for their sum.
     ///
+    /// The call needs about 272 KiB of stack, which a thread of [`std::thread`] has many times over.
+    ///
     /// # Errors
     ///
     /// The first of these that holds. A refusal leaves all of the image and all registers unchanged.

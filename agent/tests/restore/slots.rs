@@ -13,7 +13,7 @@ use treskibben::{Frame, Reason, Slot};
 
 /// Frames in a run, made in parts that each have a source of random numbers, and questions on each frame.
 const PARTS: u64 = 1_000;
-const FRAMES_A_PART: u64 = 60;
+const FRAMES_A_PART: u64 = 90;
 const QUESTIONS: usize = 5;
 
 /// How often each reason was told; and how often each number of a refusal, 0 to 33.
