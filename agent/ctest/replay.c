@@ -348,6 +348,26 @@ static int passes_one_by_one(int older, uint64_t machine)
                   memcmp(&call, &after, sizeof call) == 0);
 }
 
+/* Registers come fresh from each frame: RBX, or X3, is moved in each, and the next has its own again. */
+static int passes_registers(int older, uint64_t machine)
+{
+    static const struct location locations[LOCATIONS] = {
+        {REGISTER, 8, 3, 0}, {REGISTER, 8, 3, 0}, {REGISTER, 8, 3, 0}, {REGISTER, 8, 8, 0}};
+    static const uint64_t same[FIELDS] = SAME;
+    const struct step step = {FIRST, 0, 0, 2};
+    struct call call;
+    size_t i;
+
+    begin(&call, older, machine);
+    build(call.section, locations, older);
+    for (i = 0; i < STEPS; i++) {
+        record(&call, &step, older, machine);
+        put(call.trace + i * STEP + 18 + 8 * 3, OLD);
+    }
+    end(&call);
+    return tells("registers", &call, same, 0);
+}
+
 /* A store that no calls leave: an edition whose settings can't be is unknown. */
 static int passes_store(int older, uint64_t machine)
 {
@@ -365,7 +385,8 @@ static int passes_store(int older, uint64_t machine)
 int main(void)
 {
     static int (*const others[])(int, uint64_t) = {passes_section, passes_cut, passes_kinds,
-                                                   passes_longer, passes_one_by_one, passes_store};
+                                                   passes_longer, passes_one_by_one,
+                                                   passes_registers, passes_store};
     size_t passed = 0, count = 0, i;
     uint64_t machine;
     int older;

@@ -29,7 +29,6 @@ mod worked;
 use calls::{Call, Outcome};
 use common::{assert_often, count_random, say};
 use controlled::{compare, compare_check, Controlled};
-use generator::editions::Settings;
 use generator::frames::bench::{self, Breach};
 use generator::frames::faults::aim;
 use generator::frames::named::Named;
@@ -38,7 +37,7 @@ use generator::frames::{plain, shuffle, Scene};
 use generator::{aimed, damage, section_in, Rng, Version};
 use treskibben::Frame;
 use under::allows;
-use under::stores::Stored;
+use under::stored::Stored;
 
 /// Scenes in a run, made in parts that each have a source of random numbers. Of each, one frame and a thread are
 /// moved.
@@ -159,22 +158,6 @@ impl<'a> Bench<'a> {
         self.move_thread(&thread, Some(self.thread(&thread)));
         self.move_frame(Some(self.frame()))
     }
-}
-
-/// A store of one edition: its pointer count, its machine, and its versions, 1 and 3.
-pub fn edition(largest_count: u64, machine: u64, [version_1, version_3]: [bool; 2]) -> Stored {
-    let settings = Settings {
-        largest_count,
-        machine,
-        version_1,
-        version_3,
-    };
-    let named = Named {
-        greatest: 1,
-        live: vec![(1, settings)],
-        edition: 1,
-    };
-    Stored::of(&mut Rng::new(1), &named)
 }
 
 /// The frames of a scene in some order, now and then one of them twice, or a list of a wrong length.

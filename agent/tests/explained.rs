@@ -30,7 +30,7 @@ use generator::frames::Scene;
 use generator::Rng;
 use reference::explain::{Explained, ExplainedSlot, Slot as Second};
 use treskibben::{ExplainedPointer, Reason, Slot};
-use under::stores::Stored;
+use under::stored::Stored;
 
 /// How many numbers a pointer has, and a slot of it.
 const ROW: usize = 16;

@@ -18,6 +18,8 @@ mod calls;
 mod limits;
 #[path = "replay/shapes.rs"]
 mod shapes;
+#[path = "common/stored.rs"]
+mod stored;
 #[path = "common/stores.rs"]
 mod stores;
 #[path = "replay/worked.rs"]
@@ -25,13 +27,12 @@ mod worked;
 
 use calls::{Numbers, Replay};
 use common::{assert_often, count_random, nth_version, say};
-use generator::editions::Settings;
 use generator::frames::named::Named;
 use generator::traces::{Break, Known, Trace};
 use generator::{aimed, damage, section_in, Rng, Version};
 use reference::replay::{parse, write, Recorded, Step};
 use shapes::{Replayed, SHAPES};
-use stores::Stored;
+use stored::Stored;
 
 /// Traces in a run, made in parts that each have a source of random numbers.
 const PARTS: u64 = 950;
@@ -51,18 +52,7 @@ type Counts = [u64; KNOWN + 2 * ANSWERS + SHAPES.len()];
 
 /// A store of one edition, of this machine, that allows 256 pointers and both versions.
 pub fn edition(machine: u64) -> Stored {
-    let settings = Settings {
-        largest_count: 256,
-        machine,
-        version_1: true,
-        version_3: true,
-    };
-    let named = Named {
-        greatest: 1,
-        live: vec![(1, settings)],
-        edition: 1,
-    };
-    Stored::of(&mut Rng::new(1), &named)
+    Stored::one(256, machine, [true, true])
 }
 
 /// Replays a trace of which the generator knows the answer.

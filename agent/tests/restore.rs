@@ -34,7 +34,7 @@ use generator::frames::named::Named;
 use generator::frames::{plain, Scene, MOST_POINTERS};
 use generator::{aimed, Rng, Version};
 use treskibben::Frame;
-use under::stores::Stored;
+use under::stored::Stored;
 use under::{known_under, Under};
 
 /// Frames in a run, made in parts that each have a source of random numbers.

@@ -1,7 +1,8 @@
 //! The calls that name an edition, as C has them: they take every store, and every number for a machine.
 #![allow(dead_code)] // Not every test makes all of them.
 
-use super::stores::{Store, Stored};
+use super::stored::Stored;
+use super::stores::Raw;
 use crate::calls::Call;
 use treskibben::Frame;
 
@@ -15,7 +16,7 @@ struct Told([u64; 6]);
 
 extern "C" {
     fn treskibben_edition_relocate(
-        store: Store,
+        store: Raw,
         edition: u64,
         section: *const u8,
         length: usize,
@@ -32,7 +33,7 @@ extern "C" {
         registers_length: usize,
     ) -> Answer;
     fn treskibben_edition_thread(
-        store: Store,
+        store: Raw,
         edition: u64,
         section: *const u8,
         length: usize,
@@ -50,7 +51,7 @@ extern "C" {
         registers_length: usize,
     ) -> Answer;
     fn treskibben_edition_thread_by_index(
-        store: Store,
+        store: Raw,
         edition: u64,
         section: *const u8,
         length: usize,
@@ -70,7 +71,7 @@ extern "C" {
         index_length: usize,
     ) -> Answer;
     fn treskibben_edition_explain_address(
-        store: Store,
+        store: Raw,
         edition: u64,
         section: *const u8,
         length: usize,
@@ -88,7 +89,7 @@ extern "C" {
         address: u64,
     ) -> Told;
     fn treskibben_edition_explain_register(
-        store: Store,
+        store: Raw,
         edition: u64,
         section: *const u8,
         length: usize,
@@ -106,7 +107,7 @@ extern "C" {
         number: u64,
     ) -> Told;
     fn treskibben_edition_explain_frame(
-        store: Store,
+        store: Raw,
         edition: u64,
         section: *const u8,
         length: usize,
@@ -125,7 +126,7 @@ extern "C" {
         rows_length: usize,
     ) -> Answer;
     fn treskibben_edition_explain_thread(
-        store: Store,
+        store: Raw,
         edition: u64,
         section: *const u8,
         length: usize,
@@ -158,7 +159,7 @@ pub fn relocate<F>(
     // and the registers' alone for writing; the declaration is that of `treskibben.h`.
     let answer = unsafe {
         treskibben_edition_relocate(
-            stored.c,
+            stored.c(),
             stored.edition,
             call.section.as_ptr(),
             call.section.len(),
@@ -189,7 +190,7 @@ pub fn thread<F>(
     // SAFETY: as in `relocate`. The frames are one more list.
     let answer = unsafe {
         treskibben_edition_thread(
-            stored.c,
+            stored.c(),
             stored.edition,
             call.section.as_ptr(),
             call.section.len(),
@@ -222,7 +223,7 @@ pub fn thread_by_index<F>(
     // SAFETY: as in `relocate`. The frames and the index are two more lists.
     let answer = unsafe {
         treskibben_edition_thread_by_index(
-            stored.c,
+            stored.c(),
             stored.edition,
             call.section.as_ptr(),
             call.section.len(),
@@ -261,7 +262,7 @@ pub fn explain<F>(
     // SAFETY: as in `relocate`, but that the call only reads.
     let told = unsafe {
         explain(
-            stored.c,
+            stored.c(),
             stored.edition,
             call.section.as_ptr(),
             call.section.len(),
@@ -292,7 +293,7 @@ pub fn explain_frame<F>(
     // SAFETY: as in `relocate`, but that the rows alone are written, which are one more slice.
     let answer = unsafe {
         treskibben_edition_explain_frame(
-            stored.c,
+            stored.c(),
             stored.edition,
             call.section.as_ptr(),
             call.section.len(),
@@ -324,7 +325,7 @@ pub fn explain_thread<F>(
     // SAFETY: as in `explain_frame`. The frames are one more list.
     let answer = unsafe {
         treskibben_edition_explain_thread(
-            stored.c,
+            stored.c(),
             stored.edition,
             call.section.as_ptr(),
             call.section.len(),

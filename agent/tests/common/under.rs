@@ -2,6 +2,8 @@
 
 #[path = "by_edition.rs"]
 pub mod by_edition;
+#[path = "stored.rs"]
+pub mod stored;
 #[path = "stores.rs"]
 pub mod stores;
 
@@ -10,7 +12,7 @@ use generator::frames::Scene;
 use generator::Version;
 use reference::editions::Settings;
 use reference::restore::Restore;
-use stores::Stored;
+use stored::Stored;
 use treskibben::{Frame, Frames, Index};
 
 pub type Answer = Result<u64, (u64, u64)>;

@@ -4,7 +4,8 @@
 
 use crate::common::{assert_often, count_random, say};
 use crate::controlled::check;
-use crate::{edition, Bench};
+use crate::under::stored::Stored;
+use crate::Bench;
 use generator::frames::bench::{self, Breach, MOST_RECORDS};
 use generator::frames::Scene;
 use generator::{Rng, Version};
@@ -116,7 +117,7 @@ fn run(rng: &mut Rng, counts: &mut Counts) {
             (scene, first, WAYS * one + two)
         }
     };
-    let (section, stored) = (scene.section.encode(), edition(256, 0, [true, true]));
+    let (section, stored) = (scene.section.encode(), Stored::one(256, 0, [true, true]));
     let of_section = Scene {
         machine: 0,
         ..scene.clone()

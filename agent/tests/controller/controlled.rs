@@ -3,7 +3,8 @@
 
 use crate::calls::{Call, Moves, Outcome};
 use crate::common::differ;
-use crate::under::stores::{Store, Stored};
+use crate::under::stored::Stored;
+use crate::under::stores::Raw;
 use crate::under::{answer, answer_of_second, both, of_second, Answer, Under};
 use reference::bench;
 use reference::restore::Restore;
@@ -23,12 +24,12 @@ struct Told([u64; 3]);
 
 /// The calls as C has them: they take every number for a machine, and the safe ones only those of the two.
 mod raw {
-    use super::{Frame, Store, Told};
+    use super::{Frame, Raw, Told};
 
     extern "C" {
         pub fn treskibben_controller_check(section: *const u8, length: usize) -> Told;
         pub fn treskibben_controller_relocate(
-            store: Store,
+            store: Raw,
             edition: u64,
             section: *const u8,
             length: usize,
@@ -45,7 +46,7 @@ mod raw {
             registers_length: usize,
         ) -> Told;
         pub fn treskibben_controller_thread(
-            store: Store,
+            store: Raw,
             edition: u64,
             section: *const u8,
             length: usize,
@@ -99,7 +100,7 @@ impl Moves for Controlled<'_, Frame> {
         // the registers' alone for writing; store and declaration are those of `treskibben.h`.
         let c = |image: &mut [u8], registers: &mut [u64]| unsafe {
             raw::treskibben_controller_relocate(
-                stored.c,
+                stored.c(),
                 stored.edition,
                 call.section.as_ptr(),
                 call.section.len(),
@@ -145,7 +146,7 @@ impl Moves for Controlled<'_, &[u64]> {
         // SAFETY: as for a frame. The frames are one more list.
         let c = |image: &mut [u8], registers: &mut [u64]| unsafe {
             raw::treskibben_controller_thread(
-                stored.c,
+                stored.c(),
                 stored.edition,
                 call.section.as_ptr(),
                 call.section.len(),

@@ -4,7 +4,8 @@
 use crate::calls::Outcome;
 use crate::common::{assert_often, count_random, say};
 use crate::controlled::check;
-use crate::{edition, Bench};
+use crate::under::stored::Stored;
+use crate::Bench;
 use generator::frames::thread::Thread;
 use generator::frames::{Scene, Stop, Table, REGISTERS};
 use generator::layout::{Function, Location, Record, Section};
@@ -143,7 +144,7 @@ pub fn scene(rng: &mut Rng, points: &[Point], at: usize) -> Scene {
 
 /// Checks the section, moves the frame and a thread of it alone, or of none, and compares them with what is known.
 pub fn expect(scene: &Scene) -> Outcome {
-    let (section, stored) = (scene.section.encode(), edition(256, 0, [false, true]));
+    let (section, stored) = (scene.section.encode(), Stored::one(256, 0, [false, true]));
     let it = Bench::of(scene, &section, &stored);
     assert_eq!(check(&section), it.judged().err().unwrap_or((0, 0)));
     if scene.stops.is_empty() {

@@ -2,7 +2,7 @@
 //! faults and with any of them. The earliest in this order is given, to a frame and to a thread.
 
 use crate::common::{assert_often, count_random, say};
-use crate::under::stores::Stored;
+use crate::under::stored::Stored;
 use crate::Bench;
 use generator::editions::Settings;
 use generator::frames::bench::{self, Breach};

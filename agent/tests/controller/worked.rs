@@ -2,7 +2,7 @@
 
 use crate::calls::{Call, Outcome};
 use crate::controlled::{check, compare, Controlled};
-use crate::under::stores::Stored;
+use crate::under::stored::Stored;
 use generator::editions::Settings;
 use generator::frames::named::Named;
 use generator::Rng;

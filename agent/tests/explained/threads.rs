@@ -3,7 +3,7 @@
 use crate::calls::Call;
 use crate::common::{count_random, say};
 use crate::thread_cases::case;
-use crate::under::stores::Stored;
+use crate::under::stored::Stored;
 use crate::under::{by_edition, known_under, restore, Under};
 use crate::{compare, content, new_content, room, row_of_rust, row_of_second, rows_known, store};
 use crate::{Rows, ROW, SLOT};

@@ -4,7 +4,7 @@
 use crate::calls::Replay;
 use crate::common::{assert_often, count_random, say};
 use crate::edition;
-use crate::stores::Stored;
+use crate::stored::Stored;
 use generator::traces::{Item, Trace, ANSWER, END, FRAME};
 use generator::{damage, Rng};
 

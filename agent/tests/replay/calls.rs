@@ -1,7 +1,8 @@
 //! One replay: by the library, as C has it and as Rust has it, and by the second implementation.
 
 use crate::common::differ;
-use crate::stores::{Store, Stored};
+use crate::stored::Stored;
+use crate::stores::Raw;
 use generator::traces::Trace;
 use reference::replay::{parse, replay, Recorded};
 use reference::restore::Restore;
@@ -44,7 +45,7 @@ struct Told(Numbers);
 
 extern "C" {
     fn treskibben_edition_replay(
-        store: Store,
+        store: Raw,
         edition: u64,
         section: *const u8,
         length: usize,
@@ -92,7 +93,7 @@ impl<'a> Replay<'a> {
         // for writing; the store is the struct of `treskibben.h`, and so is the declaration.
         let told = unsafe {
             treskibben_edition_replay(
-                self.stored.c,
+                self.stored.c(),
                 self.stored.edition,
                 self.section.as_ptr(),
                 self.section.len(),

@@ -1,7 +1,7 @@
 //! Replays of row I by hand: what is compared, what comes before what, and what the image is after it.
 
 use crate::calls::{Outcome, Replay};
-use crate::stores::Stored;
+use crate::stored::Stored;
 use generator::editions::Settings;
 use generator::frames::named::Named;
 use generator::Rng;

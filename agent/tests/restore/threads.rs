@@ -4,7 +4,7 @@ use crate::calls::{Call, Moves, Outcome};
 use crate::common::{assert_often, count_random, say};
 use crate::store;
 use crate::thread_cases::case;
-use crate::under::stores::Stored;
+use crate::under::stored::Stored;
 use crate::under::{known_under, Indexed, Under};
 use generator::frames::thread::Thread;
 use generator::indexes::{self, right};
