@@ -5,6 +5,7 @@ mod check;
 mod completions;
 mod cut;
 mod edition;
+mod explain;
 mod find;
 mod flat;
 mod index;
@@ -28,6 +29,7 @@ pub enum Command {
     Edition(edition::Arguments),
     Report(report::Arguments),
     Join(join::Arguments),
+    Explain(explain::Arguments),
     Restore(restore::Arguments),
     Completions(completions::Arguments),
 }
@@ -43,6 +45,7 @@ impl Command {
             Command::Flat(arguments) => arguments.json(),
             Command::Edition(arguments) => arguments.json(),
             Command::Report(arguments) => arguments.json,
+            Command::Explain(arguments) => arguments.json,
             Command::Restore(arguments) => arguments.json,
             Command::Build(_) | Command::Index(_) | Command::Join(_) | Command::Completions(_) => {
                 false
@@ -68,6 +71,7 @@ impl Command {
             Command::Edition(arguments) => edition::run(&arguments, voice),
             Command::Report(arguments) => report::run(&arguments, voice),
             Command::Join(arguments) => join::run(&arguments),
+            Command::Explain(arguments) => explain::run(&arguments, voice),
             Command::Restore(arguments) => restore::run(&arguments, voice),
             Command::Completions(arguments) => completions::run(&arguments),
         }

@@ -1,8 +1,11 @@
 //! `restore`: a stack image whose frames are moved, all of them or none.
 
+mod left;
 mod place;
 mod single;
 
+use super::explain;
+use crate::explain::{text, Report};
 use crate::inputs::{Given, Inputs, Moved};
 use crate::library;
 use crate::names::shown;
@@ -10,6 +13,7 @@ use crate::numbers::count;
 use crate::receipt::{self, Receipt};
 use crate::trouble::{say, Refused, Status, Trouble, Voice};
 use crate::{files, found, json, listing, output};
+use left::{Left, What};
 use place::Target;
 use std::path::{Path, PathBuf};
 
@@ -31,7 +35,8 @@ use std::path::{Path, PathBuf};
 /// its position in the list, counted from 0.
 #[derive(clap::Args)]
 #[command(override_usage = USAGE)]
-#[command(group = clap::ArgGroup::new("where").required(true).args(["into", "output", "in_place"]))]
+#[command(group = clap::ArgGroup::new("where").required(true).multiple(true)
+    .args(["into", "output", "in_place", "dry_run"]))]
 pub struct Arguments {
     #[command(flatten)]
     given: Given,
@@ -40,14 +45,26 @@ pub struct Arguments {
     ///
     /// It is made, or is empty. In it are the files 'image', 'frames' and 'image.receipt.json'. It is the
     /// only way where a register changes: image and registers are of one moment.
-    #[arg(long, value_name = "DIR")]
+    #[arg(long, value_name = "DIR", conflicts_with_all = ["output", "in_place"])]
     into: Option<PathBuf>,
     /// Write the new image to a file that must not exist yet, and never touch the old one
-    #[arg(long, value_name = "NEW")]
+    #[arg(long, value_name = "NEW", conflicts_with = "in_place")]
     output: Option<PathBuf>,
     /// Replace the old image by the new one, in one step
     #[arg(long)]
     in_place: bool,
+    /// Tell why each slot would move or stay, and write nothing
+    ///
+    /// It tells what 'treskibben explain' tells of the same files. Where it is also said where the new image
+    /// would go, what the restore would be refused by there is told too.
+    #[arg(long, conflicts_with = "report")]
+    dry_run: bool,
+    /// Leave the report of all slots beside the new image: what --dry-run tells, as text
+    ///
+    /// With --into it is the name of a file in that folder, which gets its name with all that is in it. Else it
+    /// is a file that must not exist yet, and it is in place before the image. Its SHA-256 is in the receipt.
+    #[arg(long, value_name = "FILE")]
+    report: Option<PathBuf>,
     /// Restore an image whose receipt tells that it was restored already
     ///
     /// So it is from the second call on where a thread's frames stand in several sections, which have
@@ -65,7 +82,7 @@ pub struct Arguments {
 const USAGE: &str = "\
 treskibben restore --section FILE --image FILE --first ADDRESS
            --moves FILE [--moves FILE..] --frames FILE
-           --into DIR | --output NEW | --in-place [OPTIONS]";
+           --into DIR | --output NEW | --in-place | --dry-run [OPTIONS]";
 
 /// A call, and all that it reads but for the image.
 struct Call<'a> {
@@ -76,13 +93,20 @@ struct Call<'a> {
 pub fn run(arguments: &Arguments, voice: Voice) -> Result<Status, Trouble> {
     let inputs = Inputs::read(&arguments.given)?;
     let call = Call { arguments, inputs };
+    let report = arguments.report.as_deref();
+    let report = report.map(|named| left::path_of("--report", named, arguments));
+    let report = report.transpose()?;
     let mut target = Target::open(arguments)?;
     let image = target.read()?;
     match call.move_frames(image, voice) {
+        Ok(moved) if arguments.dry_run => {
+            explain::tell(&Report::of_thread(&call.inputs, &moved)?, voice)
+        }
         Ok(moved) => {
-            let receipt = call.receipt(&moved, &target);
-            target.put(&moved.after, &moved.frames_after, &receipt)?;
-            call.tell(&moved, &target, voice);
+            let left = call.left(&moved, report)?;
+            let receipt = call.receipt(&moved, &target, &left);
+            target.put(&moved.after, &moved.frames_after, &receipt, &left)?;
+            call.tell(&moved, &target, &left, voice);
             Ok(Status::Done)
         }
         Err(trouble) => {
@@ -119,7 +143,11 @@ impl Call<'_> {
     /// Only a folder takes image and registers in one step, so that without one a change of a register is
     /// refused.
     fn changes_no_register(&self, moved: &Moved) -> Result<(), Trouble> {
-        let (Some(change), None) = (moved.changed.first(), &self.arguments.into) else {
+        let Arguments {
+            output, in_place, ..
+        } = self.arguments;
+        let alone = output.is_some() || *in_place;
+        let Some(change) = moved.changed.first().filter(|_| alone) else {
             return Ok(());
         };
         let name = self.inputs.machine.register(change.register);
@@ -167,7 +195,20 @@ impl Call<'_> {
         }
     }
 
-    fn receipt(&self, moved: &Moved, target: &Target) -> Receipt {
+    /// The files that are left beside the new image.
+    fn left(&self, moved: &Moved, report: Option<PathBuf>) -> Result<Vec<Left>, Trouble> {
+        let Some(path) = report else {
+            return Ok(Vec::new());
+        };
+        let report = Report::of_thread(&self.inputs, moved)?;
+        let mut bytes = Vec::new();
+        text::report(&mut bytes, &report)
+            .map_err(|error| Trouble::file(&path, "cannot be written", error))?;
+        let what = What::Report;
+        Ok(vec![Left { what, path, bytes }])
+    }
+
+    fn receipt(&self, moved: &Moved, target: &Target, left: &[Left]) -> Receipt {
         let (entry, inputs) = (receipt::Entry::of, &self.inputs);
         let (given, frames) = (inputs.given, moved.frames_after.as_bytes());
         let [section, moves, frames_before] = inputs.entries();
@@ -183,7 +224,7 @@ impl Call<'_> {
             before: entry(&given.image, &moved.before),
             after: entry(&target.image(), &moved.after),
             frames_after: target.frames().map(|path| entry(&path, frames)),
-            report: None,
+            report: left::find(left, What::Report).map(|left| entry(&left.path, &left.bytes)),
             moved_frames: moved.frames,
             moved_pointers: moved.pointers,
             moved_registers: moved.changed.len() as u64,
@@ -191,7 +232,7 @@ impl Call<'_> {
     }
 
     /// Tells what was done. It is done, whether anybody hears of it or not.
-    fn tell(&self, moved: &Moved, target: &Target, voice: Voice) {
+    fn tell(&self, moved: &Moved, target: &Target, left: &[Left], voice: Voice) {
         let (new_frames, registers) = (target.frames(), moved.changed.len() as u64);
         let _ = match voice {
             Voice::Text => {
@@ -217,6 +258,7 @@ impl Call<'_> {
                 pointers: moved.pointers,
                 registers,
                 edition: self.inputs.chosen.told(),
+                report: left::find(left, What::Report).map(|left| json::name(&left.path)),
             }),
         };
     }
