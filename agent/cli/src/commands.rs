@@ -10,8 +10,10 @@ mod flat;
 mod index;
 mod join;
 mod list;
+mod replay;
 mod report;
 mod restore;
+mod trace;
 
 use crate::trouble::{Status, Trouble, Voice};
 
@@ -29,6 +31,8 @@ pub enum Command {
     Report(report::Arguments),
     Join(join::Arguments),
     Restore(restore::Arguments),
+    Replay(replay::Arguments),
+    Trace(trace::Arguments),
     Completions(completions::Arguments),
 }
 
@@ -44,6 +48,8 @@ impl Command {
             Command::Edition(arguments) => arguments.json(),
             Command::Report(arguments) => arguments.json,
             Command::Restore(arguments) => arguments.json,
+            Command::Replay(arguments) => arguments.json,
+            Command::Trace(arguments) => arguments.json,
             Command::Build(_) | Command::Index(_) | Command::Join(_) | Command::Completions(_) => {
                 false
             }
@@ -69,6 +75,8 @@ impl Command {
             Command::Report(arguments) => report::run(&arguments, voice),
             Command::Join(arguments) => join::run(&arguments),
             Command::Restore(arguments) => restore::run(&arguments, voice),
+            Command::Replay(arguments) => replay::run(&arguments, voice),
+            Command::Trace(arguments) => trace::run(&arguments, voice),
             Command::Completions(arguments) => completions::run(&arguments),
         }
     }

@@ -20,6 +20,9 @@ pub enum Answer<'a> {
     /// `check`: a section.
     Accepted {
         file: &'a str,
+        /// The profile that it was held against too.
+        #[serde(skip_serializing_if = "Option::is_none")]
+        profile: Option<&'static str>,
     },
     /// Any command: what was refused.
     Refused(Refusal<'a>),

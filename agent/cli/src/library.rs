@@ -2,6 +2,13 @@
 //!
 //! Every answer on a section, a listing or a frame comes from the crate `treskibben`.
 
+mod profiles;
+mod traces;
+
+pub use profiles::{check_profile, relocate_thread_in_profile};
+pub use traces::{machine_of, outcome, replay, steps_of, trace_of, widest};
+pub use traces::{Difference, Named, Recorded, Step};
+
 use crate::registers;
 use treskibben::{MoveTable, ThreadRefusal};
 

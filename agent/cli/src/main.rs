@@ -23,6 +23,7 @@ mod moves;
 mod names;
 mod numbers;
 mod output;
+mod profile;
 mod progress;
 mod receipt;
 mod registers;
@@ -30,6 +31,7 @@ mod replace;
 mod report;
 mod system;
 mod text;
+mod trace;
 mod trouble;
 
 use clap::error::ErrorKind;
