@@ -849,6 +849,283 @@ typedef struct treskibben_edition_read_answer {
 treskibben_edition_read_answer treskibben_edition_read(treskibben_editions store, uint64_t edition);
 
 /*
+ * Restores by edition.
+ *
+ * The calls of this part are those above that move frames or tell why, under an edition of a store. The store
+ * is handed over by value and first, as to treskibben_edition_read, and is not changed; the number of the
+ * edition comes next. Everything else is lent, written and answered as by the call without an edition, but
+ * for three refusals:
+ *
+ *   number  when                                                     place
+ *   31      the store has no edition of that number, before all      0
+ *           else; treskibben_edition_read says when
+ *   1 to 9  the refusal that treskibben_check gives the section      as there
+ *   33      the edition doesn't allow the version of the section,    0
+ *           or is of another machine; so every number but 0 and 1
+ *           is refused under every edition
+ *   13, ..  as without an edition, but that 17 reads the edition's   as there
+ *           count: more pointers than its `most`, null pairs
+ *           counting one each; of version 1, more pairs
+ *
+ * A size of 8N is of right form for N up to 256 under every edition: with N over `most` it is 17, and not 18.
+ * Under an edition with 256 that allows both versions, a call for its machine answers as without one.
+ */
+
+/*
+ * Moves the pointers of one frame as treskibben_relocate does. The order of refusals: 31, 1 to 9, 33, 13, 14, 25,
+ * 10, 15, 12, 16, 18, 17, 19, 20, 21; of version 1, 17 comes before 18.
+ */
+treskibben_answer treskibben_edition_relocate(
+    treskibben_editions store, uint64_t edition, const uint8_t *section, size_t length,
+    uint8_t *image, size_t image_length, uint64_t first, const uint64_t *old_starts,
+    size_t old_count, const uint64_t *new_starts, size_t new_count, uint64_t machine,
+    treskibben_frame frame, uint64_t *registers, size_t registers_length);
+
+/*
+ * Moves the pointers of a whole thread as treskibben_thread does, all of its frames or none. The order of
+ * refusals: 31, 1 to 9, 33, 13, 14, 25, the first refused frame's own at its position, 26 at a position.
+ */
+treskibben_answer treskibben_edition_thread(
+    treskibben_editions store, uint64_t edition, const uint8_t *section, size_t length,
+    uint8_t *image, size_t image_length, uint64_t first, const uint64_t *old_starts,
+    size_t old_count, const uint64_t *new_starts, size_t new_count, uint64_t machine,
+    const uint64_t *frames, size_t frames_length, uint64_t *registers, size_t registers_length);
+
+/*
+ * The same with an index of the section, as treskibben_thread_by_index does: 27 and then 29 stand between 14
+ * and 25.
+ */
+treskibben_answer treskibben_edition_thread_by_index(
+    treskibben_editions store, uint64_t edition, const uint8_t *section, size_t length,
+    uint8_t *image, size_t image_length, uint64_t first, const uint64_t *old_starts,
+    size_t old_count, const uint64_t *new_starts, size_t new_count, uint64_t machine,
+    const uint64_t *frames, size_t frames_length, uint64_t *registers, size_t registers_length,
+    const uint64_t *index, size_t index_length);
+
+/*
+ * The reason of the slot that begins at this address, as treskibben_explain_address tells it. A refused frame
+ * has the number and the place that treskibben_edition_relocate would give.
+ */
+treskibben_reason treskibben_edition_explain_address(
+    treskibben_editions store, uint64_t edition, const uint8_t *section, size_t length,
+    const uint8_t *image, size_t image_length, uint64_t first, const uint64_t *old_starts,
+    size_t old_count, const uint64_t *new_starts, size_t new_count, uint64_t machine,
+    treskibben_frame frame, const uint64_t *registers, size_t registers_length, uint64_t address);
+
+/* The reason of the register with this DWARF number. All else is as above. */
+treskibben_reason treskibben_edition_explain_register(
+    treskibben_editions store, uint64_t edition, const uint8_t *section, size_t length,
+    const uint8_t *image, size_t image_length, uint64_t first, const uint64_t *old_starts,
+    size_t old_count, const uint64_t *new_starts, size_t new_count, uint64_t machine,
+    treskibben_frame frame, const uint64_t *registers, size_t registers_length,
+    uint64_t dwarf_register);
+
+/*
+ * A whole frame or thread explained.
+ *
+ * One call tells why each slot of each pointer moves or does not: what treskibben_edition_explain_address and
+ * treskibben_edition_explain_register would tell of it, its pair, and what it holds.
+ *
+ * The answer is written to a list of numbers, TRESKIBBEN_ROW of them for each pointer: the pointers of a frame
+ * in the order of its pairs, those of a pair in rising address order, and the frames in the order of their
+ * list. An array of treskibben_explained_pointer is such a list, of sixteen times as many numbers as it has
+ * entries. A null pair is one pointer without slots: all of its numbers after the first two are 0.
+ */
+#define TRESKIBBEN_ROW 16
+#define TRESKIBBEN_SLOT_NONE UINT64_C(0)
+#define TRESKIBBEN_SLOT_MEMORY UINT64_C(1)
+#define TRESKIBBEN_SLOT_REGISTER UINT64_C(2)
+
+/*
+ * A slot of a pointer.
+ *
+ * kind:     one of the three above; none for a null pair alone.
+ * slot:     of memory, the address of its first byte; of a register, its DWARF number.
+ * content:  what it holds before the move.
+ * reason:   moved, null base or only base, by the numbers of the reasons above: a slot of a pointer is never
+ *           unlisted, and a frame that is refused has no rows. 0 for a null pair.
+ * pair, old_base, new_base: of moved, as treskibben_reason has them; else 0.
+ */
+typedef struct treskibben_explained_slot {
+    uint64_t kind;
+    uint64_t slot;
+    uint64_t content;
+    uint64_t reason;
+    uint64_t pair;
+    uint64_t old_base;
+    uint64_t new_base;
+} treskibben_explained_slot;
+
+/*
+ * A pointer, as its row in the list has it.
+ *
+ * frame:    the position of its frame in the list of frames, counted from 0; 0 in the call for one frame.
+ * pair:     the number of its pair, counted from 0 in its record.
+ * base:     the slot of its base.
+ * derived:  its own slot, which is derived from that.
+ */
+typedef struct treskibben_explained_pointer {
+    uint64_t frame;
+    uint64_t pair;
+    treskibben_explained_slot base;
+    treskibben_explained_slot derived;
+} treskibben_explained_pointer;
+
+/*
+ * Explains one frame. `value` is how many numbers are written to the beginning of the `rows_length` numbers at
+ * `rows`: sixteen for each pointer, so at most 4,096.
+ *
+ * Everything is lent as to treskibben_edition_explain_address, and the rows as an output is to a conversion:
+ * aligned, not NULL, and without a byte of anything else that is lent. Numbers beyond those that are written
+ * are unchanged, and on a refusal all of them are. Nothing else is written.
+ *
+ * The answer is the first of these that holds, in this order:
+ *
+ *   number  when                                                     place
+ *   31, 1 to 9, 33, 13, 14, 25, 10, 15, 12, 16, 18, 17, 19 to 21     as there
+ *           the refusal that treskibben_edition_relocate would give
+ *   24      rows_length under sixteen for each pointer               0
+ *   0       the rows are written                                     0
+ */
+treskibben_answer treskibben_edition_explain_frame(
+    treskibben_editions store, uint64_t edition, const uint8_t *section, size_t length,
+    const uint8_t *image, size_t image_length, uint64_t first, const uint64_t *old_starts,
+    size_t old_count, const uint64_t *new_starts, size_t new_count, uint64_t machine,
+    treskibben_frame frame, const uint64_t *registers, size_t registers_length, uint64_t *rows,
+    size_t rows_length);
+
+/*
+ * Explains a whole thread: the rows of its frames, in the order of the list, each told of the image as lent.
+ * `value` and the rows are as above, at most 4,096 numbers for each frame.
+ *
+ *   number  when                                                     place
+ *   31, 1 to 9, 33, 13, 14, 25, the first refused frame's own, 26    as there
+ *           the refusal that treskibben_edition_thread would give
+ *   24      rows_length under sixteen for each pointer of all        0
+ *           frames
+ *   0       the rows are written                                     0
+ */
+treskibben_answer treskibben_edition_explain_thread(
+    treskibben_editions store, uint64_t edition, const uint8_t *section, size_t length,
+    const uint8_t *image, size_t image_length, uint64_t first, const uint64_t *old_starts,
+    size_t old_count, const uint64_t *new_starts, size_t new_count, uint64_t machine,
+    const uint64_t *frames, size_t frames_length, const uint64_t *registers,
+    size_t registers_length, uint64_t *rows, size_t rows_length);
+
+/*
+ * Replay of a recorded restore.
+ *
+ * A trace is a row of items, each a byte of kind and a body whose length the kind fixes; all numbers are
+ * little-endian:
+ *
+ *   kind  item    body
+ *   1     frame   machine, 1 byte, 0 AMD64 or 1 AArch64; address, 8 bytes; function number, 8 bytes; 32
+ *                 registers of 8 bytes: 273 bytes in all
+ *   2     answer  the number of a refusal or 0, 1 byte; its place, or of 0 the count of pointers, 8 bytes
+ *   3     end     none
+ *
+ * Each frame is followed by its answer, and the end stands last and once.
+ */
+
+/*
+ * What a replay answers.
+ *
+ * number:  0, or 35 where the trace is broken.
+ * place:   of 35, the first byte of the first bad item; else 0.
+ * differs: 1 where an answer differs from the recorded one, else 0. The fields below are 0 then.
+ * item:    the first answer item that differs, counted from 0 among the answers.
+ * now:     the number of the refusal that the frame gets now, or 0.
+ * value:   its place, or of 0 the count of pointers.
+ */
+typedef struct treskibben_replay_answer {
+    uint64_t number;
+    uint64_t place;
+    uint64_t differs;
+    uint64_t item;
+    uint64_t now;
+    uint64_t value;
+} treskibben_replay_answer;
+
+/*
+ * Moves each frame of a trace, one after another, each on the image that the one before has left and with the
+ * registers of its item, as treskibben_edition_relocate does; and tells the first answer item that differs from
+ * the answer that its frame gets. After a difference the frames are moved all the same: the image ends as
+ * the frames moved one by one leave it. The registers that they leave are dropped.
+ *
+ * The trace is `trace_length` bytes at `trace`, lent as the section is. Everything else is lent as to
+ * treskibben_edition_relocate. The machine is that of each frame's item.
+ *
+ *   number  when                                                     place
+ *   35      the trace is broken, before all else: an item of         the first byte of the first
+ *           unknown kind, one that is cut, a frame whose machine     bad item; of a missing one the
+ *           is neither 0 nor 1, one that may not stand where it      trace's length
+ *           does, a missing one, or anything after the end. The
+ *           image is unchanged
+ *   0       the frames are moved                                     0
+ *
+ * Every other refusal, 31 too, is an answer of a frame, which is compared.
+ */
+treskibben_replay_answer treskibben_edition_replay(
+    treskibben_editions store, uint64_t edition, const uint8_t *section, size_t length,
+    uint8_t *image, size_t image_length, uint64_t first, const uint64_t *old_starts,
+    size_t old_count, const uint64_t *new_starts, size_t new_count, const uint8_t *trace,
+    size_t trace_length);
+
+/*
+ * The bench controller.
+ *
+ * It serves one product, whose sections keep a profile: version 3; at most 64 records; each of them a
+ * statepoint whose pairs are of right form on AMD64, with at most 16 pointers, null pairs counting one each;
+ * and record addresses that rise strictly. Frames are of AMD64 alone. What keeps the profile is moved exactly as
+ * by the calls of the same name without it.
+ */
+
+/*
+ * Checks that the bytes are a whole section, and that it keeps the profile. `value` is 0. `section` and `length`
+ * are lent as to treskibben_check.
+ *
+ *   number  when                                                     place
+ *   1 to 9  the refusal that treskibben_check gives the section      as there
+ *   50      version not 3                                            0
+ *   50      a record breaks the profile: it is number 64, is no      the lowest such record
+ *           statepoint, has a pair that 18 would refuse or over 16
+ *           pointers, or its address isn't over that of the record
+ *           before it
+ *   0       the section keeps the profile                            0
+ */
+treskibben_answer treskibben_controller_check(const uint8_t *section, size_t length);
+
+/*
+ * Moves the pointers of one frame as treskibben_edition_relocate does, where the profile is kept.
+ *
+ *   number  when                                                     place
+ *   31, 1 to 9                                                       as for
+ *           as for treskibben_edition_relocate                       treskibben_edition_relocate
+ *   50      version not 3, or machine not 0                          0
+ *   50      a record breaks the profile, whichever record is the     the lowest such record
+ *           frame's
+ *   33, 13, 14, 25, 10, 16, 17, 19, 20, 21, 0                        as for
+ *           as for treskibben_edition_relocate: 15, 12 and 18        treskibben_edition_relocate
+ *           can't be any more, and 17 can only under an edition
+ *           with fewer than 16
+ */
+treskibben_answer treskibben_controller_relocate(
+    treskibben_editions store, uint64_t edition, const uint8_t *section, size_t length,
+    uint8_t *image, size_t image_length, uint64_t first, const uint64_t *old_starts,
+    size_t old_count, const uint64_t *new_starts, size_t new_count, uint64_t machine,
+    treskibben_frame frame, uint64_t *registers, size_t registers_length);
+
+/*
+ * Moves the pointers of a whole thread as treskibben_edition_thread does, where the profile is kept: 50 stands
+ * between 1 to 9 and 33.
+ */
+treskibben_answer treskibben_controller_thread(
+    treskibben_editions store, uint64_t edition, const uint8_t *section, size_t length,
+    uint8_t *image, size_t image_length, uint64_t first, const uint64_t *old_starts,
+    size_t old_count, const uint64_t *new_starts, size_t new_count, uint64_t machine,
+    const uint64_t *frames, size_t frames_length, uint64_t *registers, size_t registers_length);
+
+/*
  * The monthly report.
  *
  * A report counts over many sections, of versions 3 and 1, one call a section. Its totals go through the calls

@@ -6,6 +6,7 @@
 use crate::library::Found;
 use crate::listing::{self, role, Listing, Role};
 use crate::names::shown;
+use crate::receipt::Edition;
 use crate::registers::Machine;
 use crate::text::UNKNOWN;
 use crate::trouble::{Fault, Refused};
@@ -87,6 +88,7 @@ pub enum Answer<'a> {
         frames: u64,
         pointers: u64,
         registers: u64,
+        edition: Option<Edition>,
     },
 }
 

@@ -15,6 +15,7 @@ mod folder;
 mod found;
 mod frames;
 mod index;
+mod inputs;
 mod json;
 mod library;
 mod listing;

@@ -1,11 +1,11 @@
 //! `replay`: a recorded restore, done once more.
 
-mod named;
 mod now;
 
 use crate::found::length;
 use crate::frames::Naming;
-use crate::library::{self, Difference, Step};
+use crate::inputs::Chosen;
+use crate::library::{self, Difference, Restore, Step};
 use crate::moves::Moves;
 use crate::names::shown;
 use crate::numbers::{address, count, whole};
@@ -13,7 +13,6 @@ use crate::trace::objects::{Answer, Frame, Told};
 use crate::trace::{self, text};
 use crate::trouble::{Status, Trouble, Voice};
 use crate::{files, json, output};
-use named::Edition;
 use std::path::{Path, PathBuf};
 
 /// Replay a recorded restore on the old image, and say whether it is answered as recorded
@@ -76,22 +75,23 @@ struct Inputs<'a> {
 
 pub fn run(arguments: &Arguments, voice: Voice) -> Result<Status, Trouble> {
     let inputs = Inputs::read(arguments)?;
-    let edition = Edition::read(arguments)?;
     let steps = trace::steps(&arguments.trace, &inputs.trace)?;
-    let edition = edition.unwrap_or_else(|| Edition::widest(&steps));
+    let machine = steps.first().map(|step| library::machine_of(step.machine));
+    let machine = machine.unwrap_or_default();
+    let chosen = Chosen::of(arguments.store.as_deref(), arguments.edition, machine)?;
+    let restore = Restore {
+        edition: chosen.edition(),
+        section: &inputs.section,
+        first: arguments.first,
+        table: &inputs.moves.table,
+        machine,
+    };
     let mut image = inputs.image.clone();
-    let differs = library::replay(
-        edition.named(),
-        &inputs.section,
-        &mut image,
-        arguments.first,
-        &inputs.moves.table,
-        &inputs.trace,
-    );
+    let differs = restore.replay(&mut image, &inputs.trace);
     let differs = differs.map_err(|refusal| Trouble::refused(&arguments.trace, refusal, None))?;
     let answered = match differs {
         None => inputs.tell_same(&steps, voice)?,
-        Some(differs) => inputs.tell_difference(&steps, differs, &edition, voice)?,
+        Some(differs) => inputs.tell_difference(&steps, differs, &chosen, voice)?,
     };
     let moved = match &inputs.restored {
         None => Status::Done,
@@ -147,14 +147,14 @@ impl<'a> Inputs<'a> {
         &self,
         steps: &[Step],
         differs: Difference,
-        edition: &Edition,
+        chosen: &Chosen,
         voice: Voice,
     ) -> Result<Status, Trouble> {
         let (file, answers) = (&self.arguments.trace, steps.len());
         let number = usize::try_from(differs.item).unwrap_or(usize::MAX);
         let step = &steps[number];
         let refusal = library::outcome(differs.now).err();
-        let found = refusal.and_then(|refusal| self.found(step, refusal, edition));
+        let found = refusal.and_then(|refusal| self.found(step, refusal, chosen));
         let found = found.as_deref();
         match voice {
             Voice::Text => output::to(None, |out| {

@@ -59,7 +59,7 @@ impl Frame<'_> {
     pub fn of(number: usize, step: &Step) -> Frame<'_> {
         Frame {
             frame: number,
-            machine: library::machine_of(step).name(),
+            machine: library::machine_of(step.machine).name(),
             address: Hex(step.frame.address),
             function: Hex(step.frame.function),
             registers: Registers(step),

@@ -26,7 +26,7 @@ pub fn frame(
     naming: Option<Naming>,
 ) -> io::Result<()> {
     let (address, function) = (step.frame.address, step.frame.function);
-    let machine = library::machine_of(step).name();
+    let machine = library::machine_of(step.machine).name();
     let place = match naming {
         None => format!("address {address:#x}, function {function}"),
         Some(Naming::Address) => format!("address {address:#x}"),
@@ -43,7 +43,7 @@ pub fn frame(
 
 /// The registers of a frame that are not 0, by their names.
 pub fn registers(step: &Step) -> impl Iterator<Item = (String, u64)> + use<'_> {
-    let machine = library::machine_of(step);
+    let machine = library::machine_of(step.machine);
     let all = (0..).zip(&step.registers);
     let not_0 = all.filter(|(_, content)| **content != 0);
     not_0.map(move |(number, content)| (machine.register(number), *content))

@@ -1,17 +1,18 @@
 //! What was found where a frame of a replay is refused now. The library tells number and place; this is the wording
 //! beside it, worked out from the same files.
 
-use super::{Edition, Inputs};
+use super::Inputs;
 use crate::found::{self, Sizes};
 use crate::frames::{Line, Naming};
+use crate::inputs::Chosen;
 use crate::library::{self, Refusal, Step};
 use crate::names::shown;
 use crate::trace::text;
 
 impl Inputs<'_> {
-    pub fn found(&self, step: &Step, refusal: Refusal, edition: &Edition) -> Option<String> {
+    pub fn found(&self, step: &Step, refusal: Refusal, chosen: &Chosen) -> Option<String> {
         let (arguments, section) = (self.arguments, &self.section[..]);
-        let (naming, machine) = (Naming::of(section), library::machine_of(step));
+        let (naming, machine) = (Naming::of(section), library::machine_of(step.machine));
         let line = Line::of(step.frame, step.registers);
         match refusal.number {
             1..=9 => found::of_section(&arguments.section, section, refusal),
@@ -25,9 +26,12 @@ impl Inputs<'_> {
                 let sizes = Sizes::of(section, naming, machine);
                 sizes.outside(&line, arguments.first, self.image.len())
             }
-            17 => edition.too_many(),
-            31 => Some(edition.unknown()),
-            33 => edition.not_allowed(machine, section.first().copied()?),
+            17 => {
+                let (number, most) = (chosen.number()?, chosen.most());
+                Some(format!("edition {number} allows {most}"))
+            }
+            31 => Some(chosen.unknown()),
+            33 => chosen.not_allowed(section, machine),
             21 if self.moves.are_joined() => {
                 let pair = text::pair(&refusal)?;
                 Some(format!("{pair}, by the joined table"))

@@ -57,7 +57,7 @@ impl<'a> Target<'a> {
             None => Ok(Target::Single(Single::open(arguments)?)),
             Some(folder) => {
                 let folder = Folder::at(folder)?;
-                Ok(Target::Folder(folder, Old::open(&arguments.image)?))
+                Ok(Target::Folder(folder, Old::open(&arguments.given.image)?))
             }
         }
     }

@@ -27,7 +27,7 @@ pub enum Single<'a> {
 
 impl<'a> Single<'a> {
     pub fn open(arguments: &'a Arguments) -> Result<Single<'a>, Trouble> {
-        let image = arguments.image.as_path();
+        let image = arguments.given.image.as_path();
         let Some(output) = &arguments.output else {
             if files::is_standard_input(image) {
                 let why = "--in-place needs an image with a name: standard input has none";

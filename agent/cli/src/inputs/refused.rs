@@ -2,7 +2,7 @@
 
 use super::Inputs;
 use crate::found::{self, Sizes};
-use crate::library::{self, Refusal};
+use crate::library::Refusal;
 use crate::numbers::count;
 use crate::trouble::{Refused, Trouble};
 
@@ -22,20 +22,22 @@ impl Inputs<'_> {
 
     /// The file and, of 14, the line in it.
     fn of_file(&self, refusal: Refusal, image: &[u8]) -> Refused {
-        let arguments = self.arguments;
+        let given = self.given;
         let (file, found) = match refusal.number {
             13 => {
-                let found = found::of_image(&arguments.image, image, arguments.first);
-                (&arguments.image, Some(found))
+                let found = found::of_image(&given.image, image, given.first);
+                (&given.image, Some(found))
             }
             14 => return self.moves.at_fault(),
             25 => {
                 let frames = count(self.lines.len() as u64, "frame");
-                (&arguments.frames, Some(format!("it has {frames}")))
+                (&given.frames, Some(format!("it has {frames}")))
             }
+            31 => return self.of_edition(Some(self.chosen.unknown())),
+            33 => return self.of_edition(self.chosen.not_allowed(&self.section, self.machine)),
             _ => {
-                let found = found::of_section(&arguments.section, &self.section, refusal);
-                (&arguments.section, found)
+                let found = found::of_section(&given.section, &self.section, refusal);
+                (&given.section, found)
             }
         };
         Refused {
@@ -45,12 +47,21 @@ impl Inputs<'_> {
         }
     }
 
+    /// The store of the edition, and what was found.
+    fn of_edition(&self, found: Option<String>) -> Refused {
+        let store = self.chosen.file().unwrap_or(&self.given.section);
+        Refused {
+            file: store.to_path_buf(),
+            found,
+            ..Refused::default()
+        }
+    }
+
     /// A frame of the list: its line, the pair at fault, and what 16 and 26 found.
     fn of_frame(&self, refusal: Refusal, position: usize, image: &[u8]) -> Refused {
-        let (line, first) = (&self.lines[position].value, self.arguments.first);
-        let (section, table, machine) = (&self.section, &self.moves.table, self.machine);
+        let (line, first) = (&self.lines[position].value, self.given.first);
         let (frame, registers) = (line.frame, line.registers);
-        let pair = library::pair_at_fault(section, image, first, table, machine, frame, registers);
+        let pair = self.restore().pair_at_fault(image, frame, registers);
         let sizes = || Sizes::of(&self.section, self.naming, self.machine);
         let more = match refusal.number {
             10 => Some(self.naming.not_there(&self.section, &frame)),
@@ -73,7 +84,7 @@ impl Inputs<'_> {
         let more = more.map(|more| format!(": {more}")).unwrap_or_default();
         let words = self.naming.words(self.machine, &entry.value);
         Refused {
-            file: self.arguments.frames.clone(),
+            file: self.given.frames.clone(),
             line: Some(entry.line),
             frame: Some(position as u64),
             pair,
