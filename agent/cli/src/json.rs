@@ -85,6 +85,8 @@ pub enum Answer<'a> {
         #[serde(skip_serializing_if = "Option::is_none")]
         new_frames: Option<String>,
         receipt: &'a str,
+        #[serde(skip_serializing_if = "Option::is_none")]
+        trace: Option<String>,
         frames: u64,
         pointers: u64,
         registers: u64,

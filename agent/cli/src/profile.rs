@@ -1,6 +1,7 @@
 //! The bench controller's profile: what a section breaks where the library refuses it by 50. The library tells the
 //! record, and this is the wording: which of the rules the record breaks.
 
+use crate::frames::Naming;
 use crate::library;
 use crate::listing::{Listing, Location, Record};
 use crate::numbers::count;
@@ -28,9 +29,9 @@ const MACHINE: Machine = Machine::X86_64;
 const MOST_RECORDS: u64 = 64;
 const MOST_POINTERS: u64 = 16;
 
-/// Whether the profile is broken by the machine of the frames, in words.
-pub fn of_machine(machine: Machine) -> Option<String> {
-    (machine != MACHINE).then(|| {
+/// What 50 found of the machine of the frames, where the section is of the right version and that machine is not.
+pub fn of_machine(naming: Naming, machine: Machine) -> Option<String> {
+    (naming == Naming::Address && machine != MACHINE).then(|| {
         let (is, takes) = (machine.name(), MACHINE.name());
         format!("the frames are of {is}, and the profile takes {takes}")
     })
@@ -84,7 +85,7 @@ fn of_record(listing: &Listing, record: &Record) -> Option<String> {
 
 /// How many pointers a pair of version 3 has on a machine: a null pair one, another as many as its two equal sizes
 /// have room for; nothing where it is of wrong form.
-pub fn pointers_of(listing: &Listing, pair: &[Location], machine: Machine) -> Option<u64> {
+fn pointers_of(listing: &Listing, pair: &[Location], machine: Machine) -> Option<u64> {
     let is_null = pair.iter().all(|one| listing.constant(one) == Some(0));
     if is_null {
         return Some(1);

@@ -159,7 +159,7 @@ impl<'a> Inputs<'a> {
         match voice {
             Voice::Text => output::to(None, |out| {
                 let name = shown(file);
-                writeln!(out, "{name}: answer {number} differs, of {answers}")?;
+                writeln!(out, "{name}: differs in answer {number} of {answers}")?;
                 text::frame(out, number, step, Some(Naming::of(&self.section)))?;
                 writeln!(out, "  recorded: {}", text::answer(step.answer, None))?;
                 writeln!(out, "  now: {}", text::answer(differs.now, found))

@@ -1,17 +1,21 @@
 //! `restore`: a stack image whose frames are moved, all of them or none.
 
+mod ahead;
 mod place;
 mod single;
+mod trace;
 
 use crate::inputs::{Given, Inputs, Moved};
 use crate::library;
 use crate::names::shown;
 use crate::numbers::count;
+use crate::profile::Profile;
 use crate::receipt::{self, Receipt};
 use crate::trouble::{say, Refused, Status, Trouble, Voice};
 use crate::{files, found, json, listing, output};
 use place::Target;
 use std::path::{Path, PathBuf};
+use trace::Trace;
 
 /// Move the frames of a stopped thread on its stack image
 ///
@@ -57,6 +61,18 @@ pub struct Arguments {
     /// Accept a list of no frames, which moves nothing
     #[arg(long)]
     allow_empty: bool,
+    /// Record the restore: each frame with its registers and its answer, in a file that must not exist yet
+    ///
+    /// It is there before the new image is, and not at all where the restore is refused. Where it is in the
+    /// folder of --into, it gets its name with it. 'treskibben replay' replays it on the old image.
+    #[arg(long, value_name = "FILE")]
+    trace: Option<PathBuf>,
+    /// Hold the section against a profile too, and refuse by 50 what is outside
+    ///
+    /// 'bench' is the bench controller's, as 'check --profile bench' tells it; frames of another machine than
+    /// x86-64 are outside too. 50 comes after 31 and 1 to 9, and before 33.
+    #[arg(long, value_name = "NAME", value_enum)]
+    profile: Option<Profile>,
     /// Tell the answer on standard output as one JSON object
     #[arg(long)]
     pub json: bool,
@@ -74,21 +90,30 @@ struct Call<'a> {
 }
 
 pub fn run(arguments: &Arguments, voice: Voice) -> Result<Status, Trouble> {
-    let inputs = Inputs::read(&arguments.given)?;
+    let mut inputs = Inputs::read(&arguments.given)?;
+    inputs.profile = arguments.profile;
     let call = Call { arguments, inputs };
     let mut target = Target::open(arguments)?;
+    let mut trace = Trace::open(arguments, &target)?;
     let image = target.read()?;
     match call.move_frames(image, voice) {
         Ok(moved) => {
-            let receipt = call.receipt(&moved, &target);
-            target.put(&moved.after, &moved.frames_after, &receipt)?;
-            call.tell(&moved, &target, voice);
+            if let Some(trace) = &mut trace {
+                trace.bytes = call.trace(&moved);
+            }
+            let trace = trace.as_ref();
+            let receipt = call.receipt(&moved, &target, trace);
+            target.put(&moved.after, &moved.frames_after, &receipt, trace)?;
+            call.tell(&moved, &target, trace, voice);
             Ok(Status::Done)
         }
         Err(trouble) => {
             let status = trouble.tell(voice);
             if status == Status::Refused && voice == Voice::Text {
                 say(&target.untouched());
+                if let Some(trace) = &trace {
+                    say(&format!("{}: is not written", shown(trace.path)));
+                }
             }
             Ok(status)
         }
@@ -167,7 +192,7 @@ impl Call<'_> {
         }
     }
 
-    fn receipt(&self, moved: &Moved, target: &Target) -> Receipt {
+    fn receipt(&self, moved: &Moved, target: &Target, trace: Option<&Trace>) -> Receipt {
         let (entry, inputs) = (receipt::Entry::of, &self.inputs);
         let (given, frames) = (inputs.given, moved.frames_after.as_bytes());
         let [section, moves, frames_before] = inputs.entries();
@@ -184,6 +209,8 @@ impl Call<'_> {
             after: entry(&target.image(), &moved.after),
             frames_after: target.frames().map(|path| entry(&path, frames)),
             report: None,
+            profile: inputs.profile.map(|profile| profile.name().to_string()),
+            trace: trace.map(|trace| entry(trace.path, &trace.bytes)),
             moved_frames: moved.frames,
             moved_pointers: moved.pointers,
             moved_registers: moved.changed.len() as u64,
@@ -191,7 +218,7 @@ impl Call<'_> {
     }
 
     /// Tells what was done. It is done, whether anybody hears of it or not.
-    fn tell(&self, moved: &Moved, target: &Target, voice: Voice) {
+    fn tell(&self, moved: &Moved, target: &Target, trace: Option<&Trace>, voice: Voice) {
         let (new_frames, registers) = (target.frames(), moved.changed.len() as u64);
         let _ = match voice {
             Voice::Text => {
@@ -204,8 +231,11 @@ impl Call<'_> {
                 let edition = self.inputs.chosen.number();
                 let edition = edition.map(|number| format!(", by edition {number}"));
                 let (named, edition) = (shown(target.named()), edition.unwrap_or_default());
+                let recorded =
+                    trace.map(|trace| format!("\n{}: {frames} recorded", shown(trace.path)));
+                let recorded = recorded.unwrap_or_default();
                 output::line(&format!(
-                    "{named}: {frames} moved, {pointers}{changed}{edition}"
+                    "{named}: {frames} moved, {pointers}{changed}{edition}{recorded}"
                 ))
             }
             Voice::Json => output::object(&json::Answer::Restored {
@@ -213,6 +243,7 @@ impl Call<'_> {
                 output: &json::name(&target.image()),
                 new_frames: new_frames.map(|path| json::name(&path)),
                 receipt: &json::name(&target.receipt()),
+                trace: trace.map(|trace| json::name(trace.path)),
                 frames: moved.frames,
                 pointers: moved.pointers,
                 registers,

@@ -1,12 +1,15 @@
 //! Where a restore goes: an image by itself, or a folder with all that is new.
 
+use super::ahead::Ahead;
 use super::single::Single;
+use super::trace::Trace;
 use super::Arguments;
 use crate::folder::Folder;
 use crate::names::shown;
 use crate::receipt::{self, Receipt};
 use crate::trouble::Trouble;
 use crate::{files, system};
+use std::ffi::OsStr;
 use std::fs::{File, Metadata, OpenOptions, Permissions};
 use std::io::{self, Write};
 use std::os::unix::fs::{MetadataExt, OpenOptionsExt, PermissionsExt};
@@ -110,13 +113,19 @@ impl<'a> Target<'a> {
         }
     }
 
-    /// Puts image and receipt in place, and in a folder the frames too.
-    pub fn put(&self, image: &[u8], frames: &str, receipt: &Receipt) -> Result<(), Trouble> {
+    /// Puts image and receipt in place, in a folder the frames too, and before them the trace.
+    pub fn put(
+        &self,
+        image: &[u8],
+        frames: &str,
+        receipt: &Receipt,
+        trace: Option<&Trace>,
+    ) -> Result<(), Trouble> {
         // From here on the program goes on to its end, with its message and its status.
         system::hold_signals();
         match self {
-            Target::Single(single) => single.put(image, receipt),
-            Target::Folder(folder, old) => fill(folder, old, image, frames, receipt),
+            Target::Single(single) => single.put(image, receipt, trace),
+            Target::Folder(folder, old) => fill(folder, old, image, frames, receipt, trace),
         }
     }
 }
@@ -128,23 +137,34 @@ fn fill(
     image: &[u8],
     frames: &str,
     receipt: &Receipt,
+    trace: Option<&Trace>,
 ) -> Result<(), Trouble> {
+    let ahead = trace.map(|trace| trace.prepare(old.metadata.as_ref()));
+    let mut ahead = ahead.transpose()?.flatten();
     let beside = folder.begin()?;
-    let put = |name: &str, bytes: io::Result<&[u8]>, like: Option<&Old>| {
+    let put = |name: &OsStr, bytes: io::Result<&[u8]>, like: Option<&Old>| {
         let put = bytes.and_then(|bytes| write(&beside.path().join(name), bytes, like));
         let path = folder.named.join(name);
         put.map_err(|error| Trouble::file(&path, "cannot be written", error))
     };
-    put(IMAGE, Ok(image), Some(old))?;
-    put(FRAMES, Ok(frames.as_bytes()), Some(old))?;
+    put(IMAGE.as_ref(), Ok(image), Some(old))?;
+    put(FRAMES.as_ref(), Ok(frames.as_bytes()), Some(old))?;
+    if let Some((name, bytes)) = trace.and_then(Trace::inside) {
+        put(name, Ok(bytes), Some(old))?;
+    }
     let receipt = receipt.text();
     put(
-        RECEIPT,
+        RECEIPT.as_ref(),
         receipt.as_deref().map_err(|error| error.kind().into()),
         None,
     )?;
     folder.flush(&beside, File::sync_all)?;
-    folder.place(beside)
+    let placed = ahead.iter_mut().try_for_each(Ahead::place);
+    let placed = placed.and_then(|()| folder.rename(beside));
+    if placed.is_ok() {
+        ahead.into_iter().for_each(Ahead::keep);
+    }
+    folder.flushed(placed)
 }
 
 /// Writes a new file, down to the disk. One that is to be like the old image has its permissions; where that

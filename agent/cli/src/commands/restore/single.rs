@@ -5,7 +5,9 @@
 //! between the two leaves a receipt whose `after` is the digest of no image there, so that nothing
 //! is taken for restored that is not; and no new image stands without its receipt.
 
+use super::ahead::Ahead;
 use super::place::Old;
+use super::trace::Trace;
 use super::Arguments;
 use crate::beside::Beside;
 use crate::files;
@@ -13,7 +15,7 @@ use crate::names::{shown, STANDARD_INPUT};
 use crate::receipt::{self, Receipt};
 use crate::replace::{self, Held};
 use crate::trouble::Trouble;
-use std::fs::{self, File};
+use std::fs::{self, File, Metadata};
 use std::io;
 use std::path::Path;
 
@@ -71,20 +73,44 @@ impl<'a> Single<'a> {
         }
     }
 
-    /// Puts the receipt and the image in place.
-    pub fn put(&self, image: &[u8], receipt: &Receipt) -> Result<(), Trouble> {
+    /// Whose permissions new files get.
+    fn metadata(&self) -> Option<&Metadata> {
+        match self {
+            Single::InPlace(_, held) => Some(held.metadata()),
+            Single::New(_, old) => old.metadata.as_ref(),
+        }
+    }
+
+    /// Puts the trace, the receipt and the image in place.
+    pub fn put(
+        &self,
+        image: &[u8],
+        receipt: &Receipt,
+        trace: Option<&Trace>,
+    ) -> Result<(), Trouble> {
         let what = match self {
             Single::InPlace(..) => "cannot be replaced",
             Single::New(..) => CANNOT_BE_WRITTEN,
         };
+        let ahead = trace.map(|trace| trace.prepare(self.metadata()));
+        let mut ahead = ahead.transpose()?.flatten();
         let path = receipt::path_of(self.named());
         let placed = receipt
             .text()
-            .and_then(|text| self.put_both(image, &path, &text));
+            .and_then(|text| self.put_both(image, &path, &text, &mut ahead));
+        if placed.is_ok() {
+            ahead.into_iter().for_each(Ahead::keep);
+        }
         replace::flushed(self.named(), placed, what)
     }
 
-    fn put_both(&self, image: &[u8], path: &Path, receipt: &[u8]) -> io::Result<File> {
+    fn put_both(
+        &self,
+        image: &[u8],
+        path: &Path,
+        receipt: &[u8],
+        ahead: &mut Option<Ahead>,
+    ) -> io::Result<File> {
         let of_receipt = |error: io::Error| {
             let what = format!("its receipt {} cannot be written: {error}", shown(path));
             io::Error::new(error.kind(), what)
@@ -94,6 +120,7 @@ impl<'a> Single<'a> {
         let beside = replace::prepare(path, receipt, 0o666).map_err(of_receipt)?;
         let folder = replace::folder(path)?;
         self.still_right()?;
+        ahead.iter_mut().try_for_each(Ahead::place)?;
         beside.replace().map_err(of_receipt)?;
         let placed = folder.sync_all().and_then(|()| self.place(new));
         if placed.is_err() {
