@@ -135,3 +135,22 @@ pub(crate) fn replayed(answer: Replayed) -> Result<Option<Difference>, Refusal> 
         },
     }))
 }
+
+impl Recorded {
+    /// What was answered: how many pointers an accepted move has, or its refusal. Nothing says that a frame was
+    /// ever answered so: a trace may hold any number.
+    ///
+    /// ```
+    /// use treskibben::Recorded;
+    ///
+    /// assert_eq!(Recorded { number: 0, value: 2 }.outcome(), Ok(2));
+    /// let refusal = Recorded { number: 21, value: 1 }.outcome().unwrap_err();
+    /// assert_eq!(refusal.to_string(), "refused 21 at 1: base neither 0 nor an old start");
+    /// ```
+    pub fn outcome(self) -> Result<u64, Refusal> {
+        match self.number {
+            0 => Ok(self.value),
+            number => Err(Refusal::new(number.into(), self.value)),
+        }
+    }
+}

@@ -11,8 +11,10 @@ mod flat;
 mod index;
 mod join;
 mod list;
+mod replay;
 mod report;
 mod restore;
+mod trace;
 
 use crate::trouble::{Status, Trouble, Voice};
 
@@ -31,6 +33,8 @@ pub enum Command {
     Join(join::Arguments),
     Explain(explain::Arguments),
     Restore(restore::Arguments),
+    Replay(replay::Arguments),
+    Trace(trace::Arguments),
     Completions(completions::Arguments),
 }
 
@@ -47,6 +51,8 @@ impl Command {
             Command::Report(arguments) => arguments.json,
             Command::Explain(arguments) => arguments.json,
             Command::Restore(arguments) => arguments.json,
+            Command::Replay(arguments) => arguments.json,
+            Command::Trace(arguments) => arguments.json,
             Command::Build(_) | Command::Index(_) | Command::Join(_) | Command::Completions(_) => {
                 false
             }
@@ -73,6 +79,8 @@ impl Command {
             Command::Join(arguments) => join::run(&arguments),
             Command::Explain(arguments) => explain::run(&arguments, voice),
             Command::Restore(arguments) => restore::run(&arguments, voice),
+            Command::Replay(arguments) => replay::run(&arguments, voice),
+            Command::Trace(arguments) => trace::run(&arguments, voice),
             Command::Completions(arguments) => completions::run(&arguments),
         }
     }

@@ -99,7 +99,7 @@ pub fn of_listing(path: &Path, listing: &[u8], refusal: Refusal) -> Option<Strin
 }
 
 /// The length of a file of which no more is read than its limit and one byte.
-fn length(path: &Path, read: &[u8], limit: u64) -> String {
+pub fn length(path: &Path, read: &[u8], limit: u64) -> String {
     let there = fs::metadata(path).ok().filter(|there| there.is_file());
     match (read.len() as u64, there) {
         (length, _) if length <= limit => count(length, "byte"),

@@ -13,6 +13,7 @@ use crate::library::{Frame, Registers, Restore};
 use crate::lists::{self, Entry};
 use crate::moves::Moves;
 use crate::numbers::{address, whole};
+use crate::profile::Profile;
 use crate::registers::Machine;
 use crate::trouble::Trouble;
 use crate::{files, receipt};
@@ -73,6 +74,8 @@ pub struct Inputs<'a> {
     pub machine: Machine,
     pub chosen: Chosen<'a>,
     pub lines: Vec<Entry<Line>>,
+    /// The profile that the section is held against, if a call asks for it.
+    pub profile: Option<Profile>,
 }
 
 impl<'a> Inputs<'a> {
@@ -106,6 +109,7 @@ impl<'a> Inputs<'a> {
             machine: machine.unwrap_or_default(),
             chosen,
             lines,
+            profile: None,
         })
     }
 

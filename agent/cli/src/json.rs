@@ -21,6 +21,9 @@ pub enum Answer<'a> {
     /// `check`: a section.
     Accepted {
         file: &'a str,
+        /// The profile that it was held against too.
+        #[serde(skip_serializing_if = "Option::is_none")]
+        profile: Option<&'static str>,
     },
     /// Any command: what was refused.
     Refused(Refusal<'a>),
@@ -82,6 +85,8 @@ pub enum Answer<'a> {
         #[serde(skip_serializing_if = "Option::is_none")]
         new_frames: Option<String>,
         receipt: &'a str,
+        #[serde(skip_serializing_if = "Option::is_none")]
+        trace: Option<String>,
         frames: u64,
         pointers: u64,
         registers: u64,

@@ -2,10 +2,14 @@
 //!
 //! Every answer on a section, a listing or a frame comes from the crate `treskibben`.
 
+mod profiles;
 mod restore;
+mod traces;
 
 use crate::registers;
+pub use profiles::check_profile;
 pub use restore::Restore;
+pub use traces::{outcome, steps_of, trace_of, Difference, Recorded, Step};
 use treskibben::MoveTable;
 
 /// Why a call was refused: number, place and cause.

@@ -25,6 +25,7 @@ mod moves;
 mod names;
 mod numbers;
 mod output;
+mod profile;
 mod progress;
 mod receipt;
 mod registers;
@@ -32,6 +33,7 @@ mod replace;
 mod report;
 mod system;
 mod text;
+mod trace;
 mod trouble;
 
 use clap::error::ErrorKind;

@@ -43,6 +43,12 @@ pub struct Receipt {
     /// The report that stands beside the image, where one was asked for.
     #[serde(default, skip_serializing_if = "Option::is_none")]
     pub report: Option<Entry>,
+    /// The profile that the section was held against.
+    #[serde(default, skip_serializing_if = "Option::is_none")]
+    pub profile: Option<String>,
+    /// The trace, where one was asked for.
+    #[serde(default, skip_serializing_if = "Option::is_none")]
+    pub trace: Option<Entry>,
     /// How many frames were moved, and how many pointers they have. Receipts from before pairs of several
     /// pointers name the pairs, each of which was one.
     pub moved_frames: u64,

@@ -50,7 +50,7 @@ impl Held {
         files::read_up_to(&self.named, &mut self.file, limit + 1)
     }
 
-    /// What the file was when it was opened.
+    /// The file's owner and permissions.
     pub fn metadata(&self) -> &Metadata {
         &self.metadata
     }

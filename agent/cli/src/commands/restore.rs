@@ -1,8 +1,10 @@
 //! `restore`: a stack image whose frames are moved, all of them or none.
 
+mod ahead;
 mod left;
 mod place;
 mod single;
+mod trace;
 
 use super::explain;
 use crate::explain::{text, Report};
@@ -10,10 +12,11 @@ use crate::inputs::{Given, Inputs, Moved};
 use crate::library;
 use crate::names::shown;
 use crate::numbers::count;
+use crate::profile::Profile;
 use crate::receipt::{self, Receipt};
 use crate::trouble::{say, Refused, Status, Trouble, Voice};
 use crate::{files, found, json, listing, output};
-use left::{Left, What};
+use left::{Leaves, Left};
 use place::Target;
 use std::path::{Path, PathBuf};
 
@@ -27,8 +30,8 @@ use std::path::{Path, PathBuf};
 /// tells it. In the lists, '#' begins a comment, and blank lines are passed over.
 ///
 /// Refusals come in this order: an image that was restored already; 31 of the edition; 1 to 9 of the
-/// section; 33 of a version or a machine that the edition doesn't allow; 13 of the image, 14 of the moves, 25 of the frames as a list; a frame with a pair in a register that its line
-/// doesn't tell; then the first frame of the list that is refused by itself, by 10, 15, 12, 16, 18, 17 (of
+/// section; 33 of a version or a machine that the edition doesn't allow; 13 of the image, 14 of the moves,
+/// 25 of the frames as a list; a frame with a pair in a register that its line doesn't tell; then the first frame of the list that is refused by itself, by 10, 15, 12, 16, 18, 17 (of
 /// version 1 17, 18), or 19 to 21; then 26 at the first frame whose extent shares a byte with an earlier
 /// one's; with several --moves the first frame that has a base slot which is not listed with itself; a list of
 /// no frames; last a register that would change, where no --into is said. The place of a frame's refusal is
@@ -57,12 +60,12 @@ pub struct Arguments {
     ///
     /// It tells what 'treskibben explain' tells of the same files. Where it is also said where the new image
     /// would go, what the restore would be refused by there is told too.
-    #[arg(long, conflicts_with = "report")]
+    #[arg(long, conflicts_with_all = ["report", "trace"])]
     dry_run: bool,
-    /// Leave the report of all slots beside the new image: what --dry-run tells, as text
+    /// Leave the report of all slots with the new image: what --dry-run tells, as text
     ///
-    /// With --into it is the name of a file in that folder, which gets its name with all that is in it. Else it
-    /// is a file that must not exist yet, and it is in place before the image. Its SHA-256 is in the receipt.
+    /// With --into it is a file in that folder, which gets its name with all that is in it. Else it is a file
+    /// that must not exist yet, and it is there before the new image is. Its SHA-256 is in the receipt.
     #[arg(long, value_name = "FILE")]
     report: Option<PathBuf>,
     /// Restore an image whose receipt tells that it was restored already
@@ -74,6 +77,18 @@ pub struct Arguments {
     /// Accept a list of no frames, which moves nothing
     #[arg(long)]
     allow_empty: bool,
+    /// Record the restore: each frame with its registers and its answer, in a file that must not exist yet
+    ///
+    /// It is there before the new image is, and not at all where the restore is refused. Where it is in the
+    /// folder of --into, it gets its name with it. 'treskibben replay' replays it on the old image.
+    #[arg(long, value_name = "FILE")]
+    trace: Option<PathBuf>,
+    /// Hold the section against a profile too, and refuse by 50 what is outside
+    ///
+    /// 'bench' is the bench controller's, as 'check --profile bench' tells it; frames of another machine than
+    /// x86-64 are outside too. 50 comes after 31 and 1 to 9, and before 33.
+    #[arg(long, value_name = "NAME", value_enum)]
+    profile: Option<Profile>,
     /// Tell the answer on standard output as one JSON object
     #[arg(long)]
     pub json: bool,
@@ -91,19 +106,18 @@ struct Call<'a> {
 }
 
 pub fn run(arguments: &Arguments, voice: Voice) -> Result<Status, Trouble> {
-    let inputs = Inputs::read(&arguments.given)?;
+    let mut inputs = Inputs::read(&arguments.given)?;
+    inputs.profile = arguments.profile;
     let call = Call { arguments, inputs };
-    let report = arguments.report.as_deref();
-    let report = report.map(|named| left::path_of("--report", named, arguments));
-    let report = report.transpose()?;
     let mut target = Target::open(arguments)?;
+    let mut left = Leaves::open(arguments, &target)?;
     let image = target.read()?;
     match call.move_frames(image, voice) {
         Ok(moved) if arguments.dry_run => {
             explain::tell(&Report::of_thread(&call.inputs, &moved)?, voice)
         }
         Ok(moved) => {
-            let left = call.left(&moved, report)?;
+            call.write_down(&moved, &mut left)?;
             let receipt = call.receipt(&moved, &target, &left);
             target.put(&moved.after, &moved.frames_after, &receipt, &left)?;
             call.tell(&moved, &target, &left, voice);
@@ -113,6 +127,9 @@ pub fn run(arguments: &Arguments, voice: Voice) -> Result<Status, Trouble> {
             let status = trouble.tell(voice);
             if status == Status::Refused && voice == Voice::Text {
                 say(&target.untouched());
+                for left in left.iter() {
+                    say(&format!("{}: is not written", shown(left.path)));
+                }
             }
             Ok(status)
         }
@@ -195,23 +212,24 @@ impl Call<'_> {
         }
     }
 
-    /// The files that are left beside the new image.
-    fn left(&self, moved: &Moved, report: Option<PathBuf>) -> Result<Vec<Left>, Trouble> {
-        let Some(path) = report else {
-            return Ok(Vec::new());
-        };
-        let report = Report::of_thread(&self.inputs, moved)?;
-        let mut bytes = Vec::new();
-        text::report(&mut bytes, &report)
-            .map_err(|error| Trouble::file(&path, "cannot be written", error))?;
-        let what = What::Report;
-        Ok(vec![Left { what, path, bytes }])
+    /// Puts down what is left with the new image.
+    fn write_down(&self, moved: &Moved, left: &mut Leaves) -> Result<(), Trouble> {
+        if let Some(trace) = &mut left.trace {
+            trace.bytes = self.trace(moved);
+        }
+        if let Some(left) = &mut left.report {
+            let report = Report::of_thread(&self.inputs, moved)?;
+            let written = text::report(&mut left.bytes, &report);
+            written.map_err(|error| Trouble::file(left.path, "cannot be written", error))?;
+        }
+        Ok(())
     }
 
-    fn receipt(&self, moved: &Moved, target: &Target, left: &[Left]) -> Receipt {
+    fn receipt(&self, moved: &Moved, target: &Target, left: &Leaves) -> Receipt {
         let (entry, inputs) = (receipt::Entry::of, &self.inputs);
         let (given, frames) = (inputs.given, moved.frames_after.as_bytes());
         let [section, moves, frames_before] = inputs.entries();
+        let of_left = |left: &Option<Left>| left.as_ref().map(|own| entry(own.path, &own.bytes));
         Receipt {
             treskibben: library::VERSION.to_string(),
             section,
@@ -224,7 +242,9 @@ impl Call<'_> {
             before: entry(&given.image, &moved.before),
             after: entry(&target.image(), &moved.after),
             frames_after: target.frames().map(|path| entry(&path, frames)),
-            report: left::find(left, What::Report).map(|left| entry(&left.path, &left.bytes)),
+            report: of_left(&left.report),
+            profile: inputs.profile.map(|profile| profile.name().to_string()),
+            trace: of_left(&left.trace),
             moved_frames: moved.frames,
             moved_pointers: moved.pointers,
             moved_registers: moved.changed.len() as u64,
@@ -232,8 +252,9 @@ impl Call<'_> {
     }
 
     /// Tells what was done. It is done, whether anybody hears of it or not.
-    fn tell(&self, moved: &Moved, target: &Target, left: &[Left], voice: Voice) {
+    fn tell(&self, moved: &Moved, target: &Target, left: &Leaves, voice: Voice) {
         let (new_frames, registers) = (target.frames(), moved.changed.len() as u64);
+        let trace = left.trace.as_ref();
         let _ = match voice {
             Voice::Text => {
                 let frames = count(moved.frames, "frame");
@@ -245,8 +266,11 @@ impl Call<'_> {
                 let edition = self.inputs.chosen.number();
                 let edition = edition.map(|number| format!(", by edition {number}"));
                 let (named, edition) = (shown(target.named()), edition.unwrap_or_default());
+                let recorded =
+                    trace.map(|trace| format!("\n{}: {frames} recorded", shown(trace.path)));
+                let recorded = recorded.unwrap_or_default();
                 output::line(&format!(
-                    "{named}: {frames} moved, {pointers}{changed}{edition}"
+                    "{named}: {frames} moved, {pointers}{changed}{edition}{recorded}"
                 ))
             }
             Voice::Json => output::object(&json::Answer::Restored {
@@ -254,11 +278,12 @@ impl Call<'_> {
                 output: &json::name(&target.image()),
                 new_frames: new_frames.map(|path| json::name(&path)),
                 receipt: &json::name(&target.receipt()),
+                trace: trace.map(|trace| json::name(trace.path)),
                 frames: moved.frames,
                 pointers: moved.pointers,
                 registers,
                 edition: self.inputs.chosen.told(),
-                report: left::find(left, What::Report).map(|left| json::name(&left.path)),
+                report: left.report.as_ref().map(|left| json::name(left.path)),
             }),
         };
     }

@@ -20,14 +20,24 @@ pub struct Chosen<'a> {
 
 impl<'a> Chosen<'a> {
     pub fn read(given: &'a Given) -> Result<Chosen<'a>, Trouble> {
-        let (editions, number, store) = match (&given.store, given.edition) {
+        let machine = given.machine.unwrap_or_default();
+        Chosen::of(given.store.as_deref(), given.edition, machine)
+    }
+
+    /// An edition of a store; where none is named, one that allows all that it can be asked for on a machine.
+    pub fn of(
+        store: Option<&'a Path>,
+        edition: Option<u64>,
+        machine: Machine,
+    ) -> Result<Chosen<'a>, Trouble> {
+        let (editions, number, store) = match (store, edition) {
             (Some(path), Some(number)) => {
                 let bytes = files::read(path, files::EDITIONS)?;
                 let editions = editions::decode(path, &bytes)?;
-                (editions, number, Some((path.as_path(), bytes)))
+                (editions, number, Some((path, bytes)))
             }
             _ => {
-                let (editions, number) = allows_all(given.machine.unwrap_or_default());
+                let (editions, number) = allows_all(machine);
                 (editions, number, None)
             }
         };
@@ -112,6 +122,11 @@ impl<'a> Chosen<'a> {
     fn allowed(&self) -> String {
         let settings = self.settings.as_ref().map(editions::words);
         settings.unwrap_or_default()
+    }
+
+    /// How many pointers a move may have.
+    pub fn most(&self) -> u64 {
+        self.settings.map_or(0, |settings| settings.pointers)
     }
 
     /// The edition as a receipt tells it; none where it is unknown.

@@ -2,6 +2,7 @@
 
 use super::Inputs;
 use crate::library::Registers;
+use crate::profile::Profile;
 use crate::trouble::Trouble;
 
 /// An image that was moved, and the registers of its frames.
@@ -31,7 +32,11 @@ impl Inputs<'_> {
         let frames = self.frames();
         let (mut after, mut registers) = (before.clone(), self.registers());
         let restore = self.restore();
-        let moved = restore.relocate_thread(&mut after, &frames, &mut registers);
+        let (image, own) = (&mut after, &mut registers);
+        let moved = match self.profile {
+            None => restore.relocate_thread(image, &frames, own),
+            Some(Profile::Bench) => restore.relocate_thread_in_profile(image, &frames, own),
+        };
         if !matches!(moved, Err((_, None))) {
             self.all_told(0..frames.len())?;
         }

@@ -4,6 +4,7 @@ use super::Inputs;
 use crate::found::{self, Sizes};
 use crate::library::Refusal;
 use crate::numbers::count;
+use crate::profile;
 use crate::trouble::{Refused, Trouble};
 
 impl Inputs<'_> {
@@ -39,6 +40,13 @@ impl Inputs<'_> {
                 let frames = count(self.lines.len() as u64, "frame");
                 (&given.frames, Some(format!("it has {frames}")))
             }
+            50 => match profile::of_machine(self.naming, self.machine) {
+                Some(found) => (&given.frames, Some(found)),
+                None => {
+                    let found = profile::of_section(&self.section, refusal.place);
+                    (&given.section, found)
+                }
+            },
             31 => return self.of_edition(Some(self.chosen.unknown())),
             33 => return self.of_edition(self.chosen.not_allowed(&self.section, self.machine)),
             _ => {

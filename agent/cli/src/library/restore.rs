@@ -20,7 +20,7 @@ pub struct Restore<'a> {
 pub type OfThread = (Refusal, Option<usize>);
 
 impl Restore<'_> {
-    fn moves(&self) -> MoveTable<'_> {
+    pub(super) fn moves(&self) -> MoveTable<'_> {
         MoveTable::new(&self.table.old, &self.table.new)
     }
 
@@ -98,7 +98,7 @@ impl Restore<'_> {
     }
 }
 
-fn of_thread(refusal: ThreadRefusal) -> OfThread {
+pub(super) fn of_thread(refusal: ThreadRefusal) -> OfThread {
     let position = refusal.position();
     (treskibben::Refusal::from(refusal).into(), position)
 }

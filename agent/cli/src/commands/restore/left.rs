@@ -1,116 +1,149 @@
-//! A file that a restore leaves beside the new image, as its report: it is whole, and there with the image, or
-//! it is not there at all.
+//! The files that a restore leaves with the new image, where it is asked to: its trace, and its report.
 
-use super::place::{FRAMES, IMAGE, RECEIPT};
+use super::ahead::Ahead;
+use super::place::Target;
 use super::Arguments;
-use crate::beside::{folder_of, Beside};
-use crate::names::{shown, STANDARD_INPUT};
-use crate::receipt;
-use crate::replace;
+use crate::beside::folder_of;
+use crate::files;
+use crate::names::shown;
 use crate::trouble::Trouble;
+use std::ffi::OsStr;
 use std::fs::{self, Metadata};
-use std::io;
-use std::path::{Component, Path, PathBuf};
+use std::path::{Path, PathBuf};
 
-/// A file that is to be left, and what it holds.
-pub struct Left {
-    /// What it is called in a receipt and in answers.
-    pub what: What,
-    pub path: PathBuf,
-    pub bytes: Vec<u8>,
-}
-
+/// What a file is.
 #[derive(Clone, Copy, Debug, PartialEq, Eq)]
 pub enum What {
+    Trace,
     Report,
 }
 
-/// The file of this sort, if it is left.
-pub fn find(left: &[Left], what: What) -> Option<&Left> {
-    left.iter().find(|left| left.what == what)
+impl What {
+    pub fn name(self) -> &'static str {
+        match self {
+            What::Trace => "trace",
+            What::Report => "report",
+        }
+    }
 }
 
-/// Where a file goes that an option names. With `--into` it is a name in that folder, else a file that is not
-/// one of the restore's own.
-pub fn path_of(option: &str, named: &Path, arguments: &Arguments) -> Result<PathBuf, Trouble> {
-    let wrong = |why: &str| Err(Trouble::Usage(format!("{option} {}: {why}", shown(named))));
-    if named.as_os_str() == STANDARD_INPUT {
-        return wrong("it is left beside the new image, and needs a name");
+/// A file that is to be left.
+pub struct Left<'a> {
+    pub what: What,
+    pub path: &'a Path,
+    /// Its name in the folder that the restore makes, where it is to stand there.
+    inside: Option<&'a OsStr>,
+    /// Its bytes; none before the frames are moved.
+    pub bytes: Vec<u8>,
+}
+
+/// All that a call asks for.
+#[derive(Default)]
+pub struct Leaves<'a> {
+    pub trace: Option<Left<'a>>,
+    pub report: Option<Left<'a>>,
+}
+
+impl<'a> Leaves<'a> {
+    /// The files that a call asks for. Each has a name of its own.
+    pub fn open(arguments: &'a Arguments, target: &Target) -> Result<Leaves<'a>, Trouble> {
+        let open = |what: What, path: Option<&'a Path>, others: &[PathBuf]| {
+            let left = path.map(|path| Left::open(what, path, arguments, others));
+            left.transpose()
+        };
+        let others = [
+            Some(target.image()),
+            Some(target.receipt()),
+            target.frames(),
+        ];
+        let mut others: Vec<PathBuf> = others.into_iter().flatten().collect();
+        let trace = open(What::Trace, arguments.trace.as_deref(), &others)?;
+        others.extend(trace.iter().map(|trace| trace.path.to_path_buf()));
+        let report = open(What::Report, arguments.report.as_deref(), &others)?;
+        Ok(Leaves { trace, report })
     }
-    let Some(folder) = &arguments.into else {
-        let image = match &arguments.output {
-            Some(output) => output,
-            None => &arguments.given.image,
+
+    pub fn iter(&self) -> impl Iterator<Item = &Left<'a>> {
+        self.trace.iter().chain(&self.report)
+    }
+
+    /// The files beside their names, where they are by themselves.
+    pub fn prepare(&self, like: Option<&Metadata>) -> Result<Vec<Ahead>, Trouble> {
+        let alone = self.iter().filter(|left| left.inside.is_none());
+        alone.map(|left| Ahead::prepare(left, like)).collect()
+    }
+}
+
+impl<'a> Left<'a> {
+    fn open(
+        what: What,
+        path: &'a Path,
+        arguments: &Arguments,
+        others: &[PathBuf],
+    ) -> Result<Left<'a>, Trouble> {
+        let option = what.name();
+        let (true, Some(name)) = (!files::is_standard_input(path), path.file_name()) else {
+            let why = format!("--{option} needs a name: a {option} is a file by itself");
+            return Err(Trouble::Usage(why));
         };
-        let own = [image.clone(), receipt::path_of(image)];
-        return match own.iter().any(|own| is_same(own, named)) {
-            true => wrong("the restore writes another file of this name"),
-            false => Ok(named.to_path_buf()),
-        };
-    };
-    let name = named.strip_prefix(folder).unwrap_or(named);
-    let mut parts = name.components();
-    match (parts.next(), parts.next()) {
-        (Some(Component::Normal(name)), None) => match [IMAGE, FRAMES, RECEIPT] {
-            taken if taken.iter().any(|taken| name == *taken) => {
-                wrong("the restore writes another file of this name")
+        let own = real(path);
+        if let Some(other) = others.iter().find(|other| real(other) == own) {
+            let (path, other) = (shown(path), shown(other));
+            return Err(Trouble::Usage(format!(
+                "--{option} {path}: the restore writes {other} there"
+            )));
+        }
+        let folder = arguments.into.as_deref();
+        let inside = folder.is_some_and(|folder| real(folder_of(path)) == real(folder));
+        if let (What::Report, false, Some(folder)) = (what, inside, folder) {
+            let should = shown(&folder.join(name));
+            return Err(Trouble::Usage(format!(
+                "--report {}: with --into the report stands in that folder, as {should}",
+                shown(path)
+            )));
+        }
+        Ok(Left {
+            what,
+            path,
+            inside: inside.then_some(name),
+            bytes: Vec::new(),
+        })
+    }
+
+    /// Its name and its bytes, where it stands in the folder that the restore makes.
+    pub fn inside(&self) -> Option<(&'a OsStr, &[u8])> {
+        self.inside.map(|name| (name, &self.bytes[..]))
+    }
+}
+
+/// A name where no link has to be followed to its folder. A folder that is yet to be made is by its own name.
+fn real(path: &Path) -> PathBuf {
+    let there = fs::canonicalize(path);
+    there.unwrap_or_else(
+        |_| match (fs::canonicalize(folder_of(path)), path.file_name()) {
+            (Ok(folder), Some(name)) => folder.join(name),
+            (_, Some(name)) if folder_of(path) != Path::new(".") => {
+                real(folder_of(path)).join(name)
             }
-            _ => Ok(folder.join(name)),
+            _ => path.to_path_buf(),
         },
-        _ => wrong("with --into it is a name in that folder"),
-    }
+    )
 }
 
-/// Whether two names are of one file that may not be there yet.
-fn is_same(one: &Path, other: &Path) -> bool {
-    let folder = |path: &Path| fs::canonicalize(folder_of(path)).ok();
-    one.file_name() == other.file_name() && folder(one) == folder(other)
-}
+#[cfg(test)]
+mod tests {
+    use super::*;
 
-impl Left {
-    /// Whether nothing has its name yet, or a run that was ended before the image was in place has left just
-    /// these bytes there.
-    pub fn is_free(&self) -> io::Result<()> {
-        match fs::symlink_metadata(&self.path) {
-            Err(error) if error.kind() == io::ErrorKind::NotFound => Ok(()),
-            Err(error) => Err(error),
-            Ok(there) if there.is_file() && self.stands()? => Ok(()),
-            Ok(_) => {
-                let why = "it exists already, and no file is written over";
-                Err(io::Error::new(io::ErrorKind::AlreadyExists, why))
-            }
+    #[test]
+    fn names_of_folders_that_are_not_there() {
+        let here = fs::canonicalize(".").unwrap();
+        for (path, own) in [
+            ("none", "none"),
+            ("none/trace", "none/trace"),
+            ("./none", "none"),
+        ] {
+            assert_eq!(real(Path::new(path)), here.join(own), "{path}");
         }
-    }
-
-    fn stands(&self) -> io::Result<bool> {
-        let there = fs::metadata(&self.path)?.len() == self.bytes.len() as u64;
-        Ok(there && fs::read(&self.path)? == self.bytes)
-    }
-
-    /// The file beside its name, down to the disk, with the permissions of the old image: it tells what is
-    /// in it. None where it stands there already.
-    pub fn prepare(&self, image: Option<&Metadata>) -> io::Result<Option<Beside>> {
-        self.is_free()?;
-        if fs::symlink_metadata(&self.path).is_ok() {
-            return Ok(None);
-        }
-        let new = replace::prepare(&self.path, &self.bytes, 0o600)?;
-        if let Some(metadata) = image {
-            new.permissions_of(metadata)?;
-            new.file.sync_all()?;
-        }
-        Ok(Some(new))
-    }
-
-    /// Gives it its name, and flushes its folder.
-    pub fn place(&self, new: Option<Beside>) -> io::Result<()> {
-        match new {
-            None => Ok(()),
-            Some(new) => {
-                let folder = replace::folder(&self.path)?;
-                new.place()?;
-                folder.sync_all()
-            }
-        }
+        assert_eq!(real(Path::new("src/..")), here);
     }
 }

@@ -1,6 +1,7 @@
 //! Where a restore goes: an image by itself, or a folder with all that is new.
 
-use super::left::Left;
+use super::ahead::Ahead;
+use super::left::{Leaves, Left};
 use super::single::Single;
 use super::Arguments;
 use crate::folder::Folder;
@@ -16,8 +17,8 @@ use std::path::{Path, PathBuf};
 
 /// The names of the files in a folder: the receipt's is that of an image of this name.
 pub const IMAGE: &str = "image";
-pub const FRAMES: &str = "frames";
-pub const RECEIPT: &str = "image.receipt.json";
+const FRAMES: &str = "frames";
+const RECEIPT: &str = "image.receipt.json";
 
 /// Where a restore goes.
 pub enum Target<'a> {
@@ -121,13 +122,13 @@ impl<'a> Target<'a> {
         }
     }
 
-    /// Puts image and receipt in place, with what is left beside them, and in a folder the frames too.
+    /// Puts image and receipt in place, in a folder the frames too, and before them what is left with them.
     pub fn put(
         &self,
         image: &[u8],
         frames: &str,
         receipt: &Receipt,
-        left: &[Left],
+        left: &Leaves,
     ) -> Result<(), Trouble> {
         // From here on the program goes on to its end, with its message and its status.
         system::hold_signals();
@@ -146,8 +147,9 @@ fn fill(
     image: &[u8],
     frames: &str,
     receipt: &Receipt,
-    left: &[Left],
+    left: &Leaves,
 ) -> Result<(), Trouble> {
+    let mut ahead = left.prepare(old.metadata.as_ref())?;
     let beside = folder.begin()?;
     let put = |name: &OsStr, bytes: io::Result<&[u8]>, like: Option<&Old>| {
         let put = bytes.and_then(|bytes| write(&beside.path().join(name), bytes, like));
@@ -156,8 +158,8 @@ fn fill(
     };
     put(IMAGE.as_ref(), Ok(image), Some(old))?;
     put(FRAMES.as_ref(), Ok(frames.as_bytes()), Some(old))?;
-    for Left { path, bytes, .. } in left {
-        put(path.file_name().unwrap_or_default(), Ok(bytes), Some(old))?;
+    for (name, bytes) in left.iter().filter_map(Left::inside) {
+        put(name, Ok(bytes), Some(old))?;
     }
     let receipt = receipt.text();
     put(
@@ -166,7 +168,12 @@ fn fill(
         None,
     )?;
     folder.flush(&beside, File::sync_all)?;
-    folder.place(beside)
+    let placed = ahead.iter_mut().try_for_each(Ahead::place);
+    let placed = placed.and_then(|()| folder.rename(beside));
+    if placed.is_ok() {
+        ahead.into_iter().for_each(Ahead::keep);
+    }
+    folder.flushed(placed)
 }
 
 /// Writes a new file, down to the disk. One that is to be like the old image has its permissions; where that

@@ -3,10 +3,10 @@
 //! Both are written beside their names and flushed. Then the receipt gets its name, the folder is
 //! flushed, the image gets its name, and the folder is flushed again. Whoever ends the program
 //! between the two leaves a receipt whose `after` is the digest of no image there, so that nothing
-//! is taken for restored that is not; and no new image stands without its receipt. What is left beside the
-//! image, as a report, gets its name before the receipt.
+//! is taken for restored that is not; and no new image stands without its receipt.
 
-use super::left::Left;
+use super::ahead::Ahead;
+use super::left::Leaves;
 use super::place::Old;
 use super::Arguments;
 use crate::beside::Beside;
@@ -73,66 +73,54 @@ impl<'a> Single<'a> {
         }
     }
 
-    /// Puts what is left beside, the receipt and the image in place.
-    pub fn put(&self, image: &[u8], receipt: &Receipt, left: &[Left]) -> Result<(), Trouble> {
-        let what = match self {
-            Single::InPlace(..) => "cannot be replaced",
-            Single::New(..) => CANNOT_BE_WRITTEN,
-        };
-        let path = receipt::path_of(self.named());
-        let placed = receipt
-            .text()
-            .and_then(|text| self.put_all(image, &path, &text, left));
-        replace::flushed(self.named(), placed, what)
-    }
-
-    fn put_all(
-        &self,
-        image: &[u8],
-        path: &Path,
-        receipt: &[u8],
-        left: &[Left],
-    ) -> io::Result<File> {
-        let of_receipt = |error: io::Error| {
-            let what = format!("its receipt {} cannot be written: {error}", shown(path));
-            io::Error::new(error.kind(), what)
-        };
-        let of_left = |left: &Left, error: io::Error| {
-            let what = format!("{} cannot be written: {error}", shown(&left.path));
-            io::Error::new(error.kind(), what)
-        };
-        let new = self.prepare(image)?;
-        let earlier = fs::read(path).ok();
-        let mut beside_it = Vec::new();
-        for left in left {
-            let prepared = left.prepare(self.metadata());
-            beside_it.push((left, prepared.map_err(|error| of_left(left, error))?));
-        }
-        let beside = replace::prepare(path, receipt, 0o666).map_err(of_receipt)?;
-        let folder = replace::folder(path)?;
-        self.still_right()?;
-        let mut placed = TakenBack::default();
-        for (left, prepared) in beside_it {
-            let is_new = prepared.is_some();
-            let named = left.place(prepared);
-            named.map_err(|error| of_left(left, error))?;
-            placed.0.extend(is_new.then_some(left));
-        }
-        beside.replace().map_err(of_receipt)?;
-        let done = folder.sync_all().and_then(|()| self.place(new));
-        match done {
-            Ok(()) => placed.0.clear(),
-            Err(_) => put_back(path, earlier),
-        }
-        done.map(|()| folder)
-    }
-
-    /// What the old image's owner and permissions are, if it is a file.
+    /// Whose permissions new files get.
     fn metadata(&self) -> Option<&Metadata> {
         match self {
             Single::InPlace(_, held) => Some(held.metadata()),
             Single::New(_, old) => old.metadata.as_ref(),
         }
+    }
+
+    /// Puts what is left with the image, the receipt and the image in place.
+    pub fn put(&self, image: &[u8], receipt: &Receipt, left: &Leaves) -> Result<(), Trouble> {
+        let what = match self {
+            Single::InPlace(..) => "cannot be replaced",
+            Single::New(..) => CANNOT_BE_WRITTEN,
+        };
+        let mut ahead = left.prepare(self.metadata())?;
+        let path = receipt::path_of(self.named());
+        let placed = receipt
+            .text()
+            .and_then(|text| self.put_both(image, &path, &text, &mut ahead));
+        if placed.is_ok() {
+            ahead.into_iter().for_each(Ahead::keep);
+        }
+        replace::flushed(self.named(), placed, what)
+    }
+
+    fn put_both(
+        &self,
+        image: &[u8],
+        path: &Path,
+        receipt: &[u8],
+        ahead: &mut [Ahead],
+    ) -> io::Result<File> {
+        let of_receipt = |error: io::Error| {
+            let what = format!("its receipt {} cannot be written: {error}", shown(path));
+            io::Error::new(error.kind(), what)
+        };
+        let new = self.prepare(image)?;
+        let earlier = fs::read(path).ok();
+        let beside = replace::prepare(path, receipt, 0o666).map_err(of_receipt)?;
+        let folder = replace::folder(path)?;
+        self.still_right()?;
+        ahead.iter_mut().try_for_each(Ahead::place)?;
+        beside.replace().map_err(of_receipt)?;
+        let placed = folder.sync_all().and_then(|()| self.place(new));
+        if placed.is_err() {
+            put_back(path, earlier);
+        }
+        placed.map(|()| folder)
     }
 
     /// The new image beside its name, down to the disk.
@@ -176,18 +164,6 @@ fn is_free(path: &Path) -> io::Result<()> {
         Ok(_) => {
             let why = "it exists already, and --output writes no file over";
             Err(io::Error::new(io::ErrorKind::AlreadyExists, why))
-        }
-    }
-}
-
-/// Files that have their names. Dropped before the image has its own, they are taken away.
-#[derive(Default)]
-struct TakenBack<'a>(Vec<&'a Left>);
-
-impl Drop for TakenBack<'_> {
-    fn drop(&mut self) {
-        for left in &self.0 {
-            let _ = fs::remove_file(&left.path);
         }
     }
 }
