@@ -10,7 +10,8 @@ mod output;
 mod receipts;
 mod refusals;
 pub mod registers;
-mod threads;
+pub mod threads;
+mod traced;
 mod twice;
 mod worked;
 

@@ -5,7 +5,7 @@ use crate::run::{Folder, Ran, PROGRAM};
 use std::path::Path;
 use std::process::{Command, Stdio};
 
-const COMMANDS: [&str; 12] = [
+const COMMANDS: [&str; 14] = [
     "check",
     "list",
     "build",
@@ -17,6 +17,8 @@ const COMMANDS: [&str; 12] = [
     "report",
     "join",
     "restore",
+    "replay",
+    "trace",
     "completions",
 ];
 
