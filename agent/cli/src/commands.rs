@@ -5,6 +5,7 @@ mod check;
 mod completions;
 mod cut;
 mod edition;
+mod explain;
 mod find;
 mod flat;
 mod index;
@@ -30,6 +31,7 @@ pub enum Command {
     Edition(edition::Arguments),
     Report(report::Arguments),
     Join(join::Arguments),
+    Explain(explain::Arguments),
     Restore(restore::Arguments),
     Replay(replay::Arguments),
     Trace(trace::Arguments),
@@ -47,6 +49,7 @@ impl Command {
             Command::Flat(arguments) => arguments.json(),
             Command::Edition(arguments) => arguments.json(),
             Command::Report(arguments) => arguments.json,
+            Command::Explain(arguments) => arguments.json,
             Command::Restore(arguments) => arguments.json,
             Command::Replay(arguments) => arguments.json,
             Command::Trace(arguments) => arguments.json,
@@ -74,6 +77,7 @@ impl Command {
             Command::Edition(arguments) => edition::run(&arguments, voice),
             Command::Report(arguments) => report::run(&arguments, voice),
             Command::Join(arguments) => join::run(&arguments),
+            Command::Explain(arguments) => explain::run(&arguments, voice),
             Command::Restore(arguments) => restore::run(&arguments, voice),
             Command::Replay(arguments) => replay::run(&arguments, voice),
             Command::Trace(arguments) => trace::run(&arguments, voice),

@@ -193,7 +193,7 @@ impl<'a> Sizes<'a> {
     }
 
     /// The first byte of a frame's extent and the first after it.
-    fn extent(&self, line: &Line) -> Option<(u128, u128)> {
+    pub fn extent(&self, line: &Line) -> Option<(u128, u128)> {
         let (_, size) = self.function(line).filter(|(_, size)| *size != UNKNOWN)?;
         let [_, of_stack] = library::pointers_of(self.machine);
         let first = u128::from(line.registers[usize::from(of_stack)]);

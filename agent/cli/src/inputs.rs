@@ -2,6 +2,7 @@
 
 mod edition;
 mod moved;
+mod pairs;
 mod refused;
 mod registers;
 pub mod slots;

@@ -91,6 +91,8 @@ pub enum Answer<'a> {
         pointers: u64,
         registers: u64,
         edition: Option<Edition>,
+        #[serde(skip_serializing_if = "Option::is_none")]
+        report: Option<String>,
     },
 }
 

@@ -23,6 +23,16 @@ pub struct Refusal {
 /// The record that is found, a stopped frame and its registers, and an index with its section.
 pub use treskibben::{Found, Frame, Index, Registers};
 
+/// Why a slot moves or does not, and all slots of some frames.
+pub use treskibben::{ExplainedPointer, ExplainedSlot, Reason, Slot};
+
+impl Refusal {
+    /// Whether it is said of a frame, and not of what all frames share.
+    pub fn is_of_frame(&self) -> bool {
+        matches!(self.number, 10 | 12 | 15..=21)
+    }
+}
+
 impl From<treskibben::Refusal> for Refusal {
     fn from(refusal: treskibben::Refusal) -> Refusal {
         Refusal {

@@ -9,6 +9,7 @@
 mod beside;
 mod commands;
 mod editions;
+mod explain;
 mod files;
 mod flat;
 mod folder;

@@ -1,10 +1,13 @@
 //! `restore`: a stack image whose frames are moved, all of them or none.
 
 mod ahead;
+mod left;
 mod place;
 mod single;
 mod trace;
 
+use super::explain;
+use crate::explain::{text, Report};
 use crate::inputs::{Given, Inputs, Moved};
 use crate::library;
 use crate::names::shown;
@@ -13,9 +16,9 @@ use crate::profile::Profile;
 use crate::receipt::{self, Receipt};
 use crate::trouble::{say, Refused, Status, Trouble, Voice};
 use crate::{files, found, json, listing, output};
+use left::{Leaves, Left};
 use place::Target;
 use std::path::{Path, PathBuf};
-use trace::Trace;
 
 /// Move the frames of a stopped thread on its stack image
 ///
@@ -27,15 +30,16 @@ use trace::Trace;
 /// tells it. In the lists, '#' begins a comment, and blank lines are passed over.
 ///
 /// Refusals come in this order: an image that was restored already; 31 of the edition; 1 to 9 of the
-/// section; 33 of a version or a machine that the edition doesn't allow; 13 of the image, 14 of the moves, 25 of the frames as a list; a frame with a pair in a register that its line
-/// doesn't tell; then the first frame of the list that is refused by itself, by 10, 15, 12, 16, 18, 17 (of
+/// section; 33 of a version or a machine that the edition doesn't allow; 13 of the image, 14 of the moves,
+/// 25 of the frames as a list; a frame with a pair in a register that its line doesn't tell; then the first frame of the list that is refused by itself, by 10, 15, 12, 16, 18, 17 (of
 /// version 1 17, 18), or 19 to 21; then 26 at the first frame whose extent shares a byte with an earlier
 /// one's; with several --moves the first frame that has a base slot which is not listed with itself; a list of
 /// no frames; last a register that would change, where no --into is said. The place of a frame's refusal is
 /// its position in the list, counted from 0.
 #[derive(clap::Args)]
 #[command(override_usage = USAGE)]
-#[command(group = clap::ArgGroup::new("where").required(true).args(["into", "output", "in_place"]))]
+#[command(group = clap::ArgGroup::new("where").required(true).multiple(true)
+    .args(["into", "output", "in_place", "dry_run"]))]
 pub struct Arguments {
     #[command(flatten)]
     given: Given,
@@ -44,14 +48,26 @@ pub struct Arguments {
     ///
     /// It is made, or is empty. In it are the files 'image', 'frames' and 'image.receipt.json'. It is the
     /// only way where a register changes: image and registers are of one moment.
-    #[arg(long, value_name = "DIR")]
+    #[arg(long, value_name = "DIR", conflicts_with_all = ["output", "in_place"])]
     into: Option<PathBuf>,
     /// Write the new image to a file that must not exist yet, and never touch the old one
-    #[arg(long, value_name = "NEW")]
+    #[arg(long, value_name = "NEW", conflicts_with = "in_place")]
     output: Option<PathBuf>,
     /// Replace the old image by the new one, in one step
     #[arg(long)]
     in_place: bool,
+    /// Tell why each slot would move or stay, and write nothing
+    ///
+    /// It tells what 'treskibben explain' tells of the same files. Where it is also said where the new image
+    /// would go, what the restore would be refused by there is told too.
+    #[arg(long, conflicts_with_all = ["report", "trace"])]
+    dry_run: bool,
+    /// Leave the report of all slots with the new image: what --dry-run tells, as text
+    ///
+    /// With --into it is a file in that folder, which gets its name with all that is in it. Else it is a file
+    /// that must not exist yet, and it is there before the new image is. Its SHA-256 is in the receipt.
+    #[arg(long, value_name = "FILE")]
+    report: Option<PathBuf>,
     /// Restore an image whose receipt tells that it was restored already
     ///
     /// So it is from the second call on where a thread's frames stand in several sections, which have
@@ -81,7 +97,7 @@ pub struct Arguments {
 const USAGE: &str = "\
 treskibben restore --section FILE --image FILE --first ADDRESS
            --moves FILE [--moves FILE..] --frames FILE
-           --into DIR | --output NEW | --in-place [OPTIONS]";
+           --into DIR | --output NEW | --in-place | --dry-run [OPTIONS]";
 
 /// A call, and all that it reads but for the image.
 struct Call<'a> {
@@ -94,25 +110,25 @@ pub fn run(arguments: &Arguments, voice: Voice) -> Result<Status, Trouble> {
     inputs.profile = arguments.profile;
     let call = Call { arguments, inputs };
     let mut target = Target::open(arguments)?;
-    let mut trace = Trace::open(arguments, &target)?;
+    let mut left = Leaves::open(arguments, &target)?;
     let image = target.read()?;
     match call.move_frames(image, voice) {
+        Ok(moved) if arguments.dry_run => {
+            explain::tell(&Report::of_thread(&call.inputs, &moved)?, voice)
+        }
         Ok(moved) => {
-            if let Some(trace) = &mut trace {
-                trace.bytes = call.trace(&moved);
-            }
-            let trace = trace.as_ref();
-            let receipt = call.receipt(&moved, &target, trace);
-            target.put(&moved.after, &moved.frames_after, &receipt, trace)?;
-            call.tell(&moved, &target, trace, voice);
+            call.write_down(&moved, &mut left)?;
+            let receipt = call.receipt(&moved, &target, &left);
+            target.put(&moved.after, &moved.frames_after, &receipt, &left)?;
+            call.tell(&moved, &target, &left, voice);
             Ok(Status::Done)
         }
         Err(trouble) => {
             let status = trouble.tell(voice);
             if status == Status::Refused && voice == Voice::Text {
                 say(&target.untouched());
-                if let Some(trace) = &trace {
-                    say(&format!("{}: is not written", shown(trace.path)));
+                for left in left.iter() {
+                    say(&format!("{}: is not written", shown(left.path)));
                 }
             }
             Ok(status)
@@ -144,7 +160,11 @@ impl Call<'_> {
     /// Only a folder takes image and registers in one step, so that without one a change of a register is
     /// refused.
     fn changes_no_register(&self, moved: &Moved) -> Result<(), Trouble> {
-        let (Some(change), None) = (moved.changed.first(), &self.arguments.into) else {
+        let Arguments {
+            output, in_place, ..
+        } = self.arguments;
+        let alone = output.is_some() || *in_place;
+        let Some(change) = moved.changed.first().filter(|_| alone) else {
             return Ok(());
         };
         let name = self.inputs.machine.register(change.register);
@@ -192,10 +212,24 @@ impl Call<'_> {
         }
     }
 
-    fn receipt(&self, moved: &Moved, target: &Target, trace: Option<&Trace>) -> Receipt {
+    /// Puts down what is left with the new image.
+    fn write_down(&self, moved: &Moved, left: &mut Leaves) -> Result<(), Trouble> {
+        if let Some(trace) = &mut left.trace {
+            trace.bytes = self.trace(moved);
+        }
+        if let Some(left) = &mut left.report {
+            let report = Report::of_thread(&self.inputs, moved)?;
+            let written = text::report(&mut left.bytes, &report);
+            written.map_err(|error| Trouble::file(left.path, "cannot be written", error))?;
+        }
+        Ok(())
+    }
+
+    fn receipt(&self, moved: &Moved, target: &Target, left: &Leaves) -> Receipt {
         let (entry, inputs) = (receipt::Entry::of, &self.inputs);
         let (given, frames) = (inputs.given, moved.frames_after.as_bytes());
         let [section, moves, frames_before] = inputs.entries();
+        let of_left = |left: &Option<Left>| left.as_ref().map(|own| entry(own.path, &own.bytes));
         Receipt {
             treskibben: library::VERSION.to_string(),
             section,
@@ -208,9 +242,9 @@ impl Call<'_> {
             before: entry(&given.image, &moved.before),
             after: entry(&target.image(), &moved.after),
             frames_after: target.frames().map(|path| entry(&path, frames)),
-            report: None,
+            report: of_left(&left.report),
             profile: inputs.profile.map(|profile| profile.name().to_string()),
-            trace: trace.map(|trace| entry(trace.path, &trace.bytes)),
+            trace: of_left(&left.trace),
             moved_frames: moved.frames,
             moved_pointers: moved.pointers,
             moved_registers: moved.changed.len() as u64,
@@ -218,8 +252,9 @@ impl Call<'_> {
     }
 
     /// Tells what was done. It is done, whether anybody hears of it or not.
-    fn tell(&self, moved: &Moved, target: &Target, trace: Option<&Trace>, voice: Voice) {
+    fn tell(&self, moved: &Moved, target: &Target, left: &Leaves, voice: Voice) {
         let (new_frames, registers) = (target.frames(), moved.changed.len() as u64);
+        let trace = left.trace.as_ref();
         let _ = match voice {
             Voice::Text => {
                 let frames = count(moved.frames, "frame");
@@ -248,6 +283,7 @@ impl Call<'_> {
                 pointers: moved.pointers,
                 registers,
                 edition: self.inputs.chosen.told(),
+                report: left.report.as_ref().map(|left| json::name(left.path)),
             }),
         };
     }

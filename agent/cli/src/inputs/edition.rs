@@ -103,12 +103,25 @@ impl<'a> Chosen<'a> {
 
     /// What the edition allows, in words.
     pub fn words(&self) -> String {
-        let settings = self.settings.as_ref().map(editions::words);
-        let settings = settings.unwrap_or_default();
+        let settings = self.allowed();
         match self.store {
             Some(_) => format!("edition {} allows {settings}", self.number),
-            None => format!("no edition is named, which allows {settings}"),
+            None => format!("where no edition is named, the moves have {settings}"),
         }
+    }
+
+    /// The edition and what it allows, after its name.
+    pub fn line(&self) -> String {
+        let settings = self.allowed();
+        match self.store {
+            Some(_) => format!("{}: {settings}", self.number),
+            None => format!("none named: {settings}"),
+        }
+    }
+
+    fn allowed(&self) -> String {
+        let settings = self.settings.as_ref().map(editions::words);
+        settings.unwrap_or_default()
     }
 
     /// How many pointers a move may have.

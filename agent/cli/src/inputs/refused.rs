@@ -21,6 +21,12 @@ impl Inputs<'_> {
         }))
     }
 
+    /// The refusal of a frame that was asked for by itself, at this position.
+    pub fn refused_alone(&self, refusal: Refusal, position: usize, image: &[u8]) -> Trouble {
+        let position = refusal.is_of_frame().then_some(position);
+        self.refused(refusal, position, image)
+    }
+
     /// The file and, of 14, the line in it.
     fn of_file(&self, refusal: Refusal, image: &[u8]) -> Refused {
         let given = self.given;
@@ -65,25 +71,26 @@ impl Inputs<'_> {
         }
     }
 
-    /// A frame of the list: its line, the pair at fault, and what 16 and 26 found.
+    /// A frame of the list: its line, the pair at fault, and what was found there.
     fn of_frame(&self, refusal: Refusal, position: usize, image: &[u8]) -> Refused {
         let (line, first) = (&self.lines[position].value, self.given.first);
         let (frame, registers) = (line.frame, line.registers);
         let pair = self.restore().pair_at_fault(image, frame, registers);
-        let sizes = || Sizes::of(&self.section, self.naming, self.machine);
         let more = match refusal.number {
             10 => Some(self.naming.not_there(&self.section, &frame)),
-            16 => sizes().outside(line, first, image.len()),
-            26 => sizes().shared(&self.lines, position).map(|earlier| {
+            16 => self.sizes().outside(line, first, image.len()),
+            26 => self.sizes().shared(&self.lines, position).map(|earlier| {
                 let line = self.lines[earlier].line;
                 format!("it is shared with frame {earlier} of line {line}")
             }),
-            21 if self.moves.are_joined() => {
-                pair.map(|pair| format!("pair {pair}, by the joined table"))
-            }
-            _ => pair.map(|pair| format!("pair {pair}")),
+            number => self.at_pair(number, line, pair, image),
         };
         self.at_frame(position, pair, more)
+    }
+
+    /// The stack sizes that the frames stand in.
+    pub fn sizes(&self) -> Sizes<'_> {
+        Sizes::of(&self.section, self.naming, self.machine)
     }
 
     /// What is said of a frame of the list: its line, the pair at fault, and what more was found.

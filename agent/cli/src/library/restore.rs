@@ -3,7 +3,7 @@
 use super::{machine, Refusal, Table};
 use crate::registers;
 use treskibben::editions::Edition;
-use treskibben::{Frame, MoveTable, Registers, ThreadRefusal};
+use treskibben::{ExplainedPointer, Frame, MoveTable, Reason, Registers, Slot, ThreadRefusal};
 
 /// All that stays the same throughout a restore.
 #[derive(Clone, Copy, Debug)]
@@ -53,6 +53,48 @@ impl Restore<'_> {
         let moved = edition.relocate(section, image, first, moves, machine, frame, registers);
         let refused = moved.err()?;
         matches!(refused.number(), 18..=21).then_some(refused.place())
+    }
+
+    /// Why each slot of all frames of a thread moves or does not, pointer by pointer; by one call.
+    pub fn explain_thread(
+        &self,
+        image: &[u8],
+        frames: &[Frame],
+        registers: &[Registers],
+    ) -> Result<Vec<ExplainedPointer>, OfThread> {
+        let (section, first, moves) = (self.section, self.first, self.moves());
+        let (machine, registers) = (machine(self.machine), registers.as_flattened());
+        let edition = &self.edition;
+        let explained =
+            edition.explain_thread(section, image, first, moves, machine, frames, registers);
+        explained.map_err(of_thread)
+    }
+
+    /// The same of one frame: the place of its refusal is that of its own move.
+    pub fn explain_frame(
+        &self,
+        image: &[u8],
+        frame: Frame,
+        registers: &Registers,
+    ) -> Result<Vec<ExplainedPointer>, Refusal> {
+        let (section, first, moves) = (self.section, self.first, self.moves());
+        let (machine, edition) = (machine(self.machine), &self.edition);
+        Ok(edition.explain_frame(section, image, first, moves, machine, frame, registers)?)
+    }
+
+    /// Why a slot of a frame moves or does not.
+    pub fn explain(
+        &self,
+        image: &[u8],
+        frame: Frame,
+        registers: &Registers,
+        slot: Slot,
+    ) -> Result<Reason, Refusal> {
+        let (section, first, moves) = (self.section, self.first, self.moves());
+        let (machine, edition) = (machine(self.machine), &self.edition);
+        Ok(edition.explain(
+            section, image, first, moves, machine, frame, registers, slot,
+        )?)
     }
 }
 

@@ -1,10 +1,11 @@
-//! A file that goes with a new image and has its name before it: the trace.
+//! A file that goes with a new image and has its name before it: a trace, or a report.
 //!
 //! It is written beside its name and flushed. When all else is ready it gets the name, and where the image then can't
-//! be put in place it is taken away again: no new image stands without its trace. Who ends the program between
-//! the two leaves the trace of a restore that has not come about. It tells what the frames are answered on the old image, and the
-//! next run, which has the same bytes for it, leaves it as it is.
+//! be put in place it is taken away again: no new image stands without it. Who ends the program between the two
+//! leaves the trace or the report of a restore that has not come about. It tells what the frames are answered on the
+//! old image, and the next run, which has the same bytes for it, leaves it as it is.
 
+use super::left::Left;
 use crate::beside::Beside;
 use crate::names::shown;
 use crate::replace;
@@ -14,6 +15,7 @@ use std::io;
 use std::path::{Path, PathBuf};
 
 pub struct Ahead {
+    what: &'static str,
     path: PathBuf,
     /// The file beside its name; none where it has the name.
     new: Option<Beside>,
@@ -24,10 +26,12 @@ pub struct Ahead {
 impl Ahead {
     /// The file beside its name, whole and down to the disk. One that is like the old image has its permissions;
     /// else only its owner may read it.
-    pub fn prepare(path: &Path, bytes: &[u8], like: Option<&Metadata>) -> Result<Ahead, Trouble> {
-        let new = prepare(path, bytes, like);
+    pub fn prepare(left: &Left, like: Option<&Metadata>) -> Result<Ahead, Trouble> {
+        let (what, path) = (left.what.name(), left.path);
+        let new = prepare(what, path, &left.bytes, like);
         let new = new.map_err(|error| Trouble::file(path, "cannot be written", error))?;
         Ok(Ahead {
+            what,
             path: path.to_path_buf(),
             new,
             placed: false,
@@ -45,8 +49,8 @@ impl Ahead {
             folder.sync_all()
         });
         placed.map_err(|error| {
-            let path = shown(&self.path);
-            let what = format!("its trace {path} cannot be written: {error}");
+            let (own, path) = (self.what, shown(&self.path));
+            let what = format!("its {own} {path} cannot be written: {error}");
             io::Error::new(error.kind(), what)
         })
     }
@@ -66,7 +70,12 @@ impl Drop for Ahead {
 }
 
 /// The new file; none where the name has these very bytes already.
-fn prepare(path: &Path, bytes: &[u8], like: Option<&Metadata>) -> io::Result<Option<Beside>> {
+fn prepare(
+    what: &str,
+    path: &Path,
+    bytes: &[u8],
+    like: Option<&Metadata>,
+) -> io::Result<Option<Beside>> {
     match fs::symlink_metadata(path) {
         Err(error) if error.kind() == io::ErrorKind::NotFound => {}
         Err(error) => return Err(error),
@@ -75,7 +84,9 @@ fn prepare(path: &Path, bytes: &[u8], like: Option<&Metadata>) -> io::Result<Opt
             if as_long && fs::read(path)? == bytes {
                 return Ok(None);
             }
-            let why = "it exists already and is not this trace, and --trace writes no file over";
+            let why = format!(
+                "it exists already and is not this {what}, and --{what} writes no file over"
+            );
             return Err(io::Error::new(io::ErrorKind::AlreadyExists, why));
         }
     }

@@ -6,8 +6,8 @@
 //! is taken for restored that is not; and no new image stands without its receipt.
 
 use super::ahead::Ahead;
+use super::left::Leaves;
 use super::place::Old;
-use super::trace::Trace;
 use super::Arguments;
 use crate::beside::Beside;
 use crate::files;
@@ -81,19 +81,13 @@ impl<'a> Single<'a> {
         }
     }
 
-    /// Puts the trace, the receipt and the image in place.
-    pub fn put(
-        &self,
-        image: &[u8],
-        receipt: &Receipt,
-        trace: Option<&Trace>,
-    ) -> Result<(), Trouble> {
+    /// Puts what is left with the image, the receipt and the image in place.
+    pub fn put(&self, image: &[u8], receipt: &Receipt, left: &Leaves) -> Result<(), Trouble> {
         let what = match self {
             Single::InPlace(..) => "cannot be replaced",
             Single::New(..) => CANNOT_BE_WRITTEN,
         };
-        let ahead = trace.map(|trace| trace.prepare(self.metadata()));
-        let mut ahead = ahead.transpose()?.flatten();
+        let mut ahead = left.prepare(self.metadata())?;
         let path = receipt::path_of(self.named());
         let placed = receipt
             .text()
@@ -109,7 +103,7 @@ impl<'a> Single<'a> {
         image: &[u8],
         path: &Path,
         receipt: &[u8],
-        ahead: &mut Option<Ahead>,
+        ahead: &mut [Ahead],
     ) -> io::Result<File> {
         let of_receipt = |error: io::Error| {
             let what = format!("its receipt {} cannot be written: {error}", shown(path));

@@ -1,91 +1,14 @@
-//! The trace of a restore: what it holds, and where it goes.
+//! The trace of a restore: what it holds.
 //!
 //! A restore is one call, all frames or none, and a trace has the answer of each frame where they are moved one by one. No
 //! two frames of an accepted restore share a byte, so that each gets the answer that it gets by itself: 0 and how
 //! many pointers it has. What is written was replayed by the library before, which gave these answers and left the
 //! restored image.
 
-use super::ahead::Ahead;
-use super::place::Target;
-use super::{Arguments, Call};
-use crate::beside::folder_of;
-use crate::files;
+use super::Call;
 use crate::inputs::slots::{pairs, At};
 use crate::inputs::Moved;
 use crate::library::{self, Difference, Recorded, Step};
-use crate::names::shown;
-use crate::trouble::Trouble;
-use std::ffi::OsStr;
-use std::fs::{self, Metadata};
-use std::path::{Path, PathBuf};
-
-/// A trace that is to be written.
-pub struct Trace<'a> {
-    pub path: &'a Path,
-    /// Its name in the folder that the restore makes, where it is to stand there.
-    inside: Option<&'a OsStr>,
-    /// Its bytes; none before the frames are moved.
-    pub bytes: Vec<u8>,
-}
-
-impl<'a> Trace<'a> {
-    /// The trace that a call asks for, if it does. Its name is its own.
-    pub fn open(arguments: &'a Arguments, target: &Target) -> Result<Option<Trace<'a>>, Trouble> {
-        let Some(path) = arguments.trace.as_deref() else {
-            return Ok(None);
-        };
-        let (true, Some(name)) = (!files::is_standard_input(path), path.file_name()) else {
-            let why = "--trace needs a name: a trace is a file by itself";
-            return Err(Trouble::Usage(why.to_string()));
-        };
-        let others = [
-            Some(target.image()),
-            Some(target.receipt()),
-            target.frames(),
-        ];
-        let own = real(path);
-        if let Some(other) = others.iter().flatten().find(|other| real(other) == own) {
-            let (path, other) = (shown(path), shown(other));
-            return Err(Trouble::Usage(format!(
-                "--trace {path}: the restore writes {other} there"
-            )));
-        }
-        let folder = arguments.into.as_deref().map(real);
-        let inside = folder.is_some_and(|folder| real(folder_of(path)) == folder);
-        Ok(Some(Trace {
-            path,
-            inside: inside.then_some(name),
-            bytes: Vec::new(),
-        }))
-    }
-
-    /// Its name and its bytes, where it stands in the folder that the restore makes.
-    pub fn inside(&self) -> Option<(&'a OsStr, &[u8])> {
-        self.inside.map(|name| (name, &self.bytes[..]))
-    }
-
-    /// The file beside its name, where it is one by itself.
-    pub fn prepare(&self, like: Option<&Metadata>) -> Result<Option<Ahead>, Trouble> {
-        match self.inside {
-            Some(_) => Ok(None),
-            None => Ahead::prepare(self.path, &self.bytes, like).map(Some),
-        }
-    }
-}
-
-/// A name where no link has to be followed to its folder. A folder that is yet to be made is by its own name.
-fn real(path: &Path) -> PathBuf {
-    let there = fs::canonicalize(path);
-    there.unwrap_or_else(
-        |_| match (fs::canonicalize(folder_of(path)), path.file_name()) {
-            (Ok(folder), Some(name)) => folder.join(name),
-            (_, Some(name)) if folder_of(path) != Path::new(".") => {
-                real(folder_of(path)).join(name)
-            }
-            _ => path.to_path_buf(),
-        },
-    )
-}
 
 impl Call<'_> {
     /// The trace of this restore, with the registers of each frame as they were before.
@@ -175,18 +98,5 @@ mod tests {
                 .filter(|(guess, now)| **guess != now.value);
             assert_eq!(replays, 1 + wrong.count());
         }
-    }
-
-    #[test]
-    fn names_of_folders_that_are_not_there() {
-        let here = fs::canonicalize(".").unwrap();
-        for (path, own) in [
-            ("none", "none"),
-            ("none/trace", "none/trace"),
-            ("./none", "none"),
-        ] {
-            assert_eq!(real(Path::new(path)), here.join(own), "{path}");
-        }
-        assert_eq!(real(Path::new("src/..")), here);
     }
 }
