@@ -14,7 +14,8 @@ pub mod receipts;
 mod refusals;
 pub mod registers;
 mod reports;
-mod threads;
+pub mod threads;
+mod traced;
 mod twice;
 mod worked;
 

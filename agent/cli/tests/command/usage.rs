@@ -5,7 +5,7 @@ use crate::run::{Folder, Ran, PROGRAM};
 use std::path::Path;
 use std::process::{Command, Stdio};
 
-const COMMANDS: [&str; 13] = [
+const COMMANDS: [&str; 15] = [
     "check",
     "list",
     "build",
@@ -18,6 +18,8 @@ const COMMANDS: [&str; 13] = [
     "join",
     "explain",
     "restore",
+    "replay",
+    "trace",
     "completions",
 ];
 
