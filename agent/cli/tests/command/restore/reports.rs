@@ -1,13 +1,13 @@
 //! The report that a restore leaves with the new image: whole, and there with it, or not at all.
 
+use super::faults::{as_a_stranger, set_mode};
 use super::receipts::digest;
 use super::registers::{in_rbx, made, MADE};
 use super::{Restore, DONE, FILES, RECEIPT};
-use crate::run::{is_root, Folder, Ran, NOBODY};
+use crate::run::{Folder, Ran};
 use serde_json::Value;
 use std::fs::{self, Permissions};
-use std::os::unix::fs::{chown, PermissionsExt};
-use std::os::unix::process::CommandExt;
+use std::os::unix::fs::PermissionsExt;
 
 /// Runs a restore.
 fn restore(row: &Restore, folder: &Folder, more: &[&str]) -> Ran {
@@ -197,42 +197,24 @@ fn names_that_cannot_be() {
     }
 }
 
-/// A folder that the report can't be written to, or isn't there: the image stays as it was.
+/// A folder that the report can't be written to, or that isn't there: the image stays as it was.
 #[test]
 fn a_folder_that_cannot_be_written() {
-    let (row, folder) = (Restore::row_i(), Folder::within(&std::env::temp_dir()));
+    let (row, folder) = (Restore::row_i(), Folder::new());
     row.put(&folder);
     let ran = restore(&row, &folder, &["--in-place", "--report", "none/why"]);
     ran.failed("none/why: cannot be written: ", "No such file");
     assert_eq!(folder.names(), FILES);
-    fs::create_dir(folder.at("closed")).unwrap();
-    fs::set_permissions(folder.at("closed"), Permissions::from_mode(0o555)).unwrap();
-    let mut command = folder.command();
-    if is_root() {
-        fs::set_permissions(folder.path(), Permissions::from_mode(0o777)).unwrap();
-        fs::copy(crate::run::PROGRAM, folder.at("program")).unwrap();
-        for name in FILES {
-            chown(folder.at(name), Some(NOBODY), Some(NOBODY)).unwrap();
-        }
-        command = std::process::Command::new(folder.at("program"));
-        command.current_dir(folder.path()).uid(NOBODY).gid(NOBODY);
-    }
-    let probe = row
-        .inputs(&mut command)
-        .args(["--in-place", "--report", "closed/why"]);
-    let Ok(output) = probe.output() else {
-        return crate::run::skipped("no other user can run the program");
+    let Some((folder, mut command)) = as_a_stranger(&row) else {
+        return;
     };
-    let ran = Ran::from(output);
-    if ran.err.contains("libtreskibben") {
-        return crate::run::skipped("no other user can run the program");
-    }
+    fs::create_dir(folder.at("closed")).unwrap();
+    set_mode(&folder.at("closed"), 0o555);
+    let ran = Ran::of(command.args(["--report", "closed/why"]));
     ran.failed("closed/why: cannot be written: ", "Permission denied");
     assert_eq!(folder.get("image"), row.image);
-    assert!(!folder
-        .names()
-        .iter()
-        .any(|name| name.contains("treskibben-new")));
+    let names = ["closed", "frames", "image", "moves", "program", "section"];
+    assert_eq!(folder.names(), names);
     assert_eq!(fs::read_dir(folder.at("closed")).unwrap().count(), 0);
 }
 
