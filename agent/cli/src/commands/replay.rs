@@ -1,18 +1,15 @@
 //! `replay`: a recorded restore, done once more.
 
 mod now;
+mod told;
 
-use crate::found::length;
-use crate::frames::Naming;
+use crate::files;
 use crate::inputs::Chosen;
-use crate::library::{self, Difference, Restore, Step};
+use crate::library::{self, Restore};
 use crate::moves::Moves;
-use crate::names::shown;
-use crate::numbers::{address, count, whole};
-use crate::trace::objects::{Answer, Frame, Told};
-use crate::trace::{self, text};
+use crate::numbers::{address, whole};
+use crate::trace;
 use crate::trouble::{Status, Trouble, Voice};
-use crate::{files, json, output};
 use std::path::{Path, PathBuf};
 
 /// Replay a recorded restore on the old image, and say whether it is answered as recorded
@@ -95,7 +92,7 @@ pub fn run(arguments: &Arguments, voice: Voice) -> Result<Status, Trouble> {
     };
     let moved = match &inputs.restored {
         None => Status::Done,
-        Some((path, restored)) => inputs.compare(path, restored, &image, voice)?,
+        Some((path, restored)) => inputs.tell_image(path, restored, &image, voice)?,
     };
     Ok(answered.max(moved))
 }
@@ -125,113 +122,5 @@ impl<'a> Inputs<'a> {
             trace: trace::read(trace)?,
             restored: restored.transpose()?,
         })
-    }
-
-    fn tell_same(&self, steps: &[Step], voice: Voice) -> Result<Status, Trouble> {
-        let (file, answers) = (&self.arguments.trace, steps.len());
-        match voice {
-            Voice::Text => {
-                let answers = count(answers as u64, "answer");
-                output::line(&format!("{}: same, {answers}", shown(file)))?;
-            }
-            Voice::Json => output::object(&Answer::Same {
-                file: &json::name(file),
-                answers,
-            })?,
-        }
-        Ok(Status::Done)
-    }
-
-    /// The first answer that differs: its frame, what is recorded and what is answered now.
-    fn tell_difference(
-        &self,
-        steps: &[Step],
-        differs: Difference,
-        chosen: &Chosen,
-        voice: Voice,
-    ) -> Result<Status, Trouble> {
-        let (file, answers) = (&self.arguments.trace, steps.len());
-        let number = usize::try_from(differs.item).unwrap_or(usize::MAX);
-        let step = &steps[number];
-        let refusal = library::outcome(differs.now).err();
-        let found = refusal.and_then(|refusal| self.found(step, refusal, chosen));
-        let found = found.as_deref();
-        match voice {
-            Voice::Text => output::to(None, |out| {
-                let name = shown(file);
-                writeln!(out, "{name}: differs in answer {number} of {answers}")?;
-                text::frame(out, number, step, Some(Naming::of(&self.section)))?;
-                writeln!(out, "  recorded: {}", text::answer(step.answer, None))?;
-                writeln!(out, "  now: {}", text::answer(differs.now, found))
-            })?,
-            Voice::Json => output::object(&Answer::Differs {
-                file: &json::name(file),
-                answers,
-                item: differs.item,
-                frame: Frame::of(number, step),
-                recorded: Told::of(step.answer, None),
-                now: Told::of(differs.now, found),
-            })?,
-        }
-        Ok(Status::Refused)
-    }
-
-    /// Whether a restored image is what the replay leaves.
-    fn compare(
-        &self,
-        path: &Path,
-        restored: &[u8],
-        left: &[u8],
-        voice: Voice,
-    ) -> Result<Status, Trouble> {
-        let Some((byte, found)) = self.other_byte(path, restored, left) else {
-            match voice {
-                Voice::Text => {
-                    let bytes = count(left.len() as u64, "byte");
-                    output::line(&format!("{}: same, {bytes}", shown(path)))?;
-                }
-                Voice::Json => output::object(&Answer::SameImage {
-                    file: &json::name(path),
-                    bytes: left.len(),
-                })?,
-            }
-            return Ok(Status::Done);
-        };
-        match voice {
-            Voice::Text => output::line(&format!("{}: differs: {found}", shown(path)))?,
-            Voice::Json => output::object(&Answer::OtherImage {
-                file: &json::name(path),
-                byte,
-                found: &found,
-            })?,
-        }
-        Ok(Status::Refused)
-    }
-
-    /// The first byte of an image that is another than the replay leaves, or their lengths.
-    fn other_byte(
-        &self,
-        path: &Path,
-        restored: &[u8],
-        left: &[u8],
-    ) -> Option<(Option<usize>, String)> {
-        if restored.len() != left.len() {
-            let length = length(path, restored, files::IMAGE);
-            let left = left.len();
-            return Some((
-                None,
-                format!("it has {length}, and the replay leaves {left}"),
-            ));
-        }
-        let byte = restored
-            .iter()
-            .zip(left)
-            .position(|(one, other)| one != other)?;
-        let (is, left) = (restored[byte], left[byte]);
-        let address = self.arguments.first.wrapping_add(byte as u64);
-        let found = format!(
-            "byte {byte}, at address {address:#x}, is {is:#04x}, and the replay leaves {left:#04x}"
-        );
-        Some((Some(byte), found))
     }
 }

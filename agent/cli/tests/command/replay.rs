@@ -5,7 +5,7 @@ mod refusals;
 
 use crate::fixtures::words;
 use crate::restore::{threads, Restore};
-use crate::run::{Folder, Ran};
+use crate::run::{Folder, Ran, PROGRAM};
 use crate::trace::{answer, frame, of, row_i};
 use serde_json::{json, Value};
 use std::fs::File;
@@ -250,5 +250,40 @@ fn standard_input() {
         let ran = Ran::of(command.stdin(Stdio::from(file)));
         let said = if name == "-" { "-" } else { "t" };
         ran.done(&format!("{said}: same, 1 answer\n"));
+    }
+}
+
+/// The status is the same whether anybody reads the answer or not; where there is nowhere to write it, it is 2.
+#[test]
+fn nobody_to_tell() {
+    let (row, folder) = (Restore::row_i(), Folder::new());
+    row.put(&folder);
+    folder.put("t", row_i());
+    folder.put(
+        "other",
+        of(&[frame(0, 0x1020, 0, &[(7, 0x7000)]), answer(0, 3)]),
+    );
+    let status = |trace: &str, more: &str, output: &str| {
+        let call = "--section section --image image --first 7000 --moves moves";
+        let line = format!(
+            "{{ sleep 0.1; \"$0\" replay {call} {trace} {more}; echo $? >status; }} {output}"
+        );
+        let mut command = Command::new("sh");
+        command.args(["-c", &line, PROGRAM]);
+        Ran::of(command.current_dir(folder.path()).stdin(Stdio::null()));
+        String::from_utf8(folder.get("status")).unwrap()
+    };
+    for more in ["", "--json", "--restored image"] {
+        let same = if more == "--restored image" {
+            "1\n"
+        } else {
+            "0\n"
+        };
+        assert_eq!(status("t", more, "| true"), same, "{more}");
+        assert_eq!(status("other", more, "| true"), "1\n", "{more}");
+        for output in [">/dev/full", ">&-"] {
+            assert_eq!(status("t", more, output), "2\n", "{more}");
+            assert_eq!(status("other", more, output), "2\n", "{more}");
+        }
     }
 }
