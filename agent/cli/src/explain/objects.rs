@@ -34,6 +34,8 @@ struct Head<'a> {
     frames: Entry,
     machine: &'a str,
     edition: Option<Edition>,
+    #[serde(skip_serializing_if = "Option::is_none")]
+    profile: Option<&'a str>,
 }
 
 #[derive(Serialize)]
@@ -173,6 +175,7 @@ fn head<'a>(report: &'a Report) -> Head<'a> {
         frames,
         machine: inputs.machine.name(),
         edition: inputs.chosen.told(),
+        profile: inputs.profile.map(|profile| profile.name()),
     }
 }
 

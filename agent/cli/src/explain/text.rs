@@ -84,7 +84,11 @@ fn head(out: &mut dyn Write, report: &Report) -> io::Result<()> {
     let end = u128::from(first) + u128::from(report.image.bytes);
     writeln!(out, "{:10}  {first:#x} to {end:#x}", "addresses")?;
     writeln!(out, "{:10}  {}", "machine", inputs.machine.name())?;
-    writeln!(out, "{:10}  {}", "edition", inputs.chosen.line())
+    writeln!(out, "{:10}  {}", "edition", inputs.chosen.line())?;
+    match inputs.profile {
+        Some(profile) => writeln!(out, "{:10}  {}", "profile", profile.name()),
+        None => Ok(()),
+    }
 }
 
 /// Files, a line each: what it is, its length, its digest, its name.

@@ -91,6 +91,32 @@ fn a_restore_into_a_folder() {
     assert_eq!(ran.status, Some(0), "{}", ran.err);
 }
 
+/// There is no room for the report: then there is no new image, and no report, whole or in part.
+#[test]
+fn a_report() {
+    let (row, folder) = (Restore::row_i(), Folder::new());
+    row.put(&folder);
+    for (size, place, start) in [
+        (20, "--in-place --report why", "why: cannot be written: "),
+        (20, "--output new --report why", "why: cannot be written: "),
+        (
+            24,
+            "--into new --report new/why",
+            "new/why: cannot be written: ",
+        ),
+    ] {
+        let call = format!("{RESTORE} {place}");
+        let Some(ran) = on_a_disk(&folder, size, FILES, &call) else {
+            return;
+        };
+        full(&ran, start, NAMES);
+    }
+    let call = format!("{RESTORE} --output new --report why");
+    let ran = on_a_disk(&folder, 64, FILES, &call).unwrap();
+    let names = "frames\nimage\nmoves\nnew\nnew.receipt.json\nsection\nwhy\n";
+    assert_eq!((ran.status, ran.text()), (Some(0), names), "{}", ran.err);
+}
+
 #[test]
 fn a_list_and_a_build() {
     let folder = Folder::new();

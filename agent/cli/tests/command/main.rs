@@ -5,6 +5,7 @@ mod check;
 mod cut;
 mod document;
 mod edition;
+mod explain;
 mod fixtures;
 mod flat;
 mod full;

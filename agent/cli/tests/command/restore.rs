@@ -2,14 +2,18 @@
 
 mod asked_to_end;
 mod at_once;
+mod dry_run;
+mod editions;
+mod facts;
 mod faults;
 mod killed;
 mod lists;
 mod machines;
 mod output;
-mod receipts;
+pub mod receipts;
 mod refusals;
 pub mod registers;
+mod reports;
 pub mod threads;
 mod traced;
 mod twice;

@@ -5,7 +5,7 @@ use crate::run::{Folder, Ran, PROGRAM};
 use std::path::Path;
 use std::process::{Command, Stdio};
 
-const COMMANDS: [&str; 14] = [
+const COMMANDS: [&str; 15] = [
     "check",
     "list",
     "build",
@@ -16,6 +16,7 @@ const COMMANDS: [&str; 14] = [
     "edition",
     "report",
     "join",
+    "explain",
     "restore",
     "replay",
     "trace",
