@@ -1,11 +1,9 @@
 //! What a replay tells: whether the answers are the same, and the image.
 
-use super::Inputs;
+use super::Replay;
 use crate::files;
 use crate::found::length;
-use crate::frames::Naming;
-use crate::inputs::Chosen;
-use crate::library::{self, Difference, Step};
+use crate::library::{self, Difference};
 use crate::names::shown;
 use crate::numbers::count;
 use crate::trace::objects::{Answer, Frame, Told};
@@ -22,10 +20,10 @@ fn told(written: Result<(), Trouble>, status: Status) -> Result<Status, Trouble>
     }
 }
 
-impl Inputs<'_> {
+impl Replay<'_> {
     /// Every answer is the recorded one.
-    pub fn tell_same(&self, steps: &[Step], voice: Voice) -> Result<Status, Trouble> {
-        let (file, answers) = (&self.arguments.trace, steps.len());
+    pub fn tell_same(&self, voice: Voice) -> Result<Status, Trouble> {
+        let (file, answers) = (&self.arguments.trace, self.steps.len());
         let written = match voice {
             Voice::Text => {
                 let answers = count(answers as u64, "answer");
@@ -41,23 +39,22 @@ impl Inputs<'_> {
 
     /// The first answer that differs: its frame, what is recorded and what is answered now.
     pub fn tell_difference(
-        &self,
-        steps: &[Step],
+        &mut self,
         differs: Difference,
-        chosen: &Chosen,
         voice: Voice,
     ) -> Result<Status, Trouble> {
-        let (file, answers) = (&self.arguments.trace, steps.len());
         let number = usize::try_from(differs.item).unwrap_or(usize::MAX);
-        let step = &steps[number];
         let refusal = library::outcome(differs.now).err();
-        let found = refusal.and_then(|refusal| self.found(step, refusal, chosen));
+        let found = refusal.map(|refusal| self.found(number, refusal));
+        let found = found.transpose()?.flatten();
         let found = found.as_deref();
+        let (file, step) = (&self.arguments.trace, &self.steps[number]);
+        let answers = self.steps.len();
         let written = match voice {
             Voice::Text => output::to(None, |out| {
                 let name = shown(file);
                 writeln!(out, "{name}: differs in answer {number} of {answers}")?;
-                text::frame(out, number, step, Some(Naming::of(&self.section)))?;
+                text::frame(out, number, step, Some(self.inputs.naming))?;
                 writeln!(out, "  recorded: {}", text::answer(step.answer, None))?;
                 writeln!(out, "  now: {}", text::answer(differs.now, found))
             }),
