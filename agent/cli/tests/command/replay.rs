@@ -2,6 +2,7 @@
 
 mod random;
 mod refusals;
+mod round;
 
 use crate::fixtures::words;
 use crate::restore::{threads, Restore};
