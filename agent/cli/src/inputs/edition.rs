@@ -106,7 +106,7 @@ impl<'a> Chosen<'a> {
         let settings = self.allowed();
         match self.store {
             Some(_) => format!("edition {} allows {settings}", self.number),
-            None => format!("where no edition is named, the moves have {settings}"),
+            None => format!("no edition is named, which allows {settings}"),
         }
     }
 

@@ -1,6 +1,7 @@
 //! `explain`: why each slot moves or stays, of a thread, a frame and a slot; as text and for programs.
 
 mod objects;
+mod random;
 mod refused;
 mod slots;
 mod threads;

@@ -91,18 +91,36 @@ fn a_restore_into_a_folder() {
     assert_eq!(ran.status, Some(0), "{}", ran.err);
 }
 
-/// There is no room for the report: then there is no new image, and no report, whole or in part.
+/// There is no room for the report, for the image, or for its receipt: then there is no new image, and no report,
+/// whole or in part.
 #[test]
 fn a_report() {
     let (row, folder) = (Restore::row_i(), Folder::new());
     row.put(&folder);
     for (size, place, start) in [
-        (20, "--in-place --report why", "why: cannot be written: "),
-        (20, "--output new --report why", "why: cannot be written: "),
+        (16, "--in-place --report why", "why: cannot be written: "),
+        (20, "--in-place --report why", "image: cannot be replaced: "),
+        (
+            24,
+            "--in-place --report why",
+            "image: cannot be replaced: its receipt ",
+        ),
+        (16, "--output new --report why", "why: cannot be written: "),
+        (20, "--output new --report why", "new: cannot be written: "),
+        (
+            24,
+            "--output new --report why",
+            "new: cannot be written: its receipt ",
+        ),
         (
             24,
             "--into new --report new/why",
             "new/why: cannot be written: ",
+        ),
+        (
+            28,
+            "--into new --report new/why",
+            "new/image.receipt.json: cannot be written: ",
         ),
     ] {
         let call = format!("{RESTORE} {place}");

@@ -40,14 +40,15 @@ fn every_slot_once_with_its_reason() {
     let (head, rest) = text.split_once("\n\nframe 0, ").unwrap();
     let (frames, end) = rest.split_once("\nnew image").unwrap();
     assert_eq!(format!("frame 0, {frames}"), FRAMES);
-    let line = |what: &str, length: &str, bytes: &[u8], name: &str| {
+    let line = |what: &str, bytes: &[u8], name: &str| {
+        let length = format!("{} bytes", bytes.len());
         format!("{what:10}  {length:>9}  sha256 {}  {name}\n", digest(bytes))
     };
     let files = [
-        line("section", "352 bytes", &row.section, "section"),
-        line("image", "160 bytes", &row.image, "image"),
-        line("moves", "24 bytes", row.moves.as_bytes(), "moves"),
-        line("frames", "58 bytes", row.frames.as_bytes(), "frames"),
+        line("section", &row.section, "section"),
+        line("image", &row.image, "image"),
+        line("moves", row.moves.as_bytes(), "moves"),
+        line("frames", row.frames.as_bytes(), "frames"),
     ];
     let version = env!("CARGO_PKG_VERSION");
     let expected = format!(

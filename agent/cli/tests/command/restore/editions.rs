@@ -191,19 +191,18 @@ fn order() {
     };
     row.section.push(0);
     let ran = by(&row, &folder, "1", &[]);
-    refused(
-        &row,
-        &folder,
-        &ran,
-        9,
-        "section: bytes after the last record",
+    assert!(
+        ran.err.starts_with("section: refused 9 at 152: "),
+        "{}",
+        ran.err
     );
     row.section.pop();
     let ran = by(&row, &folder, "1", &[]);
     refused(&row, &folder, &ran, 33, NOT_ALLOWED);
     let (folder, _) = with_store(1, &[(1, ALL)]);
     let ran = by(&row, &folder, "1", &[]);
-    refused(&row, &folder, &ran, 13, "image: image over 1,048,576 bytes");
+    let words = "image: image over 1,048,576 bytes, or first address + length over 2^64 - 1";
+    refused(&row, &folder, &ran, 13, words);
 }
 
 /// The machine is the edition's, unless another is said.

@@ -140,6 +140,6 @@ fn too_many_pointers() {
     );
     assert_eq!(
         found(&row, 17),
-        "257 pointers; where no edition is named, the moves have at most 256 pointers, x86-64, versions 1 and 3"
+        "257 pointers; no edition is named, which allows at most 256 pointers, x86-64, versions 1 and 3"
     );
 }

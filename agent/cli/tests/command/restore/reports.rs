@@ -1,13 +1,17 @@
 //! The report that a restore leaves with the new image: whole, and there with it, or not at all.
 
+use super::faults::{as_a_stranger, set_mode};
+use super::killed::{image, thread, whole_run, NEW, OLD};
 use super::receipts::digest;
 use super::registers::{in_rbx, made, MADE};
 use super::{Restore, DONE, FILES, RECEIPT};
-use crate::run::{is_root, Folder, Ran, NOBODY};
+use crate::run::{until_there, Folder, Ran};
 use serde_json::Value;
 use std::fs::{self, Permissions};
-use std::os::unix::fs::{chown, PermissionsExt};
-use std::os::unix::process::CommandExt;
+use std::os::unix::fs::PermissionsExt;
+use std::process::Stdio;
+use std::thread::sleep;
+use std::time::Duration;
 
 /// Runs a restore.
 fn restore(row: &Restore, folder: &Folder, more: &[&str]) -> Ran {
@@ -197,42 +201,24 @@ fn names_that_cannot_be() {
     }
 }
 
-/// A folder that the report can't be written to, or isn't there: the image stays as it was.
+/// A folder that the report can't be written to, or that isn't there: the image stays as it was.
 #[test]
 fn a_folder_that_cannot_be_written() {
-    let (row, folder) = (Restore::row_i(), Folder::within(&std::env::temp_dir()));
+    let (row, folder) = (Restore::row_i(), Folder::new());
     row.put(&folder);
     let ran = restore(&row, &folder, &["--in-place", "--report", "none/why"]);
     ran.failed("none/why: cannot be written: ", "No such file");
     assert_eq!(folder.names(), FILES);
-    fs::create_dir(folder.at("closed")).unwrap();
-    fs::set_permissions(folder.at("closed"), Permissions::from_mode(0o555)).unwrap();
-    let mut command = folder.command();
-    if is_root() {
-        fs::set_permissions(folder.path(), Permissions::from_mode(0o777)).unwrap();
-        fs::copy(crate::run::PROGRAM, folder.at("program")).unwrap();
-        for name in FILES {
-            chown(folder.at(name), Some(NOBODY), Some(NOBODY)).unwrap();
-        }
-        command = std::process::Command::new(folder.at("program"));
-        command.current_dir(folder.path()).uid(NOBODY).gid(NOBODY);
-    }
-    let probe = row
-        .inputs(&mut command)
-        .args(["--in-place", "--report", "closed/why"]);
-    let Ok(output) = probe.output() else {
-        return crate::run::skipped("no other user can run the program");
+    let Some((folder, mut command)) = as_a_stranger(&row) else {
+        return;
     };
-    let ran = Ran::from(output);
-    if ran.err.contains("libtreskibben") {
-        return crate::run::skipped("no other user can run the program");
-    }
+    fs::create_dir(folder.at("closed")).unwrap();
+    set_mode(&folder.at("closed"), 0o555);
+    let ran = Ran::of(command.args(["--report", "closed/why"]));
     ran.failed("closed/why: cannot be written: ", "Permission denied");
     assert_eq!(folder.get("image"), row.image);
-    assert!(!folder
-        .names()
-        .iter()
-        .any(|name| name.contains("treskibben-new")));
+    let names = ["closed", "frames", "image", "moves", "program", "section"];
+    assert_eq!(folder.names(), names);
     assert_eq!(fs::read_dir(folder.at("closed")).unwrap().count(), 0);
 }
 
@@ -247,4 +233,78 @@ fn an_image_that_has_gone() {
     ran.failed("image: cannot be replaced: its receipt ", "Is a directory");
     assert_eq!(folder.get("image"), row.image);
     assert_eq!(folder.names(), DONE);
+}
+
+/// Whatever moment ends the program, no new image is there without its report, and no report in part.
+#[test]
+fn killed_at_any_moment() {
+    const KILLS: u64 = 120;
+    let (row, folder) = (thread(), Folder::new());
+    let (old, new) = (image(OLD), image(NEW));
+    // The report takes about as long as the restore.
+    let long = 2 * whole_run(&row, &folder).as_micros() as usize;
+    let report = report(&row);
+    let mut rng = generator::Rng::part(0xDEAD, 8);
+    let (mut replaced, mut made) = (0, 0);
+    for kill in 0..KILLS {
+        folder.put("image", &old);
+        let into = kill % 2 == 1;
+        let (name, more): (&str, &[&str]) = match into {
+            true => ("new/why", &["--into", "new", "--report", "new/why"]),
+            false => ("why", &["--in-place", "--report", "why"]),
+        };
+        let mut command = folder.command();
+        let command = row.inputs(&mut command).args(more);
+        let mut child = command.stdout(Stdio::null()).spawn().unwrap();
+        // Half of the kills are aimed at the writing.
+        let within = match kill % 4 {
+            0 | 1 => long * 5 / 4,
+            _ => {
+                until_there(
+                    &mut child,
+                    &folder,
+                    &[".why.treskibben-new", "why", ".new.treskibben-new"],
+                );
+                long / 4
+            }
+        };
+        sleep(Duration::from_micros(rng.below(within + 1) as u64));
+        child.kill().unwrap();
+        child.wait().unwrap();
+        let there = folder.at(name).exists();
+        assert!(
+            !there || folder.get(name) == report.as_bytes(),
+            "kill {kill}: half a report"
+        );
+        let is_new = match into {
+            true => folder.at("new").exists(),
+            false => folder.get("image") == new,
+        };
+        assert!(
+            !is_new || there,
+            "kill {kill}: a new image without its report"
+        );
+        assert!(
+            is_new || folder.get("image") == old,
+            "kill {kill}: a mixed image"
+        );
+        if is_new && into {
+            assert!(
+                folder.get("new/image") == new,
+                "kill {kill}: a mixed folder"
+            );
+        }
+        replaced += u64::from(is_new && !into);
+        made += u64::from(is_new && into);
+        let _ = fs::remove_dir_all(folder.at("new"));
+        for name in [RECEIPT, "why"] {
+            let _ = fs::remove_file(folder.at(name));
+        }
+    }
+    let all = KILLS / 2;
+    let some = |number: u64| 0 < number && number < all;
+    assert!(
+        some(replaced) && some(made),
+        "{replaced} replaced, {made} made"
+    );
 }
