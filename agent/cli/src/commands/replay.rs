@@ -1,19 +1,17 @@
 //! `replay`: a recorded restore, done once more.
 
-mod now;
+mod told;
 
-use crate::found::length;
-use crate::frames::Naming;
-use crate::inputs::Chosen;
-use crate::library::{self, Difference, Restore, Step};
+use crate::files;
+use crate::frames::{Line, Naming};
+use crate::inputs::{Chosen, Given, Inputs};
+use crate::library::{self, Difference, Refusal, Step};
+use crate::lists::Entry;
 use crate::moves::Moves;
-use crate::names::shown;
-use crate::numbers::{address, count, whole};
-use crate::trace::objects::{Answer, Frame, Told};
-use crate::trace::{self, text};
+use crate::numbers::{address, whole};
+use crate::trace;
 use crate::trouble::{Status, Trouble, Voice};
-use crate::{files, json, output};
-use std::path::{Path, PathBuf};
+use std::path::PathBuf;
 
 /// Replay a recorded restore on the old image, and say whether it is answered as recorded
 ///
@@ -63,175 +61,107 @@ treskibben replay --section FILE --image OLD --first ADDRESS
            --moves FILE [--moves FILE..] [--edition NUMBER --store FILE]
            [--restored NEW] [--json] TRACE";
 
-/// All that a replay reads.
-struct Inputs<'a> {
+/// A replay: all that it reads.
+struct Replay<'a> {
     arguments: &'a Arguments,
-    section: Vec<u8>,
+    /// What is the same for all frames. Its list of frames is empty, and is the one of which something is said.
+    inputs: Inputs<'a>,
     image: Vec<u8>,
-    moves: Moves<'a>,
     trace: Vec<u8>,
-    restored: Option<(&'a Path, Vec<u8>)>,
+    steps: Vec<Step>,
+    restored: Option<Vec<u8>>,
 }
 
 pub fn run(arguments: &Arguments, voice: Voice) -> Result<Status, Trouble> {
-    let inputs = Inputs::read(arguments)?;
-    let steps = trace::steps(&arguments.trace, &inputs.trace)?;
-    let machine = steps.first().map(|step| library::machine_of(step.machine));
-    let machine = machine.unwrap_or_default();
-    let chosen = Chosen::of(arguments.store.as_deref(), arguments.edition, machine)?;
-    let restore = Restore {
-        edition: chosen.edition(),
-        section: &inputs.section,
-        first: arguments.first,
-        table: &inputs.moves.table,
-        machine,
-    };
-    let mut image = inputs.image.clone();
-    let differs = restore.replay(&mut image, &inputs.trace);
-    let differs = differs.map_err(|refusal| Trouble::refused(&arguments.trace, refusal, None))?;
+    let given = arguments.given();
+    let mut replay = Replay::read(arguments, &given)?;
+    let mut image = replay.image.clone();
+    let differs = replay.replay(&mut image, &replay.trace)?;
     let answered = match differs {
-        None => inputs.tell_same(&steps, voice)?,
-        Some(differs) => inputs.tell_difference(&steps, differs, &chosen, voice)?,
+        None => replay.tell_same(voice)?,
+        Some(differs) => replay.tell_difference(differs, voice)?,
     };
-    let moved = match &inputs.restored {
-        None => Status::Done,
-        Some((path, restored)) => inputs.compare(path, restored, &image, voice)?,
+    let moved = match (&arguments.restored, &replay.restored) {
+        (Some(path), Some(restored)) => replay.tell_image(path, restored, &image, voice)?,
+        _ => Status::Done,
     };
     Ok(answered.max(moved))
 }
 
-impl<'a> Inputs<'a> {
-    fn read(arguments: &'a Arguments) -> Result<Inputs<'a>, Trouble> {
-        let Arguments {
+impl Arguments {
+    /// What is given for the moves; the frames are those of the trace.
+    fn given(&self) -> Given {
+        Given {
+            section: self.section.clone(),
+            image: self.image.clone(),
+            first: self.first,
+            moves: self.moves.clone(),
+            frames: self.trace.clone(),
+            machine: None,
+            edition: self.edition,
+            store: self.store.clone(),
+        }
+    }
+}
+
+impl<'a> Replay<'a> {
+    fn read(arguments: &'a Arguments, given: &'a Given) -> Result<Replay<'a>, Trouble> {
+        let Given {
             section,
             image,
             moves,
-            trace,
-            store,
-            restored,
+            frames,
             ..
-        } = arguments;
-        let others = moves.iter().chain(store).chain(restored);
-        files::standard_input_once([section, image, trace].into_iter().chain(others))?;
-        let restored = restored.as_deref().map(|path| {
-            let image = files::read(path, files::IMAGE)?;
-            Ok((path, image))
-        });
-        Ok(Inputs {
+        } = given;
+        let others = moves.iter().chain(&given.store).chain(&arguments.restored);
+        files::standard_input_once([section, image, frames].into_iter().chain(others))?;
+        let section = files::read(section, files::SECTION)?;
+        let image = files::read(image, files::IMAGE)?;
+        let moves = Moves::read(moves)?;
+        let restored = arguments.restored.as_deref();
+        let restored = restored.map(|path| files::read(path, files::IMAGE));
+        let restored = restored.transpose()?;
+        let trace = trace::read(frames)?;
+        let steps = trace::steps(frames, &trace)?;
+        let machine = steps.first().map(|step| library::machine_of(step.machine));
+        let machine = machine.unwrap_or_default();
+        let inputs = Inputs {
+            given,
+            moves,
+            frames_text: Vec::new(),
+            naming: Naming::of(&section),
+            section,
+            machine,
+            chosen: Chosen::of(given.store.as_deref(), given.edition, machine)?,
+            lines: Vec::new(),
+            profile: None,
+        };
+        Ok(Replay {
             arguments,
-            section: files::read(section, files::SECTION)?,
-            image: files::read(image, files::IMAGE)?,
-            moves: Moves::read(moves)?,
-            trace: trace::read(trace)?,
-            restored: restored.transpose()?,
+            inputs,
+            image,
+            trace,
+            steps,
+            restored,
         })
     }
 
-    fn tell_same(&self, steps: &[Step], voice: Voice) -> Result<Status, Trouble> {
-        let (file, answers) = (&self.arguments.trace, steps.len());
-        match voice {
-            Voice::Text => {
-                let answers = count(answers as u64, "answer");
-                output::line(&format!("{}: same, {answers}", shown(file)))?;
-            }
-            Voice::Json => output::object(&Answer::Same {
-                file: &json::name(file),
-                answers,
-            })?,
-        }
-        Ok(Status::Done)
+    /// Moves the frames of a trace on an image, and gives the first answer that differs.
+    fn replay(&self, image: &mut [u8], trace: &[u8]) -> Result<Option<Difference>, Trouble> {
+        let replayed = self.inputs.restore().replay(image, trace);
+        replayed.map_err(|refusal| Trouble::refused(&self.arguments.trace, refusal, None))
     }
 
-    /// The first answer that differs: its frame, what is recorded and what is answered now.
-    fn tell_difference(
-        &self,
-        steps: &[Step],
-        differs: Difference,
-        chosen: &Chosen,
-        voice: Voice,
-    ) -> Result<Status, Trouble> {
-        let (file, answers) = (&self.arguments.trace, steps.len());
-        let number = usize::try_from(differs.item).unwrap_or(usize::MAX);
-        let step = &steps[number];
-        let refusal = library::outcome(differs.now).err();
-        let found = refusal.and_then(|refusal| self.found(step, refusal, chosen));
-        let found = found.as_deref();
-        match voice {
-            Voice::Text => output::to(None, |out| {
-                let name = shown(file);
-                writeln!(out, "{name}: differs in answer {number} of {answers}")?;
-                text::frame(out, number, step, Some(Naming::of(&self.section)))?;
-                writeln!(out, "  recorded: {}", text::answer(step.answer, None))?;
-                writeln!(out, "  now: {}", text::answer(differs.now, found))
-            })?,
-            Voice::Json => output::object(&Answer::Differs {
-                file: &json::name(file),
-                answers,
-                item: differs.item,
-                frame: Frame::of(number, step),
-                recorded: Told::of(step.answer, None),
-                now: Told::of(differs.now, found),
-            })?,
-        }
-        Ok(Status::Refused)
-    }
-
-    /// Whether a restored image is what the replay leaves.
-    fn compare(
-        &self,
-        path: &Path,
-        restored: &[u8],
-        left: &[u8],
-        voice: Voice,
-    ) -> Result<Status, Trouble> {
-        let Some((byte, found)) = self.other_byte(path, restored, left) else {
-            match voice {
-                Voice::Text => {
-                    let bytes = count(left.len() as u64, "byte");
-                    output::line(&format!("{}: same, {bytes}", shown(path)))?;
-                }
-                Voice::Json => output::object(&Answer::SameImage {
-                    file: &json::name(path),
-                    bytes: left.len(),
-                })?,
-            }
-            return Ok(Status::Done);
-        };
-        match voice {
-            Voice::Text => output::line(&format!("{}: differs: {found}", shown(path)))?,
-            Voice::Json => output::object(&Answer::OtherImage {
-                file: &json::name(path),
-                byte,
-                found: &found,
-            })?,
-        }
-        Ok(Status::Refused)
-    }
-
-    /// The first byte of an image that is another than the replay leaves, or their lengths.
-    fn other_byte(
-        &self,
-        path: &Path,
-        restored: &[u8],
-        left: &[u8],
-    ) -> Option<(Option<usize>, String)> {
-        if restored.len() != left.len() {
-            let length = length(path, restored, files::IMAGE);
-            let left = left.len();
-            return Some((
-                None,
-                format!("it has {length}, and the replay leaves {left}"),
-            ));
-        }
-        let byte = restored
-            .iter()
-            .zip(left)
-            .position(|(one, other)| one != other)?;
-        let (is, left) = (restored[byte], left[byte]);
-        let address = self.arguments.first.wrapping_add(byte as u64);
-        let found = format!(
-            "byte {byte}, at address {address:#x}, is {is:#04x}, and the replay leaves {left:#04x}"
-        );
-        Some((Some(byte), found))
+    /// What was found where a frame is refused now. The image is that which the frames before it have left.
+    fn found(&mut self, number: usize, refusal: Refusal) -> Result<Option<String>, Trouble> {
+        let mut image = self.image.clone();
+        self.replay(&mut image, &library::trace_of(&self.steps[..number]))?;
+        let step = &self.steps[number];
+        self.inputs.machine = library::machine_of(step.machine);
+        self.inputs.lines = vec![Entry {
+            line: 0,
+            value: Line::of(step.frame, step.registers),
+        }];
+        Ok(self.inputs.found_alone(refusal, 0, &image))
     }
 }

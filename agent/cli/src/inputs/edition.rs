@@ -124,11 +124,6 @@ impl<'a> Chosen<'a> {
         settings.unwrap_or_default()
     }
 
-    /// How many pointers a move may have.
-    pub fn most(&self) -> u64 {
-        self.settings.map_or(0, |settings| settings.pointers)
-    }
-
     /// The edition as a receipt tells it; none where it is unknown.
     pub fn told(&self) -> Option<receipt::Edition> {
         let settings = self.settings.as_ref()?;

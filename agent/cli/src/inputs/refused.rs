@@ -2,10 +2,11 @@
 
 use super::Inputs;
 use crate::found::{self, Sizes};
+use crate::frames::Line;
 use crate::library::Refusal;
 use crate::numbers::count;
 use crate::profile;
-use crate::trouble::{Refused, Trouble};
+use crate::trouble::{place, Refused, Trouble};
 
 impl Inputs<'_> {
     /// The refusal of a frame, by its position, or of what all frames share.
@@ -25,6 +26,18 @@ impl Inputs<'_> {
     pub fn refused_alone(&self, refusal: Refusal, position: usize, image: &[u8]) -> Trouble {
         let position = refusal.is_of_frame().then_some(position);
         self.refused(refusal, position, image)
+    }
+
+    /// What was found of a frame that was moved by itself, at this position; of what all frames share with the
+    /// file that is at fault.
+    pub fn found_alone(&self, refusal: Refusal, position: usize, image: &[u8]) -> Option<String> {
+        if refusal.is_of_frame() {
+            let line = &self.lines.get(position)?.value;
+            return self.at_line(refusal.number, line, Some(refusal.place), image);
+        }
+        let refused = self.of_file(refusal, image);
+        let file = place(Some(&refused.file), refused.line);
+        Some(format!("{file}{}", refused.found?))
     }
 
     /// The file and, of 14, the line in it.
@@ -73,19 +86,29 @@ impl Inputs<'_> {
 
     /// A frame of the list: its line, the pair at fault, and what was found there.
     fn of_frame(&self, refusal: Refusal, position: usize, image: &[u8]) -> Refused {
-        let (line, first) = (&self.lines[position].value, self.given.first);
+        let line = &self.lines[position].value;
         let (frame, registers) = (line.frame, line.registers);
         let pair = self.restore().pair_at_fault(image, frame, registers);
         let more = match refusal.number {
-            10 => Some(self.naming.not_there(&self.section, &frame)),
-            16 => self.sizes().outside(line, first, image.len()),
             26 => self.sizes().shared(&self.lines, position).map(|earlier| {
                 let line = self.lines[earlier].line;
                 format!("it is shared with frame {earlier} of line {line}")
             }),
-            number => self.at_pair(number, line, pair, image),
+            number => self.at_line(number, line, pair, image),
         };
         self.at_frame(position, pair, more)
+    }
+
+    /// What was found where a frame is refused by itself; the pair is that of 18 to 21.
+    fn at_line(&self, number: u64, line: &Line, pair: Option<u64>, image: &[u8]) -> Option<String> {
+        match number {
+            10 => Some(self.naming.not_there(&self.section, &line.frame)),
+            16 => {
+                let first = self.given.first;
+                self.sizes().outside(line, first, image.len())
+            }
+            number => self.at_pair(number, line, pair, image),
+        }
     }
 
     /// The stack sizes that the frames stand in.

@@ -151,7 +151,7 @@ fn two_functions() {
     };
     let section = |first: u64, second: u64| Section {
         functions: vec![function(first), function(second)],
-        records: vec![records(1), records(1)].concat(),
+        records: [records(1), records(1)].concat(),
         ..Section::default()
     };
     inside(&section(0x1000, 0x2000));

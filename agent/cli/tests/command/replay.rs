@@ -2,10 +2,11 @@
 
 mod random;
 mod refusals;
+mod round;
 
 use crate::fixtures::words;
 use crate::restore::{threads, Restore};
-use crate::run::{Folder, Ran};
+use crate::run::{Folder, Ran, PROGRAM};
 use crate::trace::{answer, frame, of, row_i};
 use serde_json::{json, Value};
 use std::fs::File;
@@ -69,6 +70,10 @@ fn the_same() {
     assert_eq!((object(&ran), ran.status), (same, Some(0)));
 }
 
+/// What is found where the base of row I is 8 bytes too high.
+const HELD: &str = "its base slot RSP+0x8 at 0x7008 holds 0x50008; \
+    the old start below it is 0x50000, 8 bytes before";
+
 /// The number, the place and the count of an answer are compared.
 #[test]
 fn the_first_difference() {
@@ -116,9 +121,9 @@ fn the_first_difference() {
         ),
         (20, 0, "refused 20 at 0: collision; pair 0"),
     ] {
-        let now = "refused 21 at 0: base neither 0 nor an old start; pair 0";
+        let now = format!("refused 21 at 0: base neither 0 nor an old start; pair 0: {HELD}");
         let trace = of(&[stopped(), answer(number, value)]);
-        differs(&replay(&bad, &trace, &[]), &told(words, now));
+        differs(&replay(&bad, &trace, &[]), &told(words, &now));
     }
     let ran = replay(&bad, &of(&[stopped(), answer(0, 2)]), &["--json"]);
     let told = json!({
@@ -130,10 +135,25 @@ fn the_first_difference() {
         "recorded": {"number": 0, "value": "0x2", "words": "accepted, 2 pointers"},
         "now": {
             "number": 21, "value": "0x0",
-            "words": "refused 21 at 0: base neither 0 nor an old start; pair 0",
+            "words": format!("refused 21 at 0: base neither 0 nor an old start; pair 0: {HELD}"),
         },
     });
     assert_eq!((object(&ran), ran.status), (told, Some(1)));
+}
+
+/// What is found is told of the image that the frames before have left.
+#[test]
+fn a_difference_on_the_way() {
+    let stopped = frame(0, 0x1020, 0, &[(7, 0x7000)]);
+    let item = [stopped, answer(0, 2)].concat();
+    let ran = replay(&Restore::row_i(), &of(&[item.clone(), item]), &[]);
+    let told = "t: differs in answer 1 of 2\n\
+        frame 1: x86-64, address 0x1020\n  \
+        registers: RSP 0x7000\n  \
+        recorded: accepted, 2 pointers\n  \
+        now: refused 21 at 0: base neither 0 nor an old start; pair 0: its base slot RSP+0x8 at 0x7008 \
+        holds 0x90000; the old start below it is 0x50000, 0x40000 bytes before\n";
+    differs(&ran, told);
 }
 
 /// The trace of a thread, as the test itself works it out.
@@ -250,5 +270,40 @@ fn standard_input() {
         let ran = Ran::of(command.stdin(Stdio::from(file)));
         let said = if name == "-" { "-" } else { "t" };
         ran.done(&format!("{said}: same, 1 answer\n"));
+    }
+}
+
+/// The status is the same whether anybody reads the answer or not; where there is nowhere to write it, it is 2.
+#[test]
+fn nobody_to_tell() {
+    let (row, folder) = (Restore::row_i(), Folder::new());
+    row.put(&folder);
+    folder.put("t", row_i());
+    folder.put(
+        "other",
+        of(&[frame(0, 0x1020, 0, &[(7, 0x7000)]), answer(0, 3)]),
+    );
+    let status = |trace: &str, more: &str, output: &str| {
+        let call = "--section section --image image --first 7000 --moves moves";
+        let line = format!(
+            "{{ sleep 0.1; \"$0\" replay {call} {trace} {more}; echo $? >status; }} {output}"
+        );
+        let mut command = Command::new("sh");
+        command.args(["-c", &line, PROGRAM]);
+        Ran::of(command.current_dir(folder.path()).stdin(Stdio::null()));
+        String::from_utf8(folder.get("status")).unwrap()
+    };
+    for more in ["", "--json", "--restored image"] {
+        let same = if more == "--restored image" {
+            "1\n"
+        } else {
+            "0\n"
+        };
+        assert_eq!(status("t", more, "| true"), same, "{more}");
+        assert_eq!(status("other", more, "| true"), "1\n", "{more}");
+        for output in [">/dev/full", ">&-"] {
+            assert_eq!(status("t", more, output), "2\n", "{more}");
+            assert_eq!(status("other", more, output), "2\n", "{more}");
+        }
     }
 }

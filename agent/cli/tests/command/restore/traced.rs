@@ -413,3 +413,107 @@ fn what_is_left_of_a_killed_run() {
     let image = words(&[0xEEEE_EEEE_EEEE_EEEE, 0x90000, 0x94E20]);
     assert_eq!((folder.get("t"), folder.get("image")), (row_i(), image));
 }
+
+/// The same where a folder is made: the trace is in it, or beside it and before it.
+#[test]
+fn killed_while_a_folder_is_made() {
+    const KILLS: u64 = 80;
+    let (row, folder) = (thread(), Folder::new());
+    let long = whole_run(&row, &folder).as_micros() as usize;
+    row.put(&folder);
+    fs::remove_file(folder.at(RECEIPT)).unwrap();
+    let trace = recorded();
+    let mut rng = generator::Rng::part(0xDEAD, 4);
+    let (mut none, mut whole) = (0, 0);
+    for kill in 0..KILLS {
+        let name = ["new/t", "t"][kill as usize % 2];
+        let more = ["--into", "new", "--trace", name];
+        let mut command = folder.command();
+        let command = row.inputs(&mut command).args(more);
+        let mut child = command.stdout(Stdio::null()).spawn().unwrap();
+        until_there(
+            &mut child,
+            &folder,
+            &[".new.treskibben-new", ".t.treskibben-new", "t"],
+        );
+        sleep(Duration::from_micros(rng.below(long / 4 + 1) as u64));
+        child.kill().unwrap();
+        child.wait().unwrap();
+        if folder.at("new").exists() {
+            whole += 1;
+        } else {
+            none += 1;
+            let alone = folder.at("t").exists();
+            assert!(
+                !alone || folder.get("t") == trace,
+                "kill {kill}: half a trace"
+            );
+            let ran = restore(&row, &folder, &more);
+            assert_eq!((ran.status, ran.err.as_str()), (Some(0), ""), "kill {kill}");
+        }
+        assert!(
+            folder.get(name) == trace,
+            "kill {kill}: a folder without its trace"
+        );
+        assert!(folder.get("new/image") == image(NEW), "kill {kill}");
+        has(&folder, if name == "t" { &["new", "t"] } else { &["new"] });
+        fs::remove_dir_all(folder.at("new")).unwrap();
+        let _ = fs::remove_file(folder.at("t"));
+    }
+    println!("{none} none, {whole} whole");
+    assert!(none > 0 && whole > 0, "{none} none, {whole} whole");
+}
+
+/// Several runs that leave one trace: it is whole, and whoever ends well has an image.
+#[test]
+fn several_at_once() {
+    let row = threads::thread(200);
+    for round in 0..15 {
+        let folder = Folder::new();
+        row.put(&folder);
+        let start = |nth: usize| {
+            let output = format!("new{nth}");
+            let mut command = folder.command();
+            let command = row
+                .inputs(&mut command)
+                .args(["--output", &output, "--trace", "t"]);
+            let command = command.stdout(Stdio::piped()).stderr(Stdio::piped());
+            command.spawn().unwrap()
+        };
+        let children: Vec<_> = (0..4).map(start).collect();
+        let end = |child: std::process::Child| Ran::from(child.wait_with_output().unwrap());
+        let ran: Vec<Ran> = children.into_iter().map(end).collect();
+        let mut names = vec!["t".to_string()];
+        for (nth, ran) in ran.iter().enumerate() {
+            match ran.status {
+                Some(0) => names.extend(["", ".receipt.json"].map(|end| format!("new{nth}{end}"))),
+                _ => assert!(
+                    ran.err.contains(": cannot be written: "),
+                    "{round}: {}",
+                    ran.err
+                ),
+            }
+        }
+        assert!(names.len() > 1, "{round}: {ran:?}");
+        let names: Vec<&str> = names.iter().map(String::as_str).collect();
+        has(&folder, &names);
+        assert_eq!(folder.get("t").len(), 284 * 200 + 1);
+    }
+}
+
+/// A trace that another run is at work on may be taken away again: nobody goes by it.
+#[test]
+fn a_trace_of_another_run() {
+    let (row, folder) = (Restore::row_i(), Folder::new());
+    row.put(&folder);
+    folder.put("t", row_i());
+    let other = fs::File::open(folder.at("t")).unwrap();
+    other.lock().unwrap();
+    let ran = restore(&row, &folder, &["--in-place", "--trace", "t"]);
+    ran.failed("t: cannot be written: another process is at work on it", "");
+    has(&folder, &["t"]);
+    assert_eq!(folder.get("image"), row.image);
+    other.unlock().unwrap();
+    let ran = restore(&row, &folder, &["--in-place", "--trace", "t"]);
+    ran.done(&format!("image: 1 frame moved, 2 pointers\n{RECORDED}"));
+}
