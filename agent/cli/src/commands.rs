@@ -5,13 +5,16 @@ mod check;
 mod completions;
 mod cut;
 mod edition;
+mod explain;
 mod find;
 mod flat;
 mod index;
 mod join;
 mod list;
+mod replay;
 mod report;
 mod restore;
+mod trace;
 
 use crate::trouble::{Status, Trouble, Voice};
 
@@ -28,7 +31,10 @@ pub enum Command {
     Edition(edition::Arguments),
     Report(report::Arguments),
     Join(join::Arguments),
+    Explain(explain::Arguments),
     Restore(restore::Arguments),
+    Replay(replay::Arguments),
+    Trace(trace::Arguments),
     Completions(completions::Arguments),
 }
 
@@ -43,7 +49,10 @@ impl Command {
             Command::Flat(arguments) => arguments.json(),
             Command::Edition(arguments) => arguments.json(),
             Command::Report(arguments) => arguments.json,
+            Command::Explain(arguments) => arguments.json,
             Command::Restore(arguments) => arguments.json,
+            Command::Replay(arguments) => arguments.json,
+            Command::Trace(arguments) => arguments.json,
             Command::Build(_) | Command::Index(_) | Command::Join(_) | Command::Completions(_) => {
                 false
             }
@@ -68,7 +77,10 @@ impl Command {
             Command::Edition(arguments) => edition::run(&arguments, voice),
             Command::Report(arguments) => report::run(&arguments, voice),
             Command::Join(arguments) => join::run(&arguments),
+            Command::Explain(arguments) => explain::run(&arguments, voice),
             Command::Restore(arguments) => restore::run(&arguments, voice),
+            Command::Replay(arguments) => replay::run(&arguments, voice),
+            Command::Trace(arguments) => trace::run(&arguments, voice),
             Command::Completions(arguments) => completions::run(&arguments),
         }
     }

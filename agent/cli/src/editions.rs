@@ -17,7 +17,7 @@ use std::path::Path;
 const DAMAGED: &str = "not a store of editions, or a damaged one";
 
 /// The store that a file's bytes say. Of a file that is longer than a store only one byte more is read.
-fn decode(path: &Path, bytes: &[u8]) -> Result<Editions, Trouble> {
+pub fn decode(path: &Path, bytes: &[u8]) -> Result<Editions, Trouble> {
     let longer = bytes.len() as u64 > files::EDITIONS;
     library::editions_of(bytes).map_err(|damage| {
         let found = match damage {
@@ -80,14 +80,20 @@ fn not_standard_input(path: &Path) -> Result<(), Trouble> {
 
 /// Its name.
 fn name(machine: library::Machine) -> &'static str {
-    match machine {
-        library::Machine::Amd64 => "x86-64",
-        library::Machine::Aarch64 => "aarch64",
+    library::machine_of(machine).name()
+}
+
+/// What a store tells of a number that 31 is said of.
+pub fn unknown(editions: &Editions, edition: u64) -> String {
+    let greatest = editions.greatest();
+    match edition {
+        edition if (1..=greatest).contains(&edition) => format!("edition {edition} was retired"),
+        _ => format!("edition {edition} was never made: the greatest number is {greatest}"),
     }
 }
 
 /// The versions that are allowed, by their numbers.
-fn versions(settings: &Settings) -> Vec<u8> {
+pub fn versions(settings: &Settings) -> Vec<u8> {
     let (one, three) = (settings.versions.one(), settings.versions.three());
     let allowed = [(1, one), (3, three)].into_iter().filter(|own| own.1);
     allowed.map(|own| own.0).collect()

@@ -17,6 +17,8 @@ pub const IMAGE: u64 = 1_048_576;
 pub const INDEX: u64 = 16 * 699_049;
 /// The length of a store of editions.
 pub const EDITIONS: u64 = 2_588;
+/// The longest trace that is read.
+pub const TRACE: u64 = 268_435_456;
 
 /// The longest file of saved reports that is read.
 pub const REPORT: u64 = 134_217_728;

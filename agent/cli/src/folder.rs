@@ -65,10 +65,18 @@ impl Folder {
 
     /// Gives the folder its name.
     pub fn place(&self, beside: Beside) -> Result<(), Trouble> {
-        let placed = replace::folder(&self.real).and_then(|folder| {
-            beside.replace()?;
-            Ok(folder)
-        });
+        self.flushed(self.rename(beside))
+    }
+
+    /// Gives the folder its name, and gives the one that it stands in, which is to be flushed.
+    pub fn rename(&self, beside: Beside) -> io::Result<File> {
+        let folder = replace::folder(&self.real)?;
+        beside.replace()?;
+        Ok(folder)
+    }
+
+    /// Flushes the folder's name, or tells why it has none.
+    pub fn flushed(&self, placed: io::Result<File>) -> Result<(), Trouble> {
         replace::flushed(&self.named, placed, CANNOT_BE_MADE)
     }
 

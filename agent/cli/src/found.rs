@@ -99,7 +99,7 @@ pub fn of_listing(path: &Path, listing: &[u8], refusal: Refusal) -> Option<Strin
 }
 
 /// The length of a file of which no more is read than its limit and one byte.
-fn length(path: &Path, read: &[u8], limit: u64) -> String {
+pub fn length(path: &Path, read: &[u8], limit: u64) -> String {
     let there = fs::metadata(path).ok().filter(|there| there.is_file());
     match (read.len() as u64, there) {
         (length, _) if length <= limit => count(length, "byte"),
@@ -193,7 +193,7 @@ impl<'a> Sizes<'a> {
     }
 
     /// The first byte of a frame's extent and the first after it.
-    fn extent(&self, line: &Line) -> Option<(u128, u128)> {
+    pub fn extent(&self, line: &Line) -> Option<(u128, u128)> {
         let (_, size) = self.function(line).filter(|(_, size)| *size != UNKNOWN)?;
         let [_, of_stack] = library::pointers_of(self.machine);
         let first = u128::from(line.registers[usize::from(of_stack)]);

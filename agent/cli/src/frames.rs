@@ -44,6 +44,16 @@ impl Default for Line {
 }
 
 impl Line {
+    /// A frame that stands in no list, with all its registers.
+    pub fn of(frame: Frame, registers: Registers) -> Line {
+        Line {
+            frame,
+            registers,
+            told: u32::MAX,
+            unnamed: 0,
+        }
+    }
+
     /// Whether the line tells what a register holds.
     pub fn tells(&self, register: u16) -> bool {
         self.told.checked_shr(register.into()).unwrap_or(0) & 1 == 1

@@ -6,6 +6,7 @@
 use crate::library::Found;
 use crate::listing::{self, role, Listing, Role};
 use crate::names::shown;
+use crate::receipt::Edition;
 use crate::registers::Machine;
 use crate::text::UNKNOWN;
 use crate::trouble::{Fault, Refused};
@@ -20,6 +21,9 @@ pub enum Answer<'a> {
     /// `check`: a section.
     Accepted {
         file: &'a str,
+        /// The profile that it was held against too.
+        #[serde(skip_serializing_if = "Option::is_none")]
+        profile: Option<&'static str>,
     },
     /// Any command: what was refused.
     Refused(Refusal<'a>),
@@ -81,9 +85,14 @@ pub enum Answer<'a> {
         #[serde(skip_serializing_if = "Option::is_none")]
         new_frames: Option<String>,
         receipt: &'a str,
+        #[serde(skip_serializing_if = "Option::is_none")]
+        trace: Option<String>,
         frames: u64,
         pointers: u64,
         registers: u64,
+        edition: Option<Edition>,
+        #[serde(skip_serializing_if = "Option::is_none")]
+        report: Option<String>,
     },
 }
 

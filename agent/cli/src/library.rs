@@ -2,8 +2,15 @@
 //!
 //! Every answer on a section, a listing or a frame comes from the crate `treskibben`.
 
+mod profiles;
+mod restore;
+mod traces;
+
 use crate::registers;
-use treskibben::{MoveTable, ThreadRefusal};
+pub use profiles::check_profile;
+pub use restore::Restore;
+pub use traces::{outcome, steps_of, trace_of, Difference, Recorded, Step};
+use treskibben::MoveTable;
 
 /// Why a call was refused: number, place and cause.
 #[derive(Clone, Copy, Debug, PartialEq, Eq)]
@@ -15,6 +22,16 @@ pub struct Refusal {
 
 /// The record that is found, a stopped frame and its registers, and an index with its section.
 pub use treskibben::{Found, Frame, Index, Registers};
+
+/// Why a slot moves or does not, and all slots of some frames.
+pub use treskibben::{ExplainedPointer, ExplainedSlot, Reason, Slot};
+
+impl Refusal {
+    /// Whether it is said of a frame, and not of what all frames share.
+    pub fn is_of_frame(&self) -> bool {
+        matches!(self.number, 10 | 12 | 15..=21)
+    }
+}
 
 impl From<treskibben::Refusal> for Refusal {
     fn from(refusal: treskibben::Refusal) -> Refusal {
@@ -90,6 +107,14 @@ pub fn machine(machine: registers::Machine) -> Machine {
     }
 }
 
+/// A machine of the library's as the command knows it.
+pub fn machine_of(machine: Machine) -> registers::Machine {
+    match machine {
+        Machine::Amd64 => registers::Machine::X86_64,
+        Machine::Aarch64 => registers::Machine::Aarch64,
+    }
+}
+
 /// The DWARF numbers of a machine's frame pointer and stack pointer.
 pub fn pointers_of(machine: registers::Machine) -> [u16; 2] {
     let machine = self::machine(machine);
@@ -99,54 +124,6 @@ pub fn pointers_of(machine: registers::Machine) -> [u16; 2] {
 /// Whether a register can hold a pointer of a pair.
 pub fn is_slot(machine: registers::Machine, register: u16) -> bool {
     self::machine(machine).is_slot(register)
-}
-
-/// Moves all frames of a thread or none, each with its own registers, and gives the sum of their pointers. A
-/// refusal comes with the position of the frame to blame, if it is one frame.
-pub fn relocate_thread(
-    section: &[u8],
-    image: &mut [u8],
-    first: u64,
-    table: &Table,
-    machine: registers::Machine,
-    frames: &[Frame],
-    registers: &mut [Registers],
-) -> Result<u64, (Refusal, Option<usize>)> {
-    let (moves, machine) = (
-        MoveTable::new(&table.old, &table.new),
-        self::machine(machine),
-    );
-    let registers = registers.as_flattened_mut();
-    let pointers =
-        treskibben::relocate_thread(section, image, first, moves, machine, frames, registers);
-    let told = |refusal: ThreadRefusal| {
-        (
-            treskibben::Refusal::from(refusal).into(),
-            refusal.position(),
-        )
-    };
-    pointers.map(|pointers| pointers as u64).map_err(told)
-}
-
-/// The pair that a frame is refused by where it is moved by itself, which the refusal of a thread
-/// doesn't tell. Image and registers stay as they are.
-pub fn pair_at_fault(
-    section: &[u8],
-    image: &[u8],
-    first: u64,
-    table: &Table,
-    machine: registers::Machine,
-    frame: Frame,
-    mut registers: Registers,
-) -> Option<u64> {
-    let (moves, machine) = (
-        MoveTable::new(&table.old, &table.new),
-        self::machine(machine),
-    );
-    let (image, registers) = (&mut image.to_vec(), &mut registers);
-    let moved = treskibben::relocate(section, image, first, moves, machine, frame, registers);
-    let refused = moved.err()?;
-    matches!(refused.number(), 18..=21).then_some(refused.place())
 }
 
 /// Where each object was and where it is now, entry by entry.
@@ -182,7 +159,9 @@ pub fn join(totals: &mut Totals, other: Totals) -> Result<(), Refusal> {
 }
 
 /// A store of editions, what it is made with, and what is wrong with one that is damaged.
-pub use treskibben::editions::{Damage, Editions, LiveEdition, Machine, Settings, Versions};
+pub use treskibben::editions::{
+    Damage, Edition, Editions, LiveEdition, Machine, Settings, Versions,
+};
 
 /// The store that a file's bytes say, or what is wrong with them.
 pub fn editions_of(bytes: &[u8]) -> Result<Editions, Damage> {
@@ -193,6 +172,11 @@ pub fn editions_of(bytes: &[u8]) -> Result<Editions, Damage> {
 pub fn make_edition(editions: &mut Editions, settings: Settings) -> Result<u64, Refusal> {
     let made = editions.make(settings).map_err(treskibben::Refusal::from);
     Ok(made?)
+}
+
+/// The settings of an edition; none where 31 is said of it.
+pub fn settings_of(edition: Edition) -> Option<Settings> {
+    edition.store().read(edition.number()).ok()
 }
 
 /// The retirement of an edition: 31.

@@ -45,6 +45,13 @@ pub fn functions(section: &[u8]) -> impl Iterator<Item = (u64, u64)> + use<'_> {
     bodies.take(number as usize).map(read)
 }
 
+/// The stack size of the function with this number, in a section of version 1.
+pub fn stack_size(section: &[u8], function: u64) -> Option<u64> {
+    let at = usize::try_from(function).ok()?.checked_mul(16)?;
+    let size = section.get(at.checked_add(24)?..)?.first_chunk()?;
+    Some(u64::from_le_bytes(*size))
+}
+
 /// Whether a section of version 3 has functions, and all of them at address 0: so it is until a linker or a
 /// loader has put in where they are.
 pub fn all_at_zero(section: &[u8]) -> bool {

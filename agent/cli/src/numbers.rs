@@ -50,9 +50,49 @@ pub fn count(number: u64, thing: &str) -> String {
     format!("{number} {thing}{plural}")
 }
 
+/// Numbers that rise, in words: `1, 3 to 5 and 9`.
+pub fn ranges(numbers: &[u64]) -> String {
+    let mut parts: Vec<[u64; 2]> = Vec::new();
+    for &number in numbers {
+        match parts.last_mut() {
+            Some([_, last]) if last.checked_add(1) == Some(number) => *last = number,
+            _ => parts.push([number; 2]),
+        }
+    }
+    let words = parts.iter().flat_map(|&[first, last]| match last - first {
+        0 => vec![first.to_string()],
+        1 => vec![first.to_string(), last.to_string()],
+        _ => vec![format!("{first} to {last}")],
+    });
+    let mut words: Vec<String> = words.collect();
+    let end = words.pop().unwrap_or_default();
+    match words.len() {
+        0 => end,
+        _ => format!("{} and {end}", words.join(", ")),
+    }
+}
+
 #[cfg(test)]
 mod tests {
     use super::*;
+
+    #[test]
+    fn numbers_that_rise() {
+        for (numbers, words) in [
+            (&[][..], ""),
+            (&[7], "7"),
+            (&[0, 1], "0 and 1"),
+            (&[2, 3, 4], "2 to 4"),
+            (&[1, 3, 4, 5, 9], "1, 3 to 5 and 9"),
+            (&[1, 2, 4, 5, 6, 8, 9], "1, 2, 4 to 6, 8 and 9"),
+            (
+                &[u64::MAX - 1, u64::MAX],
+                "18446744073709551614 and 18446744073709551615",
+            ),
+        ] {
+            assert_eq!(ranges(numbers), words);
+        }
+    }
 
     #[test]
     fn hexadecimal_numbers_of_up_to_64_bits() {

@@ -30,6 +30,9 @@ pub struct Receipt {
     /// The machine that the frames are of. Receipts from before there were two have none.
     #[serde(default)]
     pub machine: String,
+    /// The edition that was obeyed. Receipts from before there were editions have none.
+    #[serde(default, skip_serializing_if = "Option::is_none")]
+    pub edition: Option<Edition>,
     /// The address of the image's first byte.
     pub first: String,
     pub before: Entry,
@@ -37,6 +40,15 @@ pub struct Receipt {
     /// The list of the frames after the move, where it stands beside the image.
     #[serde(default, skip_serializing_if = "Option::is_none")]
     pub frames_after: Option<Entry>,
+    /// The report that stands beside the image, where one was asked for.
+    #[serde(default, skip_serializing_if = "Option::is_none")]
+    pub report: Option<Entry>,
+    /// The profile that the section was held against.
+    #[serde(default, skip_serializing_if = "Option::is_none")]
+    pub profile: Option<String>,
+    /// The trace, where one was asked for.
+    #[serde(default, skip_serializing_if = "Option::is_none")]
+    pub trace: Option<Entry>,
     /// How many frames were moved, and how many pointers they have. Receipts from before pairs of several
     /// pointers name the pairs, each of which was one.
     pub moved_frames: u64,
@@ -49,11 +61,22 @@ pub struct Receipt {
 }
 
 /// A file by its name, its length and its digest.
-#[derive(Debug, PartialEq, Eq, Serialize, Deserialize)]
+#[derive(Clone, Debug, PartialEq, Eq, Serialize, Deserialize)]
 pub struct Entry {
     pub file: String,
     pub bytes: u64,
     pub sha256: String,
+}
+
+/// The edition that a restore obeyed: its number, its settings, and the store that it stands in. A call that
+/// names none has neither number nor store.
+#[derive(Clone, Debug, PartialEq, Eq, Serialize, Deserialize)]
+pub struct Edition {
+    pub number: Option<u64>,
+    pub pointers: u64,
+    pub machine: String,
+    pub versions: Vec<u8>,
+    pub store: Option<Entry>,
 }
 
 impl Entry {

@@ -50,6 +50,11 @@ impl Held {
         files::read_up_to(&self.named, &mut self.file, limit + 1)
     }
 
+    /// The file's owner and permissions.
+    pub fn metadata(&self) -> &Metadata {
+        &self.metadata
+    }
+
     /// The new file beside this one, whole and down to the disk, with its owner and permissions.
     pub fn prepare(&self, bytes: &[u8]) -> io::Result<Beside> {
         let mut new = Beside::file(&self.real, 0o600)?;

@@ -125,7 +125,7 @@ pub fn record(
 }
 
 /// The kind of a location, and where it is or what.
-fn place(listing: &Listing, location: &Location, machine: Machine) -> String {
+pub fn place(listing: &Listing, location: &Location, machine: Machine) -> String {
     let register = machine.register(location.register);
     let offset = location.offset;
     let sum = match offset {

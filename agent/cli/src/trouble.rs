@@ -174,7 +174,7 @@ impl Fault {
 }
 
 /// A file and a line in it, before what is said of them.
-fn place(file: Option<&Path>, line: Option<usize>) -> String {
+pub fn place(file: Option<&Path>, line: Option<usize>) -> String {
     match (file.map(shown), line) {
         (Some(file), Some(line)) => format!("{file}:{line}: "),
         (Some(file), None) => format!("{file}: "),

@@ -1,10 +1,12 @@
 //! `check`: whether files are sections.
 
 use crate::json;
+use crate::library::{self, Refusal};
 use crate::names::shown;
+use crate::profile::{self, Profile};
 use crate::progress::Progress;
 use crate::trouble::{Status, Trouble, Voice};
-use crate::{files, found, library, output};
+use crate::{files, found, output};
 use std::path::{Path, PathBuf};
 
 /// Say of each file whether it is a whole section
@@ -20,6 +22,13 @@ pub struct Arguments {
     /// The sections
     #[arg(value_name = "FILE", required = true)]
     files: Vec<PathBuf>,
+    /// Hold the sections against a profile too, and refuse by 50 what is outside
+    ///
+    /// 'bench' is the bench controller's: version 3, and at most 64 records, each a statepoint whose pairs are
+    /// of right form on x86-64 and have at most 16 pointers, with addresses that strictly rise. The place is
+    /// the first record that breaks it, and what it breaks is told; 0 too where the version does.
+    #[arg(long, value_name = "NAME", value_enum)]
+    profile: Option<Profile>,
     /// Tell all answers on standard output, one JSON object a line
     #[arg(long)]
     pub json: bool,
@@ -30,7 +39,7 @@ pub fn run(arguments: &Arguments, voice: Voice) -> Result<Status, Trouble> {
     let mut worst = Status::Done;
     let mut progress = Progress::of("files checked");
     for (number, file) in arguments.files.iter().enumerate() {
-        match check(file, voice) {
+        match check(file, arguments.profile, voice) {
             // Where nobody listens any more, the files are looked at all the same: the status counts.
             Ok(()) | Err(Trouble::Closed) => {}
             Err(trouble) => worst = worst.max(trouble.tell(voice)),
@@ -40,16 +49,31 @@ pub fn run(arguments: &Arguments, voice: Voice) -> Result<Status, Trouble> {
     Ok(worst)
 }
 
-fn check(file: &Path, voice: Voice) -> Result<(), Trouble> {
+fn check(file: &Path, profile: Option<Profile>, voice: Voice) -> Result<(), Trouble> {
     let section = files::read(file, files::SECTION)?;
-    library::check(&section).map_err(|refusal| {
-        let found = found::of_section(file, &section, refusal);
+    let checked = match profile {
+        None => library::check(&section),
+        Some(Profile::Bench) => library::check_profile(&section),
+    };
+    checked.map_err(|refusal| {
+        let found = match refusal {
+            Refusal {
+                number: 50, place, ..
+            } => profile::of_section(&section, place),
+            _ => found::of_section(file, &section, refusal),
+        };
         Trouble::refused(file, refusal, found)
     })?;
+    let profile = profile.map(Profile::name);
     match voice {
-        Voice::Text => output::line(&format!("{}: accepted", shown(file))),
+        Voice::Text => {
+            let held = profile.map(|name| format!(", profile {name}"));
+            let held = held.unwrap_or_default();
+            output::line(&format!("{}: accepted{held}", shown(file)))
+        }
         Voice::Json => output::object(&json::Answer::Accepted {
             file: &json::name(file),
+            profile,
         }),
     }
 }

@@ -180,11 +180,7 @@ fn retire(arguments: &Retire, voice: Voice) -> Result<Status, Trouble> {
 
 /// 31, with what the store tells of the number.
 fn unknown(file: &Path, editions: &Editions, edition: u64, refusal: Refusal) -> Trouble {
-    let greatest = editions.greatest();
-    let found = match edition {
-        edition if (1..=greatest).contains(&edition) => format!("edition {edition} was retired"),
-        _ => format!("edition {edition} was never made: the greatest number is {greatest}"),
-    };
+    let found = editions::unknown(editions, edition);
     Trouble::refused(file, refusal, Some(found))
 }
 

@@ -118,6 +118,7 @@ fn check(file: &Path, voice: Voice) -> Result<(), Trouble> {
         Voice::Text => output::line(&format!("{}: accepted", shown(file))),
         Voice::Json => output::object(&json::Answer::Accepted {
             file: &json::name(file),
+            profile: None,
         }),
     }
 }

@@ -1,21 +1,22 @@
 //! `restore`: a stack image whose frames are moved, all of them or none.
 
+mod ahead;
+mod left;
 mod place;
-mod refused;
-mod registers;
 mod single;
-mod twice;
+mod trace;
 
-use crate::frames::{Line, Naming};
-use crate::library::{self, Frame, Registers};
-use crate::lists::{self, Entry};
-use crate::moves::Moves;
+use super::explain;
+use crate::explain::{text, Report};
+use crate::inputs::{Given, Inputs, Moved};
+use crate::library;
 use crate::names::shown;
-use crate::numbers::{address, count};
+use crate::numbers::count;
+use crate::profile::Profile;
 use crate::receipt::{self, Receipt};
-use crate::registers::Machine;
-use crate::trouble::{say, Status, Trouble, Voice};
+use crate::trouble::{say, Refused, Status, Trouble, Voice};
 use crate::{files, found, json, listing, output};
+use left::{Leaves, Left};
 use place::Target;
 use std::path::{Path, PathBuf};
 
@@ -28,58 +29,45 @@ use std::path::{Path, PathBuf};
 /// Numbers are hexadecimal, with or without 0x; a function's number is decimal, as 'list --text'
 /// tells it. In the lists, '#' begins a comment, and blank lines are passed over.
 ///
-/// Refusals come in this order: an image that was restored already; 1 to 9 of the section, 13 of the
-/// image, 14 of the moves, 25 of the frames as a list; a frame with a pair in a register that its line
-/// doesn't tell; then the first frame of the list that is refused by itself, by 10, 15, 12, 16, 18, 17 (of
+/// Refusals come in this order: an image that was restored already; 31 of the edition; 1 to 9 of the
+/// section; 33 of a version or a machine that the edition doesn't allow; 13 of the image, 14 of the moves,
+/// 25 of the frames as a list; a frame with a pair in a register that its line doesn't tell; then the first frame of the list that is refused by itself, by 10, 15, 12, 16, 18, 17 (of
 /// version 1 17, 18), or 19 to 21; then 26 at the first frame whose extent shares a byte with an earlier
 /// one's; with several --moves the first frame that has a base slot which is not listed with itself; a list of
 /// no frames; last a register that would change, where no --into is said. The place of a frame's refusal is
 /// its position in the list, counted from 0.
 #[derive(clap::Args)]
 #[command(override_usage = USAGE)]
-#[command(group = clap::ArgGroup::new("where").required(true).args(["into", "output", "in_place"]))]
+#[command(group = clap::ArgGroup::new("where").required(true).multiple(true)
+    .args(["into", "output", "in_place", "dry_run"]))]
 pub struct Arguments {
-    /// The stack map section
-    #[arg(long, value_name = "FILE")]
-    section: PathBuf,
-    /// The bytes of the stack; at most 1,048,576
-    #[arg(long, value_name = "FILE")]
-    image: PathBuf,
-    /// The address of the image's first byte
-    #[arg(long, value_name = "ADDRESS", value_parser = address)]
-    first: u64,
-    /// Where the objects of the heap were and are: lines 'OLD NEW', old starts rising; may be said again
-    ///
-    /// Where the objects were moved several times, each time has its --moves, in order: the frames are then
-    /// moved once, by the joined table of all, as 'treskibben join' writes it. That is what the moves one after
-    /// the other would do where every pointer's base slot is also listed with itself, and a frame where one
-    /// isn't is refused.
-    #[arg(long, value_name = "FILE", required = true)]
-    moves: Vec<PathBuf>,
-    /// The stopped frames: lines 'ADDRESS RBP RSP', of version 1 'FUNCTION+OFFSET RBP RSP', and other
-    /// registers as 'rbx=VALUE'; on AArch64 X29 and SP stand in place of RBP and RSP
-    #[arg(long, value_name = "FILE")]
-    frames: PathBuf,
-    /// The machine that the frames are of [default: x86-64]
-    ///
-    /// Slots on the stack are counted from its frame pointer and its stack pointer: RBP and RSP, or X29
-    /// and SP. Slots in registers are the other general registers. A section doesn't say its machine; a pair
-    /// with another register is refused by 18.
-    #[arg(long, value_name = "NAME", value_enum)]
-    machine: Option<Machine>,
+    #[command(flatten)]
+    given: Given,
     /// Write the new image and the frames with their new registers to a folder that gets its name in one
     /// step, and never touch the old ones
     ///
     /// It is made, or is empty. In it are the files 'image', 'frames' and 'image.receipt.json'. It is the
     /// only way where a register changes: image and registers are of one moment.
-    #[arg(long, value_name = "DIR")]
+    #[arg(long, value_name = "DIR", conflicts_with_all = ["output", "in_place"])]
     into: Option<PathBuf>,
     /// Write the new image to a file that must not exist yet, and never touch the old one
-    #[arg(long, value_name = "NEW")]
+    #[arg(long, value_name = "NEW", conflicts_with = "in_place")]
     output: Option<PathBuf>,
     /// Replace the old image by the new one, in one step
     #[arg(long)]
     in_place: bool,
+    /// Tell why each slot would move or stay, and write nothing
+    ///
+    /// It tells what 'treskibben explain' tells of the same files. Where it is also said where the new image
+    /// would go, what the restore would be refused by there is told too.
+    #[arg(long, conflicts_with_all = ["report", "trace"])]
+    dry_run: bool,
+    /// Leave the report of all slots with the new image: what --dry-run tells, as text
+    ///
+    /// With --into it is a file in that folder, which gets its name with all that is in it. Else it is a file
+    /// that must not exist yet, and it is there before the new image is. Its SHA-256 is in the receipt.
+    #[arg(long, value_name = "FILE")]
+    report: Option<PathBuf>,
     /// Restore an image whose receipt tells that it was restored already
     ///
     /// So it is from the second call on where a thread's frames stand in several sections, which have
@@ -89,6 +77,18 @@ pub struct Arguments {
     /// Accept a list of no frames, which moves nothing
     #[arg(long)]
     allow_empty: bool,
+    /// Record the restore: each frame with its registers and its answer, in a file that must not exist yet
+    ///
+    /// It is there before the new image is, and not at all where the restore is refused. Where it is in the
+    /// folder of --into, it gets its name with it. 'treskibben replay' replays it on the old image.
+    #[arg(long, value_name = "FILE")]
+    trace: Option<PathBuf>,
+    /// Hold the section against a profile too, and refuse by 50 what is outside
+    ///
+    /// 'bench' is the bench controller's, as 'check --profile bench' tells it; frames of another machine than
+    /// x86-64 are outside too. 50 comes after 31 and 1 to 9, and before 33.
+    #[arg(long, value_name = "NAME", value_enum)]
+    profile: Option<Profile>,
     /// Tell the answer on standard output as one JSON object
     #[arg(long)]
     pub json: bool,
@@ -97,129 +97,83 @@ pub struct Arguments {
 const USAGE: &str = "\
 treskibben restore --section FILE --image FILE --first ADDRESS
            --moves FILE [--moves FILE..] --frames FILE
-           --into DIR | --output NEW | --in-place [OPTIONS]";
+           --into DIR | --output NEW | --in-place | --dry-run [OPTIONS]";
 
-/// All that a restore reads.
-struct Inputs<'a> {
+/// A call, and all that it reads but for the image.
+struct Call<'a> {
     arguments: &'a Arguments,
-    section: Vec<u8>,
-    moves: Moves<'a>,
-    frames_text: Vec<u8>,
-    naming: Naming,
-    machine: Machine,
-    lines: Vec<Entry<Line>>,
-}
-
-/// An image that was moved, and the registers of its frames.
-struct Moved {
-    before: Vec<u8>,
-    after: Vec<u8>,
-    registers: Vec<Registers>,
-    /// How many registers hold another number than before.
-    changed: u64,
-    frames: u64,
-    pointers: u64,
+    inputs: Inputs<'a>,
 }
 
 pub fn run(arguments: &Arguments, voice: Voice) -> Result<Status, Trouble> {
-    let Arguments {
-        section,
-        image,
-        moves,
-        frames,
-        ..
-    } = arguments;
-    files::standard_input_once([section, image, frames].into_iter().chain(moves))?;
-    let inputs = Inputs::read(arguments)?;
+    let mut inputs = Inputs::read(&arguments.given)?;
+    inputs.profile = arguments.profile;
+    let call = Call { arguments, inputs };
     let mut target = Target::open(arguments)?;
+    let mut left = Leaves::open(arguments, &target)?;
     let image = target.read()?;
-    match inputs.move_frames(image, voice) {
+    match call.move_frames(image, voice) {
+        Ok(moved) if arguments.dry_run => {
+            explain::tell(&Report::of_thread(&call.inputs, &moved)?, voice)
+        }
         Ok(moved) => {
-            let frames = inputs.frames_after(&moved);
-            let receipt = inputs.receipt(&moved, &target, &frames);
-            target.put(&moved.after, &frames, &receipt)?;
-            inputs.tell(&moved, &target, voice);
+            call.write_down(&moved, &mut left)?;
+            let receipt = call.receipt(&moved, &target, &left);
+            target.put(&moved.after, &moved.frames_after, &receipt, &left)?;
+            call.tell(&moved, &target, &left, voice);
             Ok(Status::Done)
         }
         Err(trouble) => {
             let status = trouble.tell(voice);
             if status == Status::Refused && voice == Voice::Text {
                 say(&target.untouched());
+                for left in left.iter() {
+                    say(&format!("{}: is not written", shown(left.path)));
+                }
             }
             Ok(status)
         }
     }
 }
 
-impl<'a> Inputs<'a> {
-    fn read(arguments: &'a Arguments) -> Result<Inputs<'a>, Trouble> {
-        let section = files::read(&arguments.section, files::SECTION)?;
-        let moves = Moves::read(&arguments.moves)?;
-        let naming = Naming::of(&section);
-        let frames_text = lists::text(&arguments.frames)?;
-        let machine = arguments.machine.unwrap_or_default();
-        let lines = naming.read(machine, &arguments.frames, &frames_text)?;
-        Ok(Inputs {
-            arguments,
-            section,
-            moves,
-            frames_text,
-            naming,
-            machine,
-            lines,
-        })
-    }
-
-    fn frames(&self) -> Vec<Frame> {
-        self.lines.iter().map(|entry| entry.value.frame).collect()
-    }
-
-    fn registers(&self) -> Vec<Registers> {
-        let lines = self.lines.iter();
-        lines.map(|entry| entry.value.registers).collect()
-    }
-
+impl Call<'_> {
     /// Moves all frames on copies of the image and of their registers, or says why not.
     fn move_frames(&self, before: Vec<u8>, voice: Voice) -> Result<Moved, Trouble> {
         self.not_twice(&before)?;
-        if listing::all_at_zero(&self.section) && library::check(&self.section).is_ok() {
-            found::warn_of_zeros(&self.arguments.section, voice);
+        let section = &self.inputs.section;
+        if listing::all_at_zero(section) && library::check(section).is_ok() {
+            found::warn_of_zeros(&self.arguments.given.section, voice);
         }
-        let (table, frames) = (&self.moves.table, self.frames());
-        let (mut after, mut registers) = (before.clone(), self.registers());
-        let first = self.arguments.first;
-        let (section, machine) = (&self.section, self.machine);
-        let moved = library::relocate_thread(
-            section,
-            &mut after,
-            first,
-            table,
-            machine,
-            &frames,
-            &mut registers,
-        );
-        if !matches!(moved, Err((_, None))) {
-            self.all_told()?;
-        }
-        let pointers =
-            moved.map_err(|(refusal, position)| self.refused(refusal, position, &before))?;
-        self.one_for_all()?;
-        if frames.is_empty() && !self.arguments.allow_empty {
+        let moved = self.inputs.move_frames(before)?;
+        if moved.frames == 0 && !self.arguments.allow_empty {
             let why = "an unwinder that failed leaves such a list; --allow-empty accepts it";
             return Err(Trouble::declined(
-                &self.arguments.frames,
+                &self.arguments.given.frames,
                 "no frames in the list",
                 why.to_string(),
             ));
         }
-        Ok(Moved {
-            before,
-            after,
-            changed: self.changed(&registers)?,
-            registers,
-            frames: frames.len() as u64,
-            pointers,
-        })
+        self.changes_no_register(&moved)?;
+        Ok(moved)
+    }
+
+    /// Only a folder takes image and registers in one step, so that without one a change of a register is
+    /// refused.
+    fn changes_no_register(&self, moved: &Moved) -> Result<(), Trouble> {
+        let Arguments {
+            output, in_place, ..
+        } = self.arguments;
+        let alone = output.is_some() || *in_place;
+        let Some(change) = moved.changed.first().filter(|_| alone) else {
+            return Ok(());
+        };
+        let name = self.inputs.machine.register(change.register);
+        let way = "--into DIR writes the image and the registers in one step";
+        let more = format!("{name} would hold {:#x}: {way}", change.now);
+        Err(Trouble::Refused(Box::new(Refused {
+            cause: "a register would change".to_string(),
+            ..self.inputs.at_frame(change.frame, None, Some(more))
+        })))
     }
 
     /// An image that the receipt beside it tells to be restored already is refused, and so are frames
@@ -228,11 +182,11 @@ impl<'a> Inputs<'a> {
         if self.arguments.again {
             return Ok(());
         }
-        let Arguments {
+        let Given {
             image: path,
             frames,
             ..
-        } = self.arguments;
+        } = &self.arguments.given;
         let declined = |file: &Path, beside: &Path, field: &str| {
             let beside = shown(&receipt::path_of(beside));
             let why =
@@ -249,62 +203,87 @@ impl<'a> Inputs<'a> {
         }
         let beside = frames.with_file_name(place::IMAGE);
         match receipt::beside(&beside) {
-            Ok(Some(receipt)) if receipt.made_frames(&receipt::digest(&self.frames_text)) => {
+            Ok(Some(receipt))
+                if receipt.made_frames(&receipt::digest(&self.inputs.frames_text)) =>
+            {
                 declined(frames, &beside, "frames_after")
             }
             _ => Ok(()),
         }
     }
 
-    /// The list of frames after the move.
-    fn frames_after(&self, moved: &Moved) -> String {
-        let Inputs { naming, lines, .. } = self;
-        naming.text(self.machine, lines, &moved.registers)
+    /// Puts down what is left with the new image.
+    fn write_down(&self, moved: &Moved, left: &mut Leaves) -> Result<(), Trouble> {
+        if let Some(trace) = &mut left.trace {
+            trace.bytes = self.trace(moved);
+        }
+        if let Some(left) = &mut left.report {
+            let report = Report::of_thread(&self.inputs, moved)?;
+            let written = text::report(&mut left.bytes, &report);
+            written.map_err(|error| Trouble::file(left.path, "cannot be written", error))?;
+        }
+        Ok(())
     }
 
-    fn receipt(&self, moved: &Moved, target: &Target, frames: &str) -> Receipt {
-        let entry = receipt::Entry::of;
-        let arguments = self.arguments;
-        let output = target.image();
+    fn receipt(&self, moved: &Moved, target: &Target, left: &Leaves) -> Receipt {
+        let (entry, inputs) = (receipt::Entry::of, &self.inputs);
+        let (given, frames) = (inputs.given, moved.frames_after.as_bytes());
+        let [section, moves, frames_before] = inputs.entries();
+        let of_left = |left: &Option<Left>| left.as_ref().map(|own| entry(own.path, &own.bytes));
         Receipt {
             treskibben: library::VERSION.to_string(),
-            section: entry(&arguments.section, &self.section),
-            moves: self.moves.used(),
-            joined: self.moves.joined_of(),
-            frames: entry(&arguments.frames, &self.frames_text),
-            machine: self.machine.name().to_string(),
-            first: format!("{:#x}", arguments.first),
-            before: entry(&arguments.image, &moved.before),
-            after: entry(&output, &moved.after),
-            frames_after: target.frames().map(|path| entry(&path, frames.as_bytes())),
+            section,
+            moves,
+            joined: inputs.moves.joined_of(),
+            frames: frames_before,
+            machine: inputs.machine.name().to_string(),
+            edition: inputs.chosen.told(),
+            first: format!("{:#x}", given.first),
+            before: entry(&given.image, &moved.before),
+            after: entry(&target.image(), &moved.after),
+            frames_after: target.frames().map(|path| entry(&path, frames)),
+            report: of_left(&left.report),
+            profile: inputs.profile.map(|profile| profile.name().to_string()),
+            trace: of_left(&left.trace),
             moved_frames: moved.frames,
             moved_pointers: moved.pointers,
-            moved_registers: moved.changed,
+            moved_registers: moved.changed.len() as u64,
         }
     }
 
     /// Tells what was done. It is done, whether anybody hears of it or not.
-    fn tell(&self, moved: &Moved, target: &Target, voice: Voice) {
-        let new_frames = target.frames();
+    fn tell(&self, moved: &Moved, target: &Target, left: &Leaves, voice: Voice) {
+        let (new_frames, registers) = (target.frames(), moved.changed.len() as u64);
+        let trace = left.trace.as_ref();
         let _ = match voice {
             Voice::Text => {
                 let frames = count(moved.frames, "frame");
                 let pointers = count(moved.pointers, "pointer");
-                let registers = match new_frames {
-                    Some(_) => format!(", {} changed", count(moved.changed, "register")),
+                let changed = match new_frames {
+                    Some(_) => format!(", {} changed", count(registers, "register")),
                     None => String::new(),
                 };
-                let named = shown(target.named());
-                output::line(&format!("{named}: {frames} moved, {pointers}{registers}"))
+                let edition = self.inputs.chosen.number();
+                let edition = edition.map(|number| format!(", by edition {number}"));
+                let (named, edition) = (shown(target.named()), edition.unwrap_or_default());
+                let recorded =
+                    trace.map(|trace| format!("\n{}: {frames} recorded", shown(trace.path)));
+                let recorded = recorded.unwrap_or_default();
+                output::line(&format!(
+                    "{named}: {frames} moved, {pointers}{changed}{edition}{recorded}"
+                ))
             }
             Voice::Json => output::object(&json::Answer::Restored {
-                image: &json::name(&self.arguments.image),
+                image: &json::name(&self.arguments.given.image),
                 output: &json::name(&target.image()),
                 new_frames: new_frames.map(|path| json::name(&path)),
                 receipt: &json::name(&target.receipt()),
+                trace: trace.map(|trace| json::name(trace.path)),
                 frames: moved.frames,
                 pointers: moved.pointers,
-                registers: moved.changed,
+                registers,
+                edition: self.inputs.chosen.told(),
+                report: left.report.as_ref().map(|left| json::name(left.path)),
             }),
         };
     }

@@ -19,10 +19,10 @@ const WRONG: &str = "s: pointer count not 1 to 256, machine unknown, or no versi
 const BESIDE: &str = ".s.treskibben-new";
 
 /// The settings of a place, in the order of the file: pointer count, machine, version 1, version 3.
-type Settings = [u64; 4];
+pub type Settings = [u64; 4];
 
 /// The bytes of a store with these editions in its first places.
-fn store(greatest: u64, editions: &[(u64, Settings)]) -> Vec<u8> {
+pub fn store(greatest: u64, editions: &[(u64, Settings)]) -> Vec<u8> {
     let mut bytes = b"EDITIONS\x01\0\0\0\x1c\x0a\0\0".to_vec();
     bytes.extend(greatest.to_le_bytes());
     for (number, settings) in editions {

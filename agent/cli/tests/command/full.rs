@@ -2,7 +2,7 @@
 
 use crate::fixtures::{of_pairs, row_h, rsp, C};
 use crate::restore::registers::in_rbx;
-use crate::restore::Restore;
+use crate::restore::{threads, Restore};
 use crate::run::{skipped, Folder, Ran, PROGRAM};
 use std::process::{Command, Stdio};
 
@@ -91,6 +91,50 @@ fn a_restore_into_a_folder() {
     assert_eq!(ran.status, Some(0), "{}", ran.err);
 }
 
+/// There is no room for the report, for the image, or for its receipt: then there is no new image, and no report,
+/// whole or in part.
+#[test]
+fn a_report() {
+    let (row, folder) = (Restore::row_i(), Folder::new());
+    row.put(&folder);
+    for (size, place, start) in [
+        (16, "--in-place --report why", "why: cannot be written: "),
+        (20, "--in-place --report why", "image: cannot be replaced: "),
+        (
+            24,
+            "--in-place --report why",
+            "image: cannot be replaced: its receipt ",
+        ),
+        (16, "--output new --report why", "why: cannot be written: "),
+        (20, "--output new --report why", "new: cannot be written: "),
+        (
+            24,
+            "--output new --report why",
+            "new: cannot be written: its receipt ",
+        ),
+        (
+            24,
+            "--into new --report new/why",
+            "new/why: cannot be written: ",
+        ),
+        (
+            28,
+            "--into new --report new/why",
+            "new/image.receipt.json: cannot be written: ",
+        ),
+    ] {
+        let call = format!("{RESTORE} {place}");
+        let Some(ran) = on_a_disk(&folder, size, FILES, &call) else {
+            return;
+        };
+        full(&ran, start, NAMES);
+    }
+    let call = format!("{RESTORE} --output new --report why");
+    let ran = on_a_disk(&folder, 64, FILES, &call).unwrap();
+    let names = "frames\nimage\nmoves\nnew\nnew.receipt.json\nsection\nwhy\n";
+    assert_eq!((ran.status, ran.text()), (Some(0), names), "{}", ran.err);
+}
+
 #[test]
 fn a_list_and_a_build() {
     let folder = Folder::new();
@@ -137,4 +181,46 @@ fn an_edition() {
     // With room the store is another one, which is what status 98 tells here.
     let ran = on_a_disk(&folder, 8, "s", make).unwrap();
     assert_eq!(ran.status, Some(98), "{}", ran.err);
+}
+
+/// There is no room for the trace, for the image beside it, or for the receipt: there is none of them.
+#[test]
+fn a_trace() {
+    let (row, folder) = (threads::thread(500), Folder::new());
+    row.put(&folder);
+    // The files have 32 KiB, the trace 140, the image 12 and the receipt 4.
+    for (size, call, start) in [
+        (168, "--output new --trace t", "t: cannot be written: "),
+        (180, "--output new --trace t", "new: cannot be written: "),
+        (
+            184,
+            "--output new --trace t",
+            "new: cannot be written: its receipt ",
+        ),
+        (
+            184,
+            "--in-place --trace t",
+            "image: cannot be replaced: its receipt ",
+        ),
+        (168, "--into new --trace t", "t: cannot be written: "),
+        (
+            180,
+            "--into new --trace t",
+            "new/image: cannot be written: ",
+        ),
+        (
+            172,
+            "--into new --trace new/t",
+            "new/t: cannot be written: ",
+        ),
+    ] {
+        let call = format!("{RESTORE} {call}");
+        let Some(ran) = on_a_disk(&folder, size, FILES, &call) else {
+            return;
+        };
+        full(&ran, start, NAMES);
+    }
+    let call = format!("{RESTORE} --output new --trace t");
+    let ran = on_a_disk(&folder, 188, FILES, &call).unwrap();
+    assert_eq!(ran.status, Some(0), "{}", ran.err);
 }

@@ -184,6 +184,9 @@ fn restore() {
     let restored = json!({
         "answer": "restored", "image": "image", "output": "new", "receipt": "new.receipt.json",
         "frames": 1, "pointers": 2, "registers": 0,
+        "edition": {
+            "number": null, "pointers": 256, "machine": "x86-64", "versions": [1, 3], "store": null
+        },
     });
     assert_eq!((ran.status, ran.err.as_str()), (Some(0), ""));
     assert_eq!(objects(&ran), [restored]);
@@ -194,7 +197,8 @@ fn restore() {
     let refused = json!({
         "answer": "refused", "file": "frames", "line": 1, "frame": 0, "pair": 0, "number": 21, "place": 0,
         "cause": "base neither 0 nor an old start",
-        "found": "frame 0 (address 0x1020, RBP 0x0, RSP 0x7000): pair 0",
+        "found": "frame 0 (address 0x1020, RBP 0x0, RSP 0x7000): pair 0: its base slot RSP+0x8 at 0x7008 \
+                  holds 0x50008; the old start below it is 0x50000, 8 bytes before",
     });
     assert_eq!(objects(&ran), [refused]);
     let none = Restore {

@@ -2,15 +2,20 @@
 
 mod asked_to_end;
 mod at_once;
+mod dry_run;
+mod editions;
+mod facts;
 mod faults;
-mod killed;
+pub mod killed;
 mod lists;
 mod machines;
 mod output;
-mod receipts;
+pub mod receipts;
 mod refusals;
 pub mod registers;
-mod threads;
+mod reports;
+pub mod threads;
+mod traced;
 mod twice;
 mod worked;
 

@@ -5,7 +5,7 @@ use crate::run::{Folder, Ran, PROGRAM};
 use std::path::Path;
 use std::process::{Command, Stdio};
 
-const COMMANDS: [&str; 12] = [
+const COMMANDS: [&str; 15] = [
     "check",
     "list",
     "build",
@@ -16,7 +16,10 @@ const COMMANDS: [&str; 12] = [
     "edition",
     "report",
     "join",
+    "explain",
     "restore",
+    "replay",
+    "trace",
     "completions",
 ];
 
@@ -131,6 +134,7 @@ fn a_reader_that_wants_no_more_is_no_fault() {
     folder.put("large", of_pairs(24, &many));
     folder.put("list", "1020\n".repeat(10_000));
     folder.put("maps", row_h().repeat(5_000));
+    crate::restore::killed::thread().put(&folder);
     for line in [
         "$0 list large",
         "$0 list --text large",
@@ -141,6 +145,7 @@ fn a_reader_that_wants_no_more_is_no_fault() {
         "$0 cut maps",
         "$0 check large large large",
         "$0 report large",
+        "$0 explain --section section --image image --first 7000 --moves moves --frames frames",
         "$0 --help",
         "$0 restore --help",
         "$0 --version",

@@ -167,7 +167,8 @@ fn row_i_and_sizes() {
     }
     row.section = with(row_h_1(), 97, 16);
     let words = row.refused(18, 0);
-    let end = "; frame 0 (function 0, offset 0x20, RBP 0x0, RSP 0x7000): pair 1";
+    let end = "; frame 0 (function 0, offset 0x20, RBP 0x0, RSP 0x7000): pair 1: \
+        base Indirect [RSP + 8], size 8; derived Indirect [RSP + 16], size 16";
     assert!(words.ends_with(end), "{words}");
 }
 

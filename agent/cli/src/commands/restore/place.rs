@@ -1,5 +1,7 @@
 //! Where a restore goes: an image by itself, or a folder with all that is new.
 
+use super::ahead::Ahead;
+use super::left::{Leaves, Left};
 use super::single::Single;
 use super::Arguments;
 use crate::folder::Folder;
@@ -7,6 +9,7 @@ use crate::names::shown;
 use crate::receipt::{self, Receipt};
 use crate::trouble::Trouble;
 use crate::{files, system};
+use std::ffi::OsStr;
 use std::fs::{File, Metadata, OpenOptions, Permissions};
 use std::io::{self, Write};
 use std::os::unix::fs::{MetadataExt, OpenOptionsExt, PermissionsExt};
@@ -25,6 +28,8 @@ pub enum Target<'a> {
     /// name when all of them are in it and flushed: they are of one moment, whatever ends the program. The
     /// old image is only read.
     Folder(Folder, Old<'a>),
+    /// Nothing is written.
+    Nowhere(Old<'a>),
 }
 
 /// The old image, where it is only read.
@@ -53,11 +58,15 @@ impl<'a> Old<'a> {
 
 impl<'a> Target<'a> {
     pub fn open(arguments: &'a Arguments) -> Result<Target<'a>, Trouble> {
+        let image = &arguments.given.image;
         match &arguments.into {
+            None if arguments.output.is_none() && !arguments.in_place => {
+                Ok(Target::Nowhere(Old::open(image)?))
+            }
             None => Ok(Target::Single(Single::open(arguments)?)),
             Some(folder) => {
                 let folder = Folder::at(folder)?;
-                Ok(Target::Folder(folder, Old::open(&arguments.image)?))
+                Ok(Target::Folder(folder, Old::open(image)?))
             }
         }
     }
@@ -66,7 +75,7 @@ impl<'a> Target<'a> {
     pub fn read(&mut self) -> Result<Vec<u8>, Trouble> {
         match self {
             Target::Single(single) => single.read(),
-            Target::Folder(_, old) => old.read(),
+            Target::Folder(_, old) | Target::Nowhere(old) => old.read(),
         }
     }
 
@@ -75,6 +84,7 @@ impl<'a> Target<'a> {
         match self {
             Target::Single(single) => single.named(),
             Target::Folder(folder, _) => &folder.named,
+            Target::Nowhere(old) => old.path,
         }
     }
 
@@ -83,22 +93,23 @@ impl<'a> Target<'a> {
         match self {
             Target::Single(single) => single.named().to_path_buf(),
             Target::Folder(folder, _) => folder.named.join(IMAGE),
+            Target::Nowhere(old) => old.path.to_path_buf(),
         }
     }
 
     /// The name of the list of the frames after the move, where it is written.
     pub fn frames(&self) -> Option<PathBuf> {
         match self {
-            Target::Single(_) => None,
             Target::Folder(folder, _) => Some(folder.named.join(FRAMES)),
+            Target::Single(_) | Target::Nowhere(_) => None,
         }
     }
 
     /// The name of the receipt.
     pub fn receipt(&self) -> PathBuf {
         match self {
-            Target::Single(single) => receipt::path_of(single.named()),
             Target::Folder(folder, _) => folder.named.join(RECEIPT),
+            Target::Single(_) | Target::Nowhere(_) => receipt::path_of(self.named()),
         }
     }
 
@@ -107,16 +118,24 @@ impl<'a> Target<'a> {
         match self {
             Target::Single(single) => single.untouched(),
             Target::Folder(folder, _) => format!("{}: is not made", shown(&folder.named)),
+            Target::Nowhere(old) => format!("{}: is as it was", shown(old.path)),
         }
     }
 
-    /// Puts image and receipt in place, and in a folder the frames too.
-    pub fn put(&self, image: &[u8], frames: &str, receipt: &Receipt) -> Result<(), Trouble> {
+    /// Puts image and receipt in place, in a folder the frames too, and before them what is left with them.
+    pub fn put(
+        &self,
+        image: &[u8],
+        frames: &str,
+        receipt: &Receipt,
+        left: &Leaves,
+    ) -> Result<(), Trouble> {
         // From here on the program goes on to its end, with its message and its status.
         system::hold_signals();
         match self {
-            Target::Single(single) => single.put(image, receipt),
-            Target::Folder(folder, old) => fill(folder, old, image, frames, receipt),
+            Target::Single(single) => single.put(image, receipt, left),
+            Target::Folder(folder, old) => fill(folder, old, image, frames, receipt, left),
+            Target::Nowhere(_) => Ok(()),
         }
     }
 }
@@ -128,23 +147,33 @@ fn fill(
     image: &[u8],
     frames: &str,
     receipt: &Receipt,
+    left: &Leaves,
 ) -> Result<(), Trouble> {
+    let mut ahead = left.prepare(old.metadata.as_ref())?;
     let beside = folder.begin()?;
-    let put = |name: &str, bytes: io::Result<&[u8]>, like: Option<&Old>| {
+    let put = |name: &OsStr, bytes: io::Result<&[u8]>, like: Option<&Old>| {
         let put = bytes.and_then(|bytes| write(&beside.path().join(name), bytes, like));
         let path = folder.named.join(name);
         put.map_err(|error| Trouble::file(&path, "cannot be written", error))
     };
-    put(IMAGE, Ok(image), Some(old))?;
-    put(FRAMES, Ok(frames.as_bytes()), Some(old))?;
+    put(IMAGE.as_ref(), Ok(image), Some(old))?;
+    put(FRAMES.as_ref(), Ok(frames.as_bytes()), Some(old))?;
+    for (name, bytes) in left.iter().filter_map(Left::inside) {
+        put(name, Ok(bytes), Some(old))?;
+    }
     let receipt = receipt.text();
     put(
-        RECEIPT,
+        RECEIPT.as_ref(),
         receipt.as_deref().map_err(|error| error.kind().into()),
         None,
     )?;
     folder.flush(&beside, File::sync_all)?;
-    folder.place(beside)
+    let placed = ahead.iter_mut().try_for_each(Ahead::place);
+    let placed = placed.and_then(|()| folder.rename(beside));
+    if placed.is_ok() {
+        ahead.into_iter().for_each(Ahead::keep);
+    }
+    folder.flushed(placed)
 }
 
 /// Writes a new file, down to the disk. One that is to be like the old image has its permissions; where that

@@ -5,6 +5,8 @@
 //! between the two leaves a receipt whose `after` is the digest of no image there, so that nothing
 //! is taken for restored that is not; and no new image stands without its receipt.
 
+use super::ahead::Ahead;
+use super::left::Leaves;
 use super::place::Old;
 use super::Arguments;
 use crate::beside::Beside;
@@ -13,7 +15,7 @@ use crate::names::{shown, STANDARD_INPUT};
 use crate::receipt::{self, Receipt};
 use crate::replace::{self, Held};
 use crate::trouble::Trouble;
-use std::fs::{self, File};
+use std::fs::{self, File, Metadata};
 use std::io;
 use std::path::Path;
 
@@ -27,7 +29,7 @@ pub enum Single<'a> {
 
 impl<'a> Single<'a> {
     pub fn open(arguments: &'a Arguments) -> Result<Single<'a>, Trouble> {
-        let image = arguments.image.as_path();
+        let image = arguments.given.image.as_path();
         let Some(output) = &arguments.output else {
             if files::is_standard_input(image) {
                 let why = "--in-place needs an image with a name: standard input has none";
@@ -71,20 +73,38 @@ impl<'a> Single<'a> {
         }
     }
 
-    /// Puts the receipt and the image in place.
-    pub fn put(&self, image: &[u8], receipt: &Receipt) -> Result<(), Trouble> {
+    /// Whose permissions new files get.
+    fn metadata(&self) -> Option<&Metadata> {
+        match self {
+            Single::InPlace(_, held) => Some(held.metadata()),
+            Single::New(_, old) => old.metadata.as_ref(),
+        }
+    }
+
+    /// Puts what is left with the image, the receipt and the image in place.
+    pub fn put(&self, image: &[u8], receipt: &Receipt, left: &Leaves) -> Result<(), Trouble> {
         let what = match self {
             Single::InPlace(..) => "cannot be replaced",
             Single::New(..) => CANNOT_BE_WRITTEN,
         };
+        let mut ahead = left.prepare(self.metadata())?;
         let path = receipt::path_of(self.named());
         let placed = receipt
             .text()
-            .and_then(|text| self.put_both(image, &path, &text));
+            .and_then(|text| self.put_both(image, &path, &text, &mut ahead));
+        if placed.is_ok() {
+            ahead.into_iter().for_each(Ahead::keep);
+        }
         replace::flushed(self.named(), placed, what)
     }
 
-    fn put_both(&self, image: &[u8], path: &Path, receipt: &[u8]) -> io::Result<File> {
+    fn put_both(
+        &self,
+        image: &[u8],
+        path: &Path,
+        receipt: &[u8],
+        ahead: &mut [Ahead],
+    ) -> io::Result<File> {
         let of_receipt = |error: io::Error| {
             let what = format!("its receipt {} cannot be written: {error}", shown(path));
             io::Error::new(error.kind(), what)
@@ -94,6 +114,7 @@ impl<'a> Single<'a> {
         let beside = replace::prepare(path, receipt, 0o666).map_err(of_receipt)?;
         let folder = replace::folder(path)?;
         self.still_right()?;
+        ahead.iter_mut().try_for_each(Ahead::place)?;
         beside.replace().map_err(of_receipt)?;
         let placed = folder.sync_all().and_then(|()| self.place(new));
         if placed.is_err() {

@@ -24,12 +24,12 @@ fn large() -> Restore {
     row
 }
 
-fn set_mode(path: &Path, mode: u32) {
+pub fn set_mode(path: &Path, mode: u32) {
     fs::set_permissions(path, Permissions::from_mode(mode)).unwrap();
 }
 
 /// Row I, its files in a folder, and the program, to be run by a user whom permissions stop.
-fn as_a_stranger(row: &Restore) -> Option<(Folder, Command)> {
+pub fn as_a_stranger(row: &Restore) -> Option<(Folder, Command)> {
     let folder = Folder::within(&std::env::temp_dir());
     row.put(&folder);
     fs::copy(PROGRAM, folder.at("program")).unwrap();

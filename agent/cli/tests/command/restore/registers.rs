@@ -277,7 +277,7 @@ fn registers_that_no_pair_may_have() {
         row.put(&folder);
         let ran = into(&row, &folder, &["--machine", machine]);
         assert!(ran.err.contains("refused 18 at 0: "), "{}", ran.err);
-        assert!(ran.err.contains(": pair 0\n"), "{}", ran.err);
+        assert!(ran.err.contains(": pair 0: base Register "), "{}", ran.err);
         assert_eq!(folder.names(), super::FILES);
     }
     let mut record = crate::fixtures::statepoint(0x20, &[[rsp(8), rsp(8)]]);
@@ -303,7 +303,8 @@ fn refusals_of_registers() {
         ran.err
     );
     assert!(
-        ran.err.contains(": pair 0\nnew: is not made\n"),
+        ran.err
+            .contains(": pair 0: its base slot RBX holds 0x50008; "),
         "{}",
         ran.err
     );
@@ -317,10 +318,12 @@ fn refusals_of_registers() {
         ran.err
     );
     assert!(
-        ran.err.contains(": pair 1\nnew: is not made\n"),
+        ran.err
+            .contains(": pair 1: its derived slot RBX is derived from two bases: base slot R12 "),
         "{}",
         ran.err
     );
+    assert!(ran.err.ends_with("\nnew: is not made\n"), "{}", ran.err);
     assert_eq!(folder.names(), super::FILES);
 }
 
@@ -333,6 +336,9 @@ fn for_programs() {
     let restored = json!({
         "answer": "restored", "image": "image", "output": "new/image", "new_frames": "new/frames",
         "receipt": "new/image.receipt.json", "frames": 1, "pointers": 2, "registers": 1,
+        "edition": {
+            "number": null, "pointers": 256, "machine": "x86-64", "versions": [1, 3], "store": null
+        },
     });
     assert_eq!((ran.status, object(&ran)), (Some(0), restored));
     let ran = Ran::of(row.call(&mut folder.command()).arg("--json"));

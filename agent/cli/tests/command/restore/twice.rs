@@ -160,7 +160,8 @@ fn what_is_refused_before() {
         ran.err
     };
     let told = refused(&row, "80000 a0000\n", "frames:1: refused 21 at 0: ");
-    assert!(told.contains(": pair 0, by the joined table\n"), "{told}");
+    let found = ": pair 0, by the joined table: its base slot RSP+0x8 at 0x7008 holds 0x50000; ";
+    assert!(told.contains(found), "{told}");
     refused(&row, "# x\n90000 0\n", "second:2: refused 14 at 0: ");
     refused(&row, "2 1\n1 1\n", "second:2: refused 14 at 0: ");
     let mut bad = row.clone();

@@ -52,7 +52,8 @@ fn also_a_base_inside_an_object() {
     };
     assert_eq!(
         row.refused(21, 0),
-        "frames:1: base neither 0 nor an old start; frame 0 (address 0x1020, RBP 0x0, RSP 0x7000): pair 0"
+        "frames:1: base neither 0 nor an old start; frame 0 (address 0x1020, RBP 0x0, RSP 0x7000): pair 0: \
+         its base slot RSP+0x8 at 0x7008 holds 0x50008; the old start below it is 0x50000, 8 bytes before"
     );
 }
 
@@ -71,7 +72,10 @@ fn also_a_slot_outside_and_a_collision() {
             words.starts_with(&format!("frames:1: {cause}; ")),
             "{words}"
         );
-        assert!(words.ends_with("): pair 1"), "{words}");
+        assert!(
+            words.contains("): pair 1: its derived slot RSP+0x"),
+            "{words}"
+        );
     }
 }
 

@@ -2,44 +2,11 @@
 
 use super::ALONE;
 use crate::run::{Folder, Ran};
+use crate::scenes::{self, names};
 use generator::frames::plain::{self, Slot};
 use generator::frames::twice::{base_alone, list_bases};
-use generator::frames::{Scene, Stop, Table};
-use generator::{Rng, Version};
-
-/// The text of a table.
-fn text(table: &Table) -> String {
-    let entries = table.olds.iter().zip(&table.news);
-    let lines = entries.map(|(old, new)| format!("{old:x} {new:x}\n"));
-    lines.collect()
-}
-
-/// The names of the registers that a frame of a scene brings.
-fn names(scene: &Scene) -> Vec<String> {
-    let x86_64 = "RAX RDX RCX RBX RSI RDI RBP RSP R8 R9 R10 R11 R12 R13 R14 R15";
-    match scene.machine {
-        0 => x86_64.split(' ').map(String::from).collect(),
-        _ => {
-            let numbered = (0..31).map(|nth| format!("X{nth}"));
-            numbered.chain(["SP".to_string()]).collect()
-        }
-    }
-}
-
-/// The list of a scene's frames, with all registers.
-fn lines(scene: &Scene) -> String {
-    let names = names(scene);
-    let line = |stop: &Stop| {
-        let place = match scene.section.version {
-            Version::One => format!("{}+{:x}", stop.named, stop.address),
-            Version::Three => format!("{:x}", stop.address),
-        };
-        let registers = names.iter().zip(stop.registers);
-        let registers = registers.map(|(name, content)| format!(" {name}={content:x}"));
-        format!("{place}{}\n", registers.collect::<String>())
-    };
-    scene.stops.iter().map(line).collect()
-}
+use generator::frames::{Scene, Table};
+use generator::Rng;
 
 /// A scene and a second table in a folder.
 struct Case {
@@ -58,9 +25,9 @@ impl Case {
         let (folder, second) = (Folder::new(), scene.table.next(rng));
         folder.put("section", scene.section.encode());
         folder.put("image", &scene.image);
-        folder.put("frames", lines(&scene));
-        folder.put("first", text(&scene.table));
-        folder.put("second", text(&second));
+        folder.put("frames", scenes::frames(&scene, &scene.stops));
+        folder.put("first", scenes::moves(&scene.table));
+        folder.put("second", scenes::moves(&second));
         Case {
             scene,
             second,
@@ -70,7 +37,7 @@ impl Case {
 
     /// Runs a restore of image and frames of a folder into another.
     fn restore(&self, from: &str, tables: &[&str], into: &str) -> Ran {
-        let machine = ["x86-64", "aarch64"][self.scene.machine as usize];
+        let machine = scenes::machine(&self.scene);
         let first = format!("{:x}", self.scene.first);
         let [image, frames] = ["image", "frames"].map(|name| format!("{from}/{name}"));
         let mut command = self.folder.command();
