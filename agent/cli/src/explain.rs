@@ -4,17 +4,17 @@
 mod agree;
 mod asked;
 mod counts;
+mod gather;
 pub mod objects;
 pub mod text;
 mod words;
 
-use crate::inputs::slots::{pairs, At, Pair, Place};
+use crate::inputs::slots::Place;
 use crate::inputs::{Inputs, Moved};
-use crate::library::{self, ExplainedPointer, ExplainedSlot, Reason, Refusal, Slot};
-use crate::listing::stack_size;
+use crate::library::{self, Reason, Refusal, Slot};
 use crate::receipt::Entry;
 use crate::trouble::Trouble;
-use std::collections::HashMap;
+use gather::of_frame;
 use std::path::Path;
 
 /// The slots of some frames, and all that they were worked out from.
@@ -48,14 +48,13 @@ pub struct OfFrame {
 }
 
 /// Where a frame stands: its record, its function and the function's stack size.
-#[derive(Clone, Default)]
+#[derive(Clone, Copy)]
 pub struct Stands {
     pub record: u64,
     pub function: u64,
     pub stack_size: u64,
-    /// The number of pairs, and those that are not null, by their numbers.
+    /// The number of pairs.
     pub pairs: u64,
-    listed: HashMap<u64, Pair>,
 }
 
 /// A slot.
@@ -91,13 +90,13 @@ impl<'a> Report<'a> {
         let pointers = explained
             .map_err(|(refusal, position)| inputs.refused(refusal, position, &moved.before))?;
         agree::with_the_move(inputs, moved, &pointers)?;
-        let stands = inputs.at_frames(stands);
+        let records = inputs.at_frames(gather::stands);
         let mut rest = pointers.as_slice();
         let frames = (0..frames.len()).map(|position| {
             let own = rest.partition_point(|pointer| pointer.frame <= position);
             let (own, others) = rest.split_at(own);
             rest = others;
-            of_frame(inputs, &stands, position, own)
+            of_frame(inputs, &records, position, own)
         });
         let frames = frames.collect();
         let registers = moved.changed.len() as u64;
@@ -130,106 +129,17 @@ impl<'a> Report<'a> {
         let pointers =
             explained.map_err(|refusal| inputs.refused_alone(refusal, position, image))?;
         inputs.one_for_all(position..position + 1)?;
-        let stands = inputs.at_frames(stands);
+        let records = inputs.at_frames(gather::stands);
         Ok(Report {
             inputs,
             image: Entry::of(&inputs.given.image, image),
-            frames: vec![of_frame(inputs, &stands, position, &pointers)],
+            frames: vec![of_frame(inputs, &records, position, &pointers)],
             after: None,
         })
     }
 }
 
-/// What a record says of the frames that stand there.
-fn stands(at: &At) -> Stands {
-    let functions = &at.listing.functions;
-    let owner = at.owner.map(|owner| (owner, &functions[owner]));
-    let all = pairs(at);
-    Stands {
-        record: at.number,
-        function: owner.map_or(0, |(number, _)| number as u64),
-        stack_size: owner.map_or(0, |(_, function)| function.stack_size),
-        pairs: at.record.pairs().unwrap_or_default() as u64,
-        listed: all.iter().map(|pair| (pair.number as u64, *pair)).collect(),
-    }
-}
-
-/// A frame, of what the library says of its pointers.
-fn of_frame(
-    inputs: &Inputs,
-    stands: &HashMap<u64, Option<Stands>>,
-    position: usize,
-    pointers: &[ExplainedPointer],
-) -> OfFrame {
-    let frame = inputs.lines[position].value.frame;
-    let there = stands.get(&frame.address).cloned().flatten();
-    let mut there = there.expect("a frame that is accepted stands at one record");
-    if inputs.section.first() == Some(&1) {
-        // Of version 1 it is the frame that names the function.
-        there.function = frame.function;
-        there.stack_size = stack_size(&inputs.section, frame.function).unwrap_or_default();
-    }
-    let mut own = OfFrame {
-        position,
-        stands: there,
-        pointers: pointers.len() as u64,
-        null_pairs: Vec::new(),
-        slots: Vec::new(),
-    };
-    let mut places = HashMap::new();
-    let mut nth = 0;
-    for (index, pointer) in pointers.iter().enumerate() {
-        let again = index > 0 && pointers[index - 1].pair == pointer.pair;
-        nth = if again { nth + 1 } else { 0 };
-        match &pointer.slots {
-            None => own.null_pairs.push(pointer.pair),
-            Some((base, derived)) => {
-                let pair = own.stands.listed.get(&pointer.pair).copied();
-                let named = pair.map(|pair| pair.places(nth));
-                let place = |which: usize, slot: Slot| {
-                    let named = named.map(|places| places[which]);
-                    inputs.place(position, slot, named)
-                };
-                let base_place = place(0, base.slot);
-                let from = match base.slot == derived.slot {
-                    true => Base::Itself,
-                    false => Base::At(base_place),
-                };
-                let slot = own.slot(&mut places, base, base_place);
-                if slot.base_of.last() != Some(&pointer.pair) {
-                    slot.base_of.push(pointer.pair);
-                }
-                let slot = own.slot(&mut places, derived, place(1, derived.slot));
-                slot.derived.get_or_insert((pointer.pair, from));
-            }
-        }
-    }
-    own
-}
-
 impl OfFrame {
-    /// The entry of a slot, which is made where it is met for the first time.
-    fn slot(
-        &mut self,
-        met: &mut HashMap<Slot, usize>,
-        explained: &ExplainedSlot,
-        place: Place,
-    ) -> &mut OfSlot {
-        let index = *met.entry(explained.slot).or_insert(self.slots.len());
-        if index == self.slots.len() {
-            self.slots.push(OfSlot {
-                slot: explained.slot,
-                place,
-                content: Some([explained.content, explained.new_content()]),
-                reason: explained.reason,
-                derived: None,
-                base_of: Vec::new(),
-                beside: None,
-            });
-        }
-        &mut self.slots[index]
-    }
-
     /// The first byte of the extent and the first after it.
     pub fn extent(&self, inputs: &Inputs) -> [u128; 2] {
         let line = &inputs.lines[self.position].value;
