@@ -19,6 +19,8 @@ impl Edition<'_> {
     /// Unlike those of a thread, the frames may share bytes of the stack, be of both machines, of which one is
     /// refused by 33, and be of any number.
     ///
+    /// The call needs about 170 KiB of stack, which a thread of [`std::thread`] has many times over.
+    ///
     /// # Errors
     ///
     /// 35 where the trace is broken, before all else. The image is unchanged then.
