@@ -6,7 +6,7 @@ mod dry_run;
 mod editions;
 mod facts;
 mod faults;
-mod killed;
+pub mod killed;
 mod lists;
 mod machines;
 mod output;

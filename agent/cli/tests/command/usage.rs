@@ -134,6 +134,7 @@ fn a_reader_that_wants_no_more_is_no_fault() {
     folder.put("large", of_pairs(24, &many));
     folder.put("list", "1020\n".repeat(10_000));
     folder.put("maps", row_h().repeat(5_000));
+    crate::restore::killed::thread().put(&folder);
     for line in [
         "$0 list large",
         "$0 list --text large",
@@ -144,6 +145,7 @@ fn a_reader_that_wants_no_more_is_no_fault() {
         "$0 cut maps",
         "$0 check large large large",
         "$0 report large",
+        "$0 explain --section section --image image --first 7000 --moves moves --frames frames",
         "$0 --help",
         "$0 restore --help",
         "$0 --version",

@@ -179,3 +179,25 @@ fn joined_tables() {
         "{text}"
     );
 }
+
+/// A name can't write a line of its own into a report.
+#[test]
+fn names_with_control_characters() {
+    let (row, folder) = (Restore::row_i(), Folder::new());
+    row.put(&folder);
+    let name = "i\ntotal: 0 frames\x1b[2J";
+    folder.put(name, &row.image);
+    let call = "explain --section section --first 7000 --moves moves --frames frames --image";
+    let ran = folder.run(call.split(' ').chain([name]));
+    assert_eq!((ran.status, ran.err.as_str()), (Some(0), ""));
+    assert!(
+        ran.text().contains("  i\\ntotal: 0 frames\\u{1b}[2J\n"),
+        "{}",
+        ran.text()
+    );
+    let totals = ran
+        .text()
+        .lines()
+        .filter(|line| line.starts_with("total: "));
+    assert_eq!(totals.count(), 1);
+}

@@ -198,7 +198,8 @@ fn both_machines() {
     assert!(ran
         .text()
         .starts_with("t: differs in answer 1 of 2\nframe 1: x86-64, "));
-    let found = "at most 256 pointers, aarch64, versions 1 and 3; the frames are of x86-64";
+    let found = "; section: no edition is named, which allows at most 256 pointers, aarch64, \
+        versions 1 and 3; the frames are of x86-64";
     assert!(
         now.starts_with("refused 33 at 0: ") && now.ends_with(found),
         "{now}"

@@ -238,7 +238,7 @@ fn an_image_that_has_gone() {
 /// Whatever moment ends the program, no new image is there without its report, and no report in part.
 #[test]
 fn killed_at_any_moment() {
-    const KILLS: u64 = 120;
+    const KILLS: u64 = 80;
     let (row, folder) = (thread(), Folder::new());
     let (old, new) = (image(OLD), image(NEW));
     // The report takes about as long as the restore.
