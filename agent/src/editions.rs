@@ -5,6 +5,9 @@
 //! place is used again, its number never. Any sequence of calls from an empty store is answered as the
 //! plain list of what was made and retired says; that is proved.
 //!
+//! A restore names an edition: [`Editions::edition`] gives an [`Edition`], which has the calls that move frames
+//! or tell why they move, and keeps them to its settings.
+//!
 //! [`Editions`] owns a store. Its bytes can be kept in a file: [`Editions::to_bytes`] and
 //! [`Editions::from_bytes`], which refuses what is damaged.
 //!
@@ -30,7 +33,9 @@
 //! # }
 //! ```
 
+mod explain;
 mod file;
+mod replay;
 mod restore;
 #[cfg(test)]
 mod tests;

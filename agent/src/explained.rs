@@ -11,7 +11,12 @@ const MOST_POINTERS: usize = 256;
 /// How many pointers of a frame a list for a thread first has room for.
 const OFTEN_POINTERS: usize = 16;
 
-/// A pointer of a frame, and why its two slots move or do not.
+/// A pointer of a frame, and why its two slots move or do not: what
+/// [`Edition::explain_frame`](crate::editions::Edition::explain_frame) and
+/// [`Edition::explain_thread`](crate::editions::Edition::explain_thread) tell.
+///
+/// A pair of several pointers has as many of these, one for each. A slot that several pointers have is told
+/// with each of them, and is the same in all.
 #[derive(Clone, Copy, Debug, PartialEq, Eq, Hash)]
 pub struct ExplainedPointer {
     /// The position of its frame in the list, counted from 0; of a single frame 0.
@@ -63,16 +68,16 @@ pub(crate) fn thread_rows(
     call: impl Fn(&mut [u64]) -> Answer,
 ) -> Result<Vec<ExplainedPointer>, ThreadRefusal> {
     let count = (frames.len() / 2).min(MOST_FRAMES);
-    let rows_of = |pointers: usize| {
-        let mut rows = vec![0; ROW * pointers * count];
+    let rows_of = |each: usize| -> Result<Vec<ExplainedPointer>, Refusal> {
+        let mut rows = vec![0; ROW * each * count];
         let written = call(&mut rows).outcome()?;
-        Ok(self::pointers(&rows, written))
+        Ok(pointers(&rows, written))
     };
-    match rows_of(OFTEN_POINTERS) {
-        Err(refusal) if Refusal::number(&refusal) == 24 => rows_of(MOST_POINTERS),
-        answer => answer,
-    }
-    .map_err(ThreadRefusal::new)
+    let told = match rows_of(OFTEN_POINTERS) {
+        Err(refusal) if refusal.number() == 24 => rows_of(MOST_POINTERS),
+        told => told,
+    };
+    told.map_err(ThreadRefusal::new)
 }
 
 /// The pointers that the written numbers of a list tell. The library is proved to write whole rows, and no
@@ -91,14 +96,14 @@ fn pointers(rows: &[u64], written: u64) -> Vec<ExplainedPointer> {
 }
 
 /// The pointer of a row.
-fn pointer(row: &[u64; ROW]) -> ExplainedPointer {
-    let [frame, pair, base @ .., _, _, _, _, _, _, _] = *row;
-    let [.., d0, d1, d2, d3, d4, d5, d6] = *row;
-    let slots = slot(base).zip(slot([d0, d1, d2, d3, d4, d5, d6]));
+fn pointer(
+    &[frame, pair, b0, b1, b2, b3, b4, b5, b6, ref derived @ ..]: &[u64; ROW],
+) -> ExplainedPointer {
+    let base = slot([b0, b1, b2, b3, b4, b5, b6]);
     ExplainedPointer {
         frame: frame as usize,
         pair,
-        slots,
+        slots: base.zip(slot(*derived)),
     }
 }
 
@@ -117,3 +122,6 @@ fn slot([kind, which, content, why, pair, old, new]: [u64; 7]) -> Option<Explain
         reason,
     })
 }
+
+#[cfg(test)]
+mod tests;

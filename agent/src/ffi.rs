@@ -46,6 +46,21 @@ impl Answer {
     pub(crate) fn outcome(self) -> Result<u64, Refusal> {
         self.verdict.accepted().map(|()| self.value)
     }
+
+    /// The answer of an accepted call.
+    #[cfg(test)]
+    pub(crate) fn accepted(value: u64) -> Answer {
+        let (number, place) = (0, 0);
+        let verdict = Verdict { number, place };
+        Answer { verdict, value }
+    }
+
+    /// The answer of a refused call.
+    #[cfg(test)]
+    pub(crate) fn refused(number: u64, place: u64) -> Answer {
+        let verdict = Verdict { number, place };
+        Answer { verdict, value: 0 }
+    }
 }
 
 /// What the questions by address and by function and offset answer: the struct `treskibben_find_answer`.

@@ -17,8 +17,10 @@
 //! asked of both versions alike. [`flat`] has the same kinds of calls for the flat proposal of a
 //! version 2.
 //!
-//! [`editions`] keeps what a site sets for its moves, in a store of 64 editions. [`report`] counts over many
-//! sections.
+//! [`editions`] keeps what a site sets for its moves, in a store of 64 editions. A restore that names an
+//! [`Edition`](editions::Edition) is kept to it; such a restore is explained as a whole, a frame or a thread at
+//! a time, and [replayed](editions::Edition::replay) from a [`trace`]. The [`controller`] serves one product.
+//! [`report`] counts over many sections.
 //!
 //! ```
 //! // A section of no functions, no constants and no records: version 3 and fifteen zeros.

@@ -7,7 +7,7 @@ use std::collections::{BTreeMap, HashSet};
 use std::error::Error;
 use treskibben::editions::{Editions, MakeRefusal, Settings, Versions};
 use treskibben::report::Totals;
-use treskibben::{check, flat, Frame, Machine, MoveTable, Refusal};
+use treskibben::{check, controller, flat, trace, Frame, Machine, MoveTable, Refusal};
 
 /// A section of 16 bytes with these counts, `rest` after it.
 fn section(counts: [u8; 3], rest: &[u8]) -> Vec<u8> {
@@ -149,8 +149,8 @@ fn refused_listings() -> [Refusal; 4] {
     ]
 }
 
-/// The number that no safe call gives: they take no number that is no machine.
-const NO_MACHINE: u64 = 33;
+/// The number that no safe call gives without an edition: they take no number that is no machine.
+const NOT_ALLOWED: u64 = 33;
 
 /// A refusal of a frame for each number that a frame can get by itself.
 fn refused_frames() -> Vec<Refusal> {
@@ -175,7 +175,7 @@ fn refused_frames() -> Vec<Refusal> {
             break moved.unwrap_err();
         }
     };
-    let safe = NUMBERS.into_iter().filter(|number| *number != NO_MACHINE);
+    let safe = NUMBERS.into_iter().filter(|number| *number != NOT_ALLOWED);
     safe.map(&mut refused).collect()
 }
 
@@ -242,6 +242,31 @@ fn refused_editions() -> [Refusal; 4] {
     ]
 }
 
+/// A move of a frame on another machine than its edition's.
+fn refused_restore() -> Refusal {
+    let mut editions = Editions::new();
+    let settings = Settings {
+        pointers: 256,
+        machine: Machine::Aarch64,
+        versions: Versions::Both,
+    };
+    let number = editions.make(settings).expect("right settings");
+    let (edition, section) = (editions.edition(number), section([0, 0, 0], &[]));
+    let (table, frame) = (MoveTable::new(&[], &[]), Frame::new(0));
+    let moved = edition.relocate(&section, &mut [], 0, table, Machine::Amd64, frame, &mut []);
+    moved.unwrap_err()
+}
+
+/// A trace whose first item is of no kind, and a section of version 1 for the bench controller.
+fn refused_trace_and_profile() -> [Refusal; 2] {
+    let mut older = section([0, 0, 0], &[]);
+    older[0] = 1;
+    [
+        trace::steps(&[9]).unwrap_err(),
+        controller::check(&older).unwrap_err(),
+    ]
+}
+
 /// A report that can count no section more.
 fn refused_report() -> Refusal {
     let mut totals = Totals {
@@ -257,16 +282,10 @@ fn refused_report() -> Refusal {
 /// other number.
 #[test]
 fn the_words_are_those_of_the_table() {
-    let mut table = table(include_str!("../../docs/REFUSALS.md"));
-    let no_machine = table.remove(&NO_MACHINE);
-    assert_eq!(no_machine.as_deref(), Some("machine not known"));
+    let table = table(include_str!("../../docs/REFUSALS.md"));
     assert_eq!(
         table.keys().copied().collect::<Vec<u64>>(),
-        (1..=32)
-            .chain([34])
-            .chain(36..=41)
-            .chain([51])
-            .collect::<Vec<u64>>()
+        (1..=41).chain([50, 51]).collect::<Vec<u64>>()
     );
     let section = section([0, 0, 0], &[]);
     let record = with_location([0; 8], [1, 0, 8, 0, 3, 0, 0, 0, 0, 0, 0, 0]);
@@ -283,6 +302,8 @@ fn the_words_are_those_of_the_table() {
     told.push(refused_report());
     told.extend(refused_flat());
     told.extend(refused_editions());
+    told.push(refused_restore());
+    told.extend(refused_trace_and_profile());
     let told: BTreeMap<u64, String> = told
         .iter()
         .map(|it| (it.number(), it.cause().to_string()))

@@ -16,7 +16,7 @@ use crate::editions::AMD64;
 use crate::machine::Machine;
 use crate::relocate::{pointers_of, statepoint_pairs, Frame};
 use crate::restore::Restore;
-use crate::section::{Record, Section, Version};
+use crate::section::{read, Record, Section, Version};
 use crate::Refusal;
 
 /// The most records of a section.
@@ -36,7 +36,7 @@ pub fn relocate(
     frame: Frame,
     registers: &mut [u64],
 ) -> Result<u64, Refusal> {
-    restore.under(machine, check, |shared| {
+    restore.under(machine, profile, |shared| {
         let plan = shared.judge_one(image, frame, registers)?;
         plan.write(image, registers);
         Ok(plan.pointers)
@@ -56,13 +56,18 @@ pub fn thread(
     registers: &mut [u64],
     index: Option<&[u64]>,
 ) -> Result<u64, Refusal> {
-    restore.under(machine, check, |shared| {
+    restore.under(machine, profile, |shared| {
         shared.move_all(image, list, registers, index)
     })
 }
 
+/// Checks that a section is whole and keeps the profile: 1 to 9, 50.
+pub fn check(section: &[u8]) -> Result<(), Refusal> {
+    profile(&read(section)?, AMD64)
+}
+
 /// Refusal 50.
-fn check(section: &Section, machine: u64) -> Result<(), Refusal> {
+fn profile(section: &Section, machine: u64) -> Result<(), Refusal> {
     if section.version != Version::Three || machine != AMD64 {
         return Err(Refusal::at(50, 0));
     }

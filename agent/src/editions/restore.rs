@@ -1,17 +1,59 @@
-//! Restores that name an edition: the moves of a frame and of a thread, their explanations, and a replay.
+//! Restores that name an edition: the moves of a frame and of a thread.
 
 use super::Editions;
-use crate::explain::told;
-use crate::explained::{frame_rows, thread_rows};
 use crate::ffi::restore::{self, Mover, Restore};
-use crate::trace::replayed;
-use crate::{ffi, relocate, thread};
-use crate::{Difference, ExplainedPointer, Frame, Frames, Index, Machine, MoveTable};
-use crate::{Reason, Refusal, Slot, ThreadRefusal};
+use crate::{relocate, thread};
+use crate::{Frame, Frames, Index, Machine, MoveTable, Refusal, ThreadRefusal};
 
-/// An edition of a store by its number, for restores to name.
+/// An edition of a store, named by its number: what a restore is made under.
 ///
-/// It is only a name: one that is unknown or retired is refused by 31 in each call.
+/// [`Editions::edition`] gives it. It is only a name: a number that is unknown or retired is refused by 31 in
+/// each call, before all else. The calls are those of the crate's root, and the settings of the edition add to
+/// them:
+///
+/// | Number | Cause | Place |
+/// |---|---|---|
+/// | 31 | edition unknown or retired | 0 |
+/// | 1 to 9 | the refusal of [`check`](crate::check) | as there |
+/// | 33 | the edition doesn't allow the version of the section, or is of another machine | 0 |
+/// | 13, 14, 25, .. | as without an edition, but that 17 reads the edition's count | as there |
+///
+/// 17 is for more pointers than the edition's, null pairs counting one each; of version 1, for more pairs. A
+/// size of 8N is of right form with N up to 256 under every edition: N over the edition's count is 17, and not
+/// 18. Under an edition of 256 pointers and both versions, a call on its machine answers as without an edition.
+///
+/// # Examples
+///
+/// ```
+/// use treskibben::editions::{Editions, Settings, Versions};
+/// use treskibben::{Frame, Machine, MoveTable};
+/// # fn main() -> Result<(), Box<dyn std::error::Error>> {
+/// let (machine, versions) = (Machine::Amd64, Versions::Three);
+/// let mut editions = Editions::new();
+/// let number = editions.make(Settings { pointers: 256, machine, versions })?;
+/// let narrow = editions.make(Settings { pointers: 1, machine, versions })?;
+///
+/// // A statepoint of AMD64 at 0x1020 in a function with 24 bytes of stack. It has two pairs: the slot
+/// // at RSP + 8 with itself as base, and the one at RSP + 16, which is derived from that.
+/// let section = std::fs::read("../samples/h-statepoint.section")?;
+/// let table = MoveTable::new(&[0x50000], &[0x90000]);
+/// let mut image = [7, 0x50000, 0x54e20_u64].map(u64::to_le_bytes).concat();
+/// let mut moved = |edition, machine: Machine| {
+///     let (frame, mut registers) = (Frame::new(0x1020), machine.registers(0, 0x7000));
+///     let edition = editions.edition(edition);
+///     edition.relocate(&section, &mut image, 0x7000, table, machine, frame, &mut registers)
+/// };
+///
+/// // An edition that was never made, another machine than the edition's, and more pointers than it allows.
+/// assert_eq!(moved(3, machine).unwrap_err().number(), 31);
+/// assert_eq!(moved(number, Machine::Aarch64).unwrap_err().number(), 33);
+/// assert_eq!(moved(narrow, machine).unwrap_err().number(), 17);
+///
+/// assert_eq!(moved(number, machine), Ok(2));
+/// assert_eq!(image, [7, 0x90000, 0x94e20_u64].map(u64::to_le_bytes).concat());
+/// # Ok(())
+/// # }
+/// ```
 #[derive(Clone, Copy, Debug)]
 pub struct Edition<'a> {
     editions: &'a Editions,
@@ -19,8 +61,18 @@ pub struct Edition<'a> {
 }
 
 impl Editions {
-    /// The edition of this number, for restores to name. Nothing is tested here: a number that is unknown
-    /// or retired is refused by 31 in each call.
+    /// The edition of this number, for a restore to name.
+    ///
+    /// Nothing is tested here: a number that is unknown or retired is refused by 31 in each call.
+    ///
+    /// ```
+    /// use treskibben::editions::Editions;
+    ///
+    /// let editions = Editions::new();
+    /// let edition = editions.edition(7);
+    /// assert_eq!(edition.number(), 7);
+    /// assert!(edition.store().read(7).is_err());
+    /// ```
     pub fn edition(&self, number: u64) -> Edition<'_> {
         Edition {
             editions: self,
@@ -35,7 +87,7 @@ impl<'a> Edition<'a> {
         self.number
     }
 
-    /// The store.
+    /// The store that it is looked up in.
     pub fn store(&self) -> &'a Editions {
         self.editions
     }
@@ -62,7 +114,51 @@ impl<'a> Edition<'a> {
         }
     }
 
-    /// Moves the pointers of one frame as [`relocate`](crate::relocate()) does.
+    /// Moves the pointers of one frame as [`relocate`](crate::relocate()) does, and gives their number, null
+    /// pairs counting one each.
+    ///
+    /// # Errors
+    ///
+    /// The first of these that holds, and 18 to 21 each over all pairs before the next; in version 1, 17 comes
+    /// before 18. A refusal leaves all of the image and all registers unchanged.
+    ///
+    /// | Number | Cause | Place |
+    /// |---|---|---|
+    /// | 31 | edition unknown or retired | 0 |
+    /// | 1 to 9 | the refusal of [`check`](crate::check) | as there |
+    /// | 33 | the edition doesn't allow the version of the section, or is of another machine | 0 |
+    /// | 13, 14, 25, 10, 15, 12, 16, 18 | as of [`relocate`](crate::relocate()) | as there |
+    /// | 17 | more pointers than the edition's count, null pairs counting one each; of version 1, more pairs | 0 |
+    /// | 19, 20, 21 | as of [`relocate`](crate::relocate()) | the pair |
+    ///
+    /// # Examples
+    ///
+    /// [`Edition`] has one. An edition of version 1 alone:
+    ///
+    /// ```
+    /// use treskibben::editions::{Editions, Settings, Versions};
+    /// use treskibben::{Frame, Machine, MoveTable};
+    /// # fn main() -> Result<(), Box<dyn std::error::Error>> {
+    /// let (machine, versions) = (Machine::Amd64, Versions::One);
+    /// let mut editions = Editions::new();
+    /// let number = editions.make(Settings { pointers: 2, machine, versions })?;
+    /// let edition = editions.edition(number);
+    ///
+    /// let table = MoveTable::new(&[0x50000], &[0x90000]);
+    /// let mut image = [7, 0x50000, 0x54e20_u64].map(u64::to_le_bytes).concat();
+    /// let mut registers = machine.registers(0, 0x7000);
+    /// let mut moved = |section: &[u8], frame| {
+    ///     edition.relocate(section, &mut image, 0x7000, table, machine, frame, &mut registers)
+    /// };
+    /// let section = std::fs::read("../samples/h-statepoint.section")?;
+    /// let refusal = moved(&section, Frame::new(0x1020)).unwrap_err();
+    /// assert_eq!(refusal.to_string(), "refused 33 at 0: version or machine not allowed");
+    ///
+    /// let older = std::fs::read("../samples/h-version-1.section")?;
+    /// assert_eq!(moved(&older, Frame::in_function(0, 0x20)), Ok(2));
+    /// # Ok(())
+    /// # }
+    /// ```
     #[allow(clippy::too_many_arguments)] // Those of the move.
     pub fn relocate(
         &self,
@@ -79,7 +175,52 @@ impl<'a> Edition<'a> {
         relocate::pointers(answer)
     }
 
-    /// Moves the pointers of a whole thread as [`relocate_thread`](crate::relocate_thread) does.
+    /// Moves the pointers of a whole thread as [`relocate_thread`](crate::relocate_thread) does, all of its
+    /// frames or none, and gives their number, null pairs counting one each.
+    ///
+    /// The count of the edition is for each frame by itself, not for their sum.
+    ///
+    /// The call needs about 272 KiB of stack, which a thread of [`std::thread`] has many times over.
+    ///
+    /// # Errors
+    ///
+    /// The first of these that holds. A refusal leaves all of the image and all registers unchanged.
+    ///
+    /// | Number | Cause | Place |
+    /// |---|---|---|
+    /// | 31 | edition unknown or retired | 0 |
+    /// | 1 to 9 | the refusal of [`check`](crate::check) | as there |
+    /// | 33 | the edition doesn't allow the version of the section, or is of another machine | 0 |
+    /// | 13, 14, 25 | as of [`relocate_thread`](crate::relocate_thread) | 0 |
+    /// | 10, 12, 15 to 21 | the first frame of the list that is refused by itself, on the image as lent: by the number that [`relocate`](Edition::relocate) gives it | its position |
+    /// | 26 | as of [`relocate_thread`](crate::relocate_thread) | the frame's position |
+    ///
+    /// # Examples
+    ///
+    /// ```
+    /// use treskibben::editions::{Editions, Settings, Versions};
+    /// use treskibben::{Frame, Machine, MoveTable};
+    /// # fn main() -> Result<(), Box<dyn std::error::Error>> {
+    /// let (machine, versions) = (Machine::Amd64, Versions::Both);
+    /// let mut editions = Editions::new();
+    /// let numbers = [1, 2].map(|pointers| editions.make(Settings { pointers, machine, versions }));
+    ///
+    /// // A statepoint with two pairs, at 0x1020 in a function with 24 bytes of stack, which has called itself.
+    /// let section = std::fs::read("../samples/h-statepoint.section")?;
+    /// let frames = [Frame::new(0x1020), Frame::new(0x1020)];
+    /// let table = MoveTable::new(&[0x50000], &[0x90000]);
+    /// let mut image = [7, 0x50000, 0x54e20, 8, 0, 0x1234_u64].map(u64::to_le_bytes).concat();
+    /// let mut moved = |edition| {
+    ///     let mut registers = [0x7000, 0x7018].map(|rsp| machine.registers(0, rsp));
+    ///     let (edition, registers) = (editions.edition(edition), registers.as_flattened_mut());
+    ///     edition.relocate_thread(&section, &mut image, 0x7000, table, machine, &frames, registers)
+    /// };
+    /// let refusal = moved(numbers[0]?).unwrap_err();
+    /// assert_eq!((refusal.number(), refusal.position()), (17, Some(0)));
+    /// assert_eq!(moved(numbers[1]?), Ok(4));
+    /// # Ok(())
+    /// # }
+    /// ```
     #[allow(clippy::too_many_arguments)] // Those of the move.
     pub fn relocate_thread<'f>(
         &self,
@@ -96,7 +237,38 @@ impl<'a> Edition<'a> {
         thread::pointers(Mover::Plain.thread(&restore, image, frames, registers))
     }
 
-    /// Moves the pointers of a whole thread as [`Index::relocate_thread`] does.
+    /// Moves the pointers of a whole thread as [`Index::relocate_thread`] does, with that index of its section.
+    /// With the right index the answer, the image and the registers are those of
+    /// [`relocate_thread`](Edition::relocate_thread).
+    ///
+    /// # Errors
+    ///
+    /// Those of [`relocate_thread`](Edition::relocate_thread); and between 14 and 25, once, 27 if the section is
+    /// of version 1 and 29 if the list is not its index.
+    ///
+    /// # Examples
+    ///
+    /// ```
+    /// use treskibben::editions::{Editions, Settings, Versions};
+    /// use treskibben::{Frame, Index, Machine, MoveTable};
+    /// # fn main() -> Result<(), Box<dyn std::error::Error>> {
+    /// let (machine, versions) = (Machine::Amd64, Versions::Three);
+    /// let mut editions = Editions::new();
+    /// let number = editions.make(Settings { pointers: 256, machine, versions })?;
+    /// let edition = editions.edition(number);
+    ///
+    /// let section = std::fs::read("../samples/h-statepoint.section")?;
+    /// let index = Index::of(&section)?;
+    /// let table = MoveTable::new(&[0x50000], &[0x90000]);
+    /// let mut image = [7, 0x50000, 0x54e20_u64].map(u64::to_le_bytes).concat();
+    /// let (frames, mut registers) = ([Frame::new(0x1020)], machine.registers(0, 0x7000));
+    /// let moved = edition.relocate_thread_by_index(
+    ///     &index, &mut image, 0x7000, table, machine, &frames, &mut registers,
+    /// );
+    /// assert_eq!(moved, Ok(2));
+    /// # Ok(())
+    /// # }
+    /// ```
     #[allow(clippy::too_many_arguments)] // Those of the move.
     pub fn relocate_thread_by_index<'f>(
         &self,
@@ -112,81 +284,5 @@ impl<'a> Edition<'a> {
         let (frames, entries) = (frames.into().numbers(), index.entries());
         let answer = restore::thread_by_index(&restore, image, frames, registers, entries);
         thread::pointers(answer)
-    }
-
-    /// Tells why a slot of a frame moves or does not, as [`explain`](crate::explain()) does.
-    #[allow(clippy::too_many_arguments)] // Those of the move, and the slot.
-    pub fn explain(
-        &self,
-        section: &[u8],
-        image: &[u8],
-        first: u64,
-        table: MoveTable,
-        machine: Machine,
-        frame: Frame,
-        registers: &[u64],
-        slot: Slot,
-    ) -> Result<Reason, Refusal> {
-        let restore = self.restore(section, first, table, machine);
-        told(restore::explain(&restore, image, frame, registers, slot))
-    }
-
-    /// Tells why each slot of each pointer of a frame moves or does not.
-    #[allow(clippy::too_many_arguments)] // Those of the move.
-    pub fn explain_frame(
-        &self,
-        section: &[u8],
-        image: &[u8],
-        first: u64,
-        table: MoveTable,
-        machine: Machine,
-        frame: Frame,
-        registers: &[u64],
-    ) -> Result<Vec<ExplainedPointer>, Refusal> {
-        let restore = self.restore(section, first, table, machine);
-        frame_rows(|rows| ffi::rows::frame(&restore, image, frame, registers, rows))
-    }
-
-    /// Tells why each slot of each pointer of a thread moves or does not.
-    #[allow(clippy::too_many_arguments)] // Those of the move.
-    pub fn explain_thread<'f>(
-        &self,
-        section: &[u8],
-        image: &[u8],
-        first: u64,
-        table: MoveTable,
-        machine: Machine,
-        frames: impl Into<Frames<'f>>,
-        registers: &[u64],
-    ) -> Result<Vec<ExplainedPointer>, ThreadRefusal> {
-        let restore = self.restore(section, first, table, machine);
-        let frames = frames.into().numbers();
-        thread_rows(frames, |rows| {
-            ffi::rows::thread(&restore, image, frames, registers, rows)
-        })
-    }
-
-    /// Moves each frame of a trace, and tells the first recorded answer that differs from the one that
-    /// the frame gets now.
-    pub fn replay(
-        &self,
-        section: &[u8],
-        image: &mut [u8],
-        first: u64,
-        table: MoveTable,
-        trace: &[u8],
-    ) -> Result<Option<Difference>, Refusal> {
-        let (olds, news) = (table.old_starts(), table.new_starts());
-        let store = &self.editions.store;
-        replayed(ffi::replay::replay(
-            store,
-            self.number,
-            section,
-            image,
-            first,
-            olds,
-            news,
-            trace,
-        ))
     }
 }

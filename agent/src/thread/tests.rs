@@ -7,7 +7,7 @@ fn refusal(number: u64, place: u64) -> ThreadRefusal {
 
 #[test]
 fn numbers_of_a_frame_have_its_position_and_no_others() {
-    for number in 1..=41 {
+    for number in 1..=51 {
         let of_frame = [10, 12, 15, 16, 17, 18, 19, 20, 21, 26].contains(&number);
         let position = refusal(number, 7).position();
         assert_eq!(position, of_frame.then_some(7), "{number}");

@@ -81,6 +81,7 @@ impl Outcome {
 pub trait Moves: Copy + Debug {
     /// The number of pointers, or number and place of the refusal.
     fn by_library(call: &Call<Self>, image: &mut [u8], registers: &mut [u64]) -> Answer;
+    #[allow(dead_code)] // Not every test moves frames by both.
     fn by_second(call: &Call<Self>, image: &mut [u8], registers: &mut [u64]) -> Answer;
 }
 
@@ -195,6 +196,7 @@ impl<F: Moves> Call<'_, F> {
         })
     }
 
+    #[allow(dead_code)] // Not every test moves frames by both.
     pub fn by_second(&self) -> Outcome {
         Outcome::of(self.image, &self.registers, |image, registers| {
             F::by_second(self, image, registers)
@@ -203,6 +205,7 @@ impl<F: Moves> Call<'_, F> {
 
     /// Compares both answers, images and registers, and sees that a refusal leaves image and registers as
     /// they were lent. Gives the outcome.
+    #[allow(dead_code)] // Not every test moves frames by both.
     pub fn compare(&self) -> Outcome {
         let (library, second) = (self.by_library(), self.by_second());
         if library != second {

@@ -30,12 +30,13 @@ use std::path::{Path, PathBuf};
 /// tells it. In the lists, '#' begins a comment, and blank lines are passed over.
 ///
 /// Refusals come in this order: an image that was restored already; 31 of the edition; 1 to 9 of the
-/// section; 33 of a version or a machine that the edition doesn't allow; 13 of the image, 14 of the moves,
-/// 25 of the frames as a list; a frame with a pair in a register that its line doesn't tell; then the first
-/// frame of the list that is refused by itself, by 10, 15, 12, 16, 18, 17 (of version 1 17, 18), or 19 to 21;
-/// then 26 at the first frame whose extent shares a byte with an earlier one's; with several --moves the first
-/// frame that has a base slot which is not listed with itself; a list of no frames; last a register that would
-/// change, where no --into is said. The place of a frame's refusal is its position in the list, counted from 0.
+/// section; 50 where --profile is said; 33 of a version or a machine that the edition doesn't allow; 13 of
+/// the image, 14 of the moves, 25 of the frames as a list; a frame with a pair in a register that its line
+/// doesn't tell; then the first frame of the list that is refused by itself, by 10, 15, 12, 16, 18, 17 (of
+/// version 1 17, 18), or 19 to 21; then 26 at the first frame whose extent shares a byte with an earlier
+/// one's; with several --moves the first frame that has a base slot which is not listed with itself; a list of
+/// no frames; last a register that would change, where no --into is said. The place of a frame's refusal is
+/// its position in the list, counted from 0.
 #[derive(clap::Args)]
 #[command(override_usage = USAGE)]
 #[command(group = clap::ArgGroup::new("where").required(true).multiple(true)

@@ -18,7 +18,7 @@ pub fn steps_of(trace: &[u8]) -> Result<Vec<Step>, Refusal> {
 
 /// What was answered, as it is recorded: how many pointers, or the refusal.
 pub fn outcome(answer: Recorded) -> Result<u64, Refusal> {
-    Ok(answer.outcome()?)
+    Ok(answer.answer()?)
 }
 
 impl Restore<'_> {

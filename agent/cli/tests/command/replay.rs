@@ -70,24 +70,26 @@ fn the_same() {
     assert_eq!((object(&ran), ran.status), (same, Some(0)));
 }
 
-/// What is found where the base of row I is 8 bytes too high.
-const HELD: &str = "its base slot RSP+0x8 at 0x7008 holds 0x50008; \
-    the old start below it is 0x50000, 8 bytes before";
+/// What is said of row I's frame, whose RBX holds 5 here.
+fn told(recorded: &str, now: &str) -> String {
+    format!(
+        "t: differs in answer 0 of 1\n\
+         frame 0: x86-64, address 0x1020\n  \
+         registers: RBX 0x5, RSP 0x7000\n  \
+         recorded: {recorded}\n  \
+         now: {now}\n"
+    )
+}
 
-/// The number, the place and the count of an answer are compared.
+/// Its trace with this answer.
+fn answered(number: u8, value: u64) -> Vec<u8> {
+    let stopped = frame(0, 0x1020, 0, &[(7, 0x7000), (3, 5)]);
+    of(&[stopped, answer(number, value)])
+}
+
+/// The number and the count of an answer are compared.
 #[test]
-fn the_first_difference() {
-    let row = Restore::row_i();
-    let stopped = || frame(0, 0x1020, 0, &[(7, 0x7000), (3, 5)]);
-    let told = |recorded: &str, now: &str| {
-        format!(
-            "t: differs in answer 0 of 1\n\
-             frame 0: x86-64, address 0x1020\n  \
-             registers: RBX 0x5, RSP 0x7000\n  \
-             recorded: {recorded}\n  \
-             now: {now}\n"
-        )
-    };
+fn another_answer_than_accepted() {
     for (number, value, words) in [
         (0, 3, "accepted, 3 pointers"),
         (
@@ -106,12 +108,25 @@ fn the_first_difference() {
             "refused 200 at 2: a cause that this version has no words for",
         ),
     ] {
-        let trace = of(&[stopped(), answer(number, value)]);
-        let ran = replay(&row, &trace, &[]);
+        let ran = replay(&Restore::row_i(), &answered(number, value), &[]);
         differs(&ran, &told(words, "accepted, 2 pointers"));
     }
-    let mut bad = row.clone();
-    bad.image[8] = 8;
+}
+
+/// Row I with a base that is 8 bytes too high, and what it is answered.
+fn too_high() -> (Restore, String) {
+    let mut row = Restore::row_i();
+    row.image[8] = 8;
+    let found = "its base slot RSP+0x8 at 0x7008 holds 0x50008; \
+        the old start below it is 0x50000, 8 bytes before";
+    let now = format!("refused 21 at 0: base neither 0 nor an old start; pair 0: {found}");
+    (row, now)
+}
+
+/// The number and the place are.
+#[test]
+fn another_answer_than_refused() {
+    let (row, now) = too_high();
     for (number, value, words) in [
         (0, 2, "accepted, 2 pointers"),
         (
@@ -121,11 +136,15 @@ fn the_first_difference() {
         ),
         (20, 0, "refused 20 at 0: collision; pair 0"),
     ] {
-        let now = format!("refused 21 at 0: base neither 0 nor an old start; pair 0: {HELD}");
-        let trace = of(&[stopped(), answer(number, value)]);
-        differs(&replay(&bad, &trace, &[]), &told(words, &now));
+        let ran = replay(&row, &answered(number, value), &[]);
+        differs(&ran, &told(words, &now));
     }
-    let ran = replay(&bad, &of(&[stopped(), answer(0, 2)]), &["--json"]);
+}
+
+#[test]
+fn a_difference_for_programs() {
+    let (row, now) = too_high();
+    let ran = replay(&row, &answered(0, 2), &["--json"]);
     let told = json!({
         "answer": "differs", "file": "t", "answers": 1, "item": 0,
         "frame": {
@@ -133,10 +152,7 @@ fn the_first_difference() {
             "registers": {"RBX": "0x5", "RSP": "0x7000"},
         },
         "recorded": {"number": 0, "value": "0x2", "words": "accepted, 2 pointers"},
-        "now": {
-            "number": 21, "value": "0x0",
-            "words": format!("refused 21 at 0: base neither 0 nor an old start; pair 0: {HELD}"),
-        },
+        "now": {"number": 21, "value": "0x0", "words": now},
     });
     assert_eq!((object(&ran), ran.status), (told, Some(1)));
 }

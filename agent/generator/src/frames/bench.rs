@@ -26,39 +26,48 @@ pub enum Breach {
     Falling,
     /// There are over 64 records.
     Records,
-    /// The machine is another, or none.
+    /// The section is of version 1. It is the last breach that a section can be given.
+    Version,
+    /// The machine is another, or none. It is the last breach of all.
     Machine,
 }
 
 impl Breach {
     /// All of them.
-    pub const ALL: [Breach; 7] = [
+    pub const ALL: [Breach; 8] = [
         Breach::NoStatepoint,
         Breach::Form,
         Breach::Pointers,
         Breach::Equal,
         Breach::Falling,
         Breach::Records,
+        Breach::Version,
         Breach::Machine,
     ];
 }
 
 /// The place of the first breach: 0 for version and machine, and else the lowest record with any.
 pub fn breach(scene: &Scene) -> Option<u64> {
-    let section = &scene.section;
-    if section.version != Version::Three || scene.machine != 0 {
+    if scene.section.version != Version::Three || scene.machine != 0 {
         return Some(0);
     }
+    breaches(scene).first().copied()
+}
+
+/// The records that break the profile, of a section of version 3 on AMD64.
+pub fn breaches(scene: &Scene) -> Vec<u64> {
+    let section = &scene.section;
     let mut before = None;
+    let mut breaches = Vec::new();
     for (nth, (record, (_, address))) in section.records.iter().zip(addresses(section)).enumerate()
     {
         let rises = before.is_none_or(|before| before < address);
         if nth >= MOST_RECORDS || !rises || !fits(scene, record) {
-            return Some(nth as u64);
+            breaches.push(nth as u64);
         }
         before = Some(address);
     }
-    None
+    breaches
 }
 
 /// Whether a record is a statepoint of right pairs with at most 16 pointers.
@@ -206,6 +215,7 @@ pub fn break_by(rng: &mut Rng, scene: &mut Scene, way: Breach) {
         }
         Breach::Equal | Breach::Falling => disorder(rng, scene, way == Breach::Equal),
         Breach::Records => many(rng, scene),
+        Breach::Version => older(&mut scene.section),
         Breach::Machine => scene.machine = rng.pick(&[1, 1, 2, 1 << 32, u64::MAX]),
     }
 }
@@ -219,6 +229,17 @@ fn no_statepoint(rng: &mut Rng, record: &mut Record) {
             register: 3,
             size: 8,
         }),
+    }
+}
+
+/// Makes the section one of version 1, which has no record counts and sizes of one byte.
+fn older(section: &mut Section) {
+    section.version = Version::One;
+    for function in &mut section.functions {
+        function.record_count = 0;
+    }
+    for location in section.records.iter_mut().flat_map(|r| &mut r.locations) {
+        location.size &= 0xff;
     }
 }
 

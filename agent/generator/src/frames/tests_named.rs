@@ -120,7 +120,9 @@ fn the_bench_answers_as_known() {
         if bench::breach(&scene).is_none() {
             for _ in 0..rng.pick(&[0, 0, 1, 2]) {
                 let nth = rng.below(Breach::ALL.len());
-                if scene.machine == 0 && find_all(&scene) {
+                // After the last breach of the section or of all there is none.
+                let more = scene.machine == 0 && scene.section.version == Version::Three;
+                if more && find_all(&scene) {
                     bench::break_by(&mut rng, &mut scene, Breach::ALL[nth]);
                     way = Some(nth);
                 }

@@ -221,6 +221,18 @@ fn the_order_of_refusals() {
     assert_eq!(run(3, &mut Move::row_i()), refusal(33, 0));
 }
 
+/// The check of a section alone: 1 to 9, the version, the records.
+#[test]
+fn a_section_is_checked_alone() {
+    assert_eq!(check(&row_h()), Ok(()));
+    assert_eq!(check(&row_c()), Ok(()));
+    assert_eq!(check(&row_h()[..151]), refusal(4, 40));
+    assert_eq!(check(&row_h_1()), refusal(50, 0));
+    let bad = of(&[right(0x20), right(0x10)]).section;
+    assert_eq!(check(&bad), refusal(50, 1));
+    assert_eq!(check(&bad[..bad.len() - 1]), refusal(4, 152));
+}
+
 /// 17 under an edition with fewer than 16, of the frame's own record alone.
 #[test]
 fn the_editions_count_is_read_after_the_profile() {
