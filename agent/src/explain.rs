@@ -62,6 +62,10 @@ impl fmt::Display for Reason {
 /// of several pointers, each has its own slots, and all of them are of that pair. A call costs about as much as
 /// the move.
 ///
+/// All slots of a frame or a thread are told at a time by
+/// [`Edition::explain_frame`](crate::editions::Edition::explain_frame) and
+/// [`Edition::explain_thread`](crate::editions::Edition::explain_thread).
+///
 /// # Errors
 ///
 /// The refusal that [`relocate`](crate::relocate()) would give, with its number and place, whatever slot is

@@ -11,7 +11,6 @@ mod common;
 
 #[path = "controller/breaches.rs"]
 mod breaches;
-#[allow(dead_code)] // The calls without an edition are not made here.
 #[path = "common/calls.rs"]
 mod calls;
 #[path = "controller/controlled.rs"]
@@ -22,21 +21,24 @@ mod forms;
 mod limits;
 #[path = "controller/orders.rs"]
 mod orders;
-#[path = "common/stores.rs"]
-mod stores;
+#[path = "common/under.rs"]
+mod under;
 #[path = "controller/worked.rs"]
 mod worked;
 
 use calls::{Call, Outcome};
 use common::{assert_often, count_random, say};
-use controlled::{compare, compare_check, fail};
+use controlled::{compare, compare_check, Controlled};
+use generator::editions::Settings;
 use generator::frames::bench::{self, Breach};
 use generator::frames::faults::aim;
 use generator::frames::named::Named;
 use generator::frames::thread::Thread;
 use generator::frames::{plain, shuffle, Scene};
 use generator::{aimed, damage, section_in, Rng, Version};
-use stores::Stores;
+use treskibben::Frame;
+use under::allows;
+use under::stores::Stored;
 
 /// Scenes in a run, made in parts that each have a source of random numbers. Of each, one frame and a thread are
 /// moved.
@@ -54,91 +56,125 @@ const OF_THREAD: [u64; 14] = [0, 10, 13, 14, 16, 17, 19, 20, 21, 25, 26, 31, 33,
 const ANSWERS: usize = 51;
 type Counts = [u64; 2 * ANSWERS];
 
-/// What is known of a scene beforehand: its edition, and what is wrong with what all of its frames share.
-pub struct Judged<'a> {
+/// A scene with the bytes of its section and its store, and what is wrong with what all of its frames share.
+pub struct Bench<'a> {
     pub scene: &'a Scene,
-    pub named: &'a Named,
+    pub bytes: &'a [u8],
+    pub stored: &'a Stored,
     /// Number and place of the section's own refusal.
     pub section: Option<(u64, u64)>,
     /// Whether 13 or 14 is given for the image or the table.
     pub shared: Option<u64>,
 }
 
-impl Judged<'_> {
-    /// The refusal of what all frames share, in the order of the controller.
-    pub fn shared(&self) -> Option<(u64, u64)> {
-        let breach = || bench::breach(self.scene).map(|place| (50, place));
-        match self.named.settings() {
-            None => Some((31, 0)),
-            Some(_) => self.section.or_else(breach).or_else(|| {
-                let allowed = self.named.allows(self.scene);
-                let after = self.shared.map(|number| (number, 0));
-                if allowed {
-                    after
-                } else {
-                    Some((33, 0))
-                }
-            }),
+impl<'a> Bench<'a> {
+    /// Nothing is wrong but what the profile doesn't take.
+    pub fn of(scene: &'a Scene, bytes: &'a [u8], stored: &'a Stored) -> Bench<'a> {
+        Bench {
+            scene,
+            bytes,
+            stored,
+            section: None,
+            shared: None,
         }
     }
 
-    /// The answer of a frame.
-    pub fn frame(&self, stop: usize) -> (u64, u64) {
-        let own = || plain::refusal_under(self.scene, stop, self.named.most());
-        self.shared().unwrap_or_else(own)
+    /// The refusal of what all frames share, in the order of the controller; or how many pointers a frame may
+    /// have.
+    pub fn judged(&self) -> Result<usize, (u64, u64)> {
+        let own = self.stored.settings().ok_or((31, 0))?;
+        self.section.map_or(Ok(()), Err)?;
+        let breach = bench::breach(self.scene).map(|place| (50, place));
+        breach.map_or(Ok(()), Err)?;
+        match (allows(&own, self.scene), self.shared) {
+            (false, _) => Err((33, 0)),
+            (true, Some(number)) => Err((number, 0)),
+            (true, None) => Ok(own.largest_count as usize),
+        }
     }
 
-    /// The answer of a thread on the scene.
+    /// What is known of the first frame.
+    pub fn frame(&self) -> (u64, u64) {
+        let own = |most| plain::refusal_under(self.scene, 0, most);
+        self.judged().map_or_else(|refused| refused, own)
+    }
+
+    /// What is known of a thread on the scene.
     pub fn thread(&self, thread: &Thread) -> (u64, u64) {
-        let own = || thread.answer_under(self.named.most());
-        self.shared().unwrap_or_else(own)
+        let own = |most| thread.answer_under(most);
+        self.judged().map_or_else(|refused| refused, own)
+    }
+
+    /// Moves the first frame, and compares it with the section's check and with what is known.
+    pub fn move_frame(&self, known: Option<(u64, u64)>) -> Outcome {
+        let (scene, stop) = (self.scene, &self.scene.stops[0]);
+        let frames = Controlled {
+            stored: self.stored,
+            frames: Frame {
+                address: stop.address,
+                function: stop.named,
+            },
+        };
+        let call = Call::with(scene, self.bytes, frames, stop.lent());
+        let outcome = compare(&call);
+        compare_check(&call, &outcome);
+        if known.is_some_and(|known| known != (outcome.number, outcome.place)) {
+            call.fail(&format!("{outcome:?}, known beforehand {known:?}"));
+        }
+        if known == Some((0, 0)) {
+            let lent = (plain::moved(scene, [0]), plain::moved_registers(scene, 0));
+            let moved = outcome.image == lent.0 && outcome.registers == lent.1;
+            if !moved || outcome.count != plain::pointers(scene, 0) as u64 {
+                call.fail(&format!("{outcome:?}, worked out otherwise beforehand"));
+            }
+        }
+        outcome
+    }
+
+    /// Moves a thread on the scene, and compares it with what is known.
+    pub fn move_thread(&self, thread: &Thread, known: Option<(u64, u64)>) -> Outcome {
+        let list = thread.list();
+        let frames = Controlled {
+            stored: self.stored,
+            frames: &list[..],
+        };
+        let call = Call::with(self.scene, self.bytes, frames, thread.registers());
+        let outcome = compare(&call);
+        if known.is_some_and(|known| known != (outcome.number, outcome.place)) {
+            call.fail(&format!("{outcome:?}, known beforehand {known:?}"));
+        }
+        if known == Some((0, 0)) {
+            let moved =
+                outcome.image == thread.moved() && outcome.registers == thread.moved_registers();
+            if !moved || outcome.count != thread.pointers() {
+                call.fail(&format!("{outcome:?}, worked out otherwise beforehand"));
+            }
+        }
+        outcome
+    }
+
+    /// Moves the first frame and a thread of all, and compares them with what is known. Gives the frame's outcome.
+    pub fn move_both(&self) -> Outcome {
+        let thread = Thread::of(self.scene.clone());
+        self.move_thread(&thread, Some(self.thread(&thread)));
+        self.move_frame(Some(self.frame()))
     }
 }
 
-/// Moves the first frame of a scene, and compares it with the section's check and with what is known.
-pub fn move_frame(
-    scene: &Scene,
-    section: &[u8],
-    stores: &Stores,
-    known: Option<(u64, u64)>,
-) -> Outcome {
-    let call = Call::of(scene, section, 0);
-    let outcome = compare(&call, stores);
-    compare_check(&call, stores, &outcome);
-    if known.is_some_and(|known| known != (outcome.number, outcome.place)) {
-        fail(&call, stores, &format!("{outcome:?}, known {known:?}"));
-    }
-    if known == Some((0, 0)) {
-        let lent = (plain::moved(scene, [0]), plain::moved_registers(scene, 0));
-        let moved = outcome.image == lent.0 && outcome.registers == lent.1;
-        if !moved || outcome.count != plain::pointers(scene, 0) as u64 {
-            fail(&call, stores, &format!("{outcome:?}, worked out otherwise"));
-        }
-    }
-    outcome
-}
-
-/// Moves a thread, and compares it with what is known.
-pub fn move_thread(
-    thread: &Thread,
-    section: &[u8],
-    stores: &Stores,
-    known: Option<(u64, u64)>,
-) -> Outcome {
-    let list = thread.list();
-    let call = Call::with(&thread.scene, section, &list[..], thread.registers());
-    let outcome = compare(&call, stores);
-    if known.is_some_and(|known| known != (outcome.number, outcome.place)) {
-        fail(&call, stores, &format!("{outcome:?}, known {known:?}"));
-    }
-    if known == Some((0, 0)) {
-        let moved =
-            outcome.image == thread.moved() && outcome.registers == thread.moved_registers();
-        if !moved || outcome.count != thread.pointers() {
-            fail(&call, stores, &format!("{outcome:?}, worked out otherwise"));
-        }
-    }
-    outcome
+/// A store of one edition: its pointer count, its machine, and its versions, 1 and 3.
+pub fn edition(largest_count: u64, machine: u64, [version_1, version_3]: [bool; 2]) -> Stored {
+    let settings = Settings {
+        largest_count,
+        machine,
+        version_1,
+        version_3,
+    };
+    let named = Named {
+        greatest: 1,
+        live: vec![(1, settings)],
+        edition: 1,
+    };
+    Stored::of(&mut Rng::new(1), &named)
 }
 
 /// The frames of a scene in some order, now and then one of them twice, or a list of a wrong length.
@@ -182,20 +218,20 @@ fn run(rng: &mut Rng, counts: &mut Counts) {
         }
         _ => {}
     }
-    let (bytes, stores, thread) = (built.bytes, Stores::of(&named), thread_of(rng, &scene));
-    let judged = Judged {
+    let stored = match rng.one_in(12) {
+        true => Stored::damaged(rng, &named),
+        false => Stored::of(rng, &named),
+    };
+    let thread = thread_of(rng, &scene);
+    let it = Bench {
         scene: &scene,
-        named: &named,
+        bytes: &built.bytes,
+        stored: &stored,
         section,
         shared,
     };
-    let frame = move_frame(&scene, &bytes, &stores, known.then(|| judged.frame(0)));
-    let many = move_thread(
-        &thread,
-        &bytes,
-        &stores,
-        known.then(|| judged.thread(&thread)),
-    );
+    let frame = it.move_frame(known.then(|| it.frame()));
+    let many = it.move_thread(&thread, known.then(|| it.thread(&thread)));
     counts[frame.number as usize] += 1;
     counts[ANSWERS + many.number as usize] += 1;
 }

@@ -14,6 +14,8 @@ mod calls;
 mod cases;
 #[path = "explained/frames.rs"]
 mod frames;
+#[path = "common/thread_cases.rs"]
+mod thread_cases;
 #[path = "explained/threads.rs"]
 mod threads;
 #[path = "common/under.rs"]
@@ -28,7 +30,7 @@ use generator::frames::Scene;
 use generator::Rng;
 use reference::explain::{Explained, ExplainedSlot, Slot as Second};
 use treskibben::{ExplainedPointer, Reason, Slot};
-use under::stored::Stored;
+use under::stores::Stored;
 
 /// How many numbers a pointer has, and a slot of it.
 const ROW: usize = 16;

@@ -25,15 +25,16 @@ mod worked;
 
 use calls::{Numbers, Replay};
 use common::{assert_often, count_random, nth_version, say};
+use generator::editions::Settings;
 use generator::frames::named::Named;
 use generator::traces::{Break, Known, Trace};
 use generator::{aimed, damage, section_in, Rng, Version};
 use reference::replay::{parse, write, Recorded, Step};
 use shapes::{Replayed, SHAPES};
-use stores::Stores;
+use stores::Stored;
 
 /// Traces in a run, made in parts that each have a source of random numbers.
-const PARTS: u64 = 800;
+const PARTS: u64 = 950;
 const TRACES_A_PART: u64 = 160;
 
 /// What is counted of the traces that the generator knows: those without difference, those with one, and those that
@@ -48,11 +49,27 @@ const OF_FRAME: [u64; 14] = [0, 10, 12, 13, 14, 15, 16, 17, 18, 19, 20, 21, 31, 
 const ANSWERS: usize = 34;
 type Counts = [u64; KNOWN + 2 * ANSWERS + SHAPES.len()];
 
+/// A store of one edition, of this machine, that allows 256 pointers and both versions.
+pub fn edition(machine: u64) -> Stored {
+    let settings = Settings {
+        largest_count: 256,
+        machine,
+        version_1: true,
+        version_3: true,
+    };
+    let named = Named {
+        greatest: 1,
+        live: vec![(1, settings)],
+        edition: 1,
+    };
+    Stored::of(&mut Rng::new(1), &named)
+}
+
 /// Replays a trace of which the generator knows the answer.
 fn run_known(rng: &mut Rng, counts: &mut Counts) {
     let trace = Trace::any(rng);
-    let stores = Stores::one(256, trace.scene.machine, [true, true]);
-    let call = Replay::of(&trace, &stores);
+    let stored = edition(trace.scene.machine);
+    let call = Replay::of(&trace, &stored);
     let outcome = call.compare();
     let [number, place, differs, item, ..] = outcome.numbers;
     let (expected, nth) = match trace.known {
@@ -93,12 +110,16 @@ fn unrecorded(rng: &mut Rng) -> (Trace, Named) {
 /// Replays a trace that the second implementation records: first with the right answers, then with wrong ones.
 fn run_recorded(rng: &mut Rng, counts: &mut Counts) {
     let (mut trace, named) = unrecorded(rng);
-    let stores = Stores::of(&named);
+    let damaged = rng.one_in(16);
+    let stored = match damaged {
+        true => Stored::damaged(rng, &named),
+        false => Stored::of(rng, &named),
+    };
     let mut steps = parse(&trace.bytes).expect("a whole trace");
-    let answers = Replay::of(&trace, &stores).answers();
+    let answers = Replay::of(&trace, &stored).answers();
     put_answers(&mut steps, &answers);
     trace.bytes = write(&steps);
-    let right = Replay::of(&trace, &stores);
+    let right = Replay::of(&trace, &stored);
     let outcome = right.compare();
     if outcome.numbers != [0; 6] {
         right.fail(&format!("{outcome:?}, recorded {answers:x?}"));
@@ -112,7 +133,7 @@ fn run_recorded(rng: &mut Rng, counts: &mut Counts) {
     if let Some(wrong) = wrong {
         wrong.put(rng, &mut steps);
         trace.bytes = write(&steps);
-        let call = Replay::of(&trace, &stores);
+        let call = Replay::of(&trace, &stored);
         let outcome = call.compare();
         if outcome.numbers != wrong.told(&answers) || outcome.image != image {
             call.fail(&format!("{outcome:?}, recorded {answers:x?}, {wrong:?}"));
@@ -120,7 +141,7 @@ fn run_recorded(rng: &mut Rng, counts: &mut Counts) {
     }
     let replayed = Replayed {
         trace: &trace,
-        named: &named,
+        named: (!damaged).then_some(&named),
         steps: &steps,
         answers: &answers,
         wrong,

@@ -17,6 +17,8 @@ mod cases;
 mod orders;
 #[path = "restore/slots.rs"]
 mod slots;
+#[path = "common/thread_cases.rs"]
+mod thread_cases;
 #[path = "restore/threads.rs"]
 mod threads;
 #[path = "common/under.rs"]
@@ -32,7 +34,7 @@ use generator::frames::named::Named;
 use generator::frames::{plain, Scene, MOST_POINTERS};
 use generator::{aimed, Rng, Version};
 use treskibben::Frame;
-use under::stored::Stored;
+use under::stores::Stored;
 use under::{known_under, Under};
 
 /// Frames in a run, made in parts that each have a source of random numbers.

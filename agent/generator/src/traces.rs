@@ -63,6 +63,17 @@ impl Trace {
     /// A random trace with the answers that its frames get, one after the other.
     pub fn right(rng: &mut Rng) -> Trace {
         let count = rng.pick(&[0, 1, 1, 2, 3, 5, 8]);
+        Trace::of(rng, count, |rng, frames| rng.below(2 * frames + 1))
+    }
+
+    /// A random trace of so many steps, whose frames stand at up to some dozens of statepoints.
+    pub fn long(rng: &mut Rng, steps: usize) -> Trace {
+        let count = rng.pick(&[1, 8, 24, 40]);
+        Trace::of(rng, count, |_, _| steps)
+    }
+
+    /// A random trace on a scene of about so many frames, of which it moves as many as `steps` says.
+    fn of(rng: &mut Rng, count: usize, steps: impl FnOnce(&mut Rng, usize) -> usize) -> Trace {
         let mut scene = scene(rng, count);
         let shared = match rng.below(8) {
             0 => rng.pick(&[13, 14]),
@@ -84,16 +95,16 @@ impl Trace {
             known: Known::Same,
             broken: None,
         };
-        trace.record(rng, refused);
+        let steps = steps(rng, trace.scene.stops.len());
+        trace.record(rng, refused, steps);
         trace
     }
 
     /// Moves frames of the scene one after the other, some of them several times or on the other machine,
     /// and records their answers. All are refused where something is wrong with what they share.
-    fn record(&mut self, rng: &mut Rng, refused: Option<(u64, u64)>) {
+    fn record(&mut self, rng: &mut Rng, refused: Option<(u64, u64)>, steps: usize) {
         let mut now = self.scene.clone();
-        let most = 2 * self.scene.stops.len();
-        for _ in 0..rng.below(most + 1) {
+        for _ in 0..steps {
             let stop = rng.below(self.scene.stops.len());
             let other = rng.one_in(8);
             let machine = match other {

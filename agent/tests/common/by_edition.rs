@@ -1,8 +1,7 @@
 //! The calls that name an edition, as C has them: they take every store, and every number for a machine.
 #![allow(dead_code)] // Not every test makes all of them.
 
-use super::stored::Stored;
-use super::stores::Raw;
+use super::stores::{Store, Stored};
 use crate::calls::Call;
 use treskibben::Frame;
 
@@ -16,7 +15,7 @@ struct Told([u64; 6]);
 
 extern "C" {
     fn treskibben_edition_relocate(
-        store: Raw,
+        store: Store,
         edition: u64,
         section: *const u8,
         length: usize,
@@ -33,7 +32,7 @@ extern "C" {
         registers_length: usize,
     ) -> Answer;
     fn treskibben_edition_thread(
-        store: Raw,
+        store: Store,
         edition: u64,
         section: *const u8,
         length: usize,
@@ -51,7 +50,7 @@ extern "C" {
         registers_length: usize,
     ) -> Answer;
     fn treskibben_edition_thread_by_index(
-        store: Raw,
+        store: Store,
         edition: u64,
         section: *const u8,
         length: usize,
@@ -71,7 +70,7 @@ extern "C" {
         index_length: usize,
     ) -> Answer;
     fn treskibben_edition_explain_address(
-        store: Raw,
+        store: Store,
         edition: u64,
         section: *const u8,
         length: usize,
@@ -89,7 +88,7 @@ extern "C" {
         address: u64,
     ) -> Told;
     fn treskibben_edition_explain_register(
-        store: Raw,
+        store: Store,
         edition: u64,
         section: *const u8,
         length: usize,
@@ -107,7 +106,7 @@ extern "C" {
         number: u64,
     ) -> Told;
     fn treskibben_edition_explain_frame(
-        store: Raw,
+        store: Store,
         edition: u64,
         section: *const u8,
         length: usize,
@@ -126,7 +125,7 @@ extern "C" {
         rows_length: usize,
     ) -> Answer;
     fn treskibben_edition_explain_thread(
-        store: Raw,
+        store: Store,
         edition: u64,
         section: *const u8,
         length: usize,
@@ -159,7 +158,7 @@ pub fn relocate<F>(
     // and the registers' alone for writing; the declaration is that of `treskibben.h`.
     let answer = unsafe {
         treskibben_edition_relocate(
-            stored.c(),
+            stored.c,
             stored.edition,
             call.section.as_ptr(),
             call.section.len(),
@@ -190,7 +189,7 @@ pub fn thread<F>(
     // SAFETY: as in `relocate`. The frames are one more list.
     let answer = unsafe {
         treskibben_edition_thread(
-            stored.c(),
+            stored.c,
             stored.edition,
             call.section.as_ptr(),
             call.section.len(),
@@ -223,7 +222,7 @@ pub fn thread_by_index<F>(
     // SAFETY: as in `relocate`. The frames and the index are two more lists.
     let answer = unsafe {
         treskibben_edition_thread_by_index(
-            stored.c(),
+            stored.c,
             stored.edition,
             call.section.as_ptr(),
             call.section.len(),
@@ -262,7 +261,7 @@ pub fn explain<F>(
     // SAFETY: as in `relocate`, but that the call only reads.
     let told = unsafe {
         explain(
-            stored.c(),
+            stored.c,
             stored.edition,
             call.section.as_ptr(),
             call.section.len(),
@@ -293,7 +292,7 @@ pub fn explain_frame<F>(
     // SAFETY: as in `relocate`, but that the rows alone are written, which are one more slice.
     let answer = unsafe {
         treskibben_edition_explain_frame(
-            stored.c(),
+            stored.c,
             stored.edition,
             call.section.as_ptr(),
             call.section.len(),
@@ -325,7 +324,7 @@ pub fn explain_thread<F>(
     // SAFETY: as in `explain_frame`. The frames are one more list.
     let answer = unsafe {
         treskibben_edition_explain_thread(
-            stored.c(),
+            stored.c,
             stored.edition,
             call.section.as_ptr(),
             call.section.len(),

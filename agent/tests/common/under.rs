@@ -2,10 +2,7 @@
 
 #[path = "by_edition.rs"]
 pub mod by_edition;
-#[path = "stored.rs"]
-pub mod stored;
 #[path = "stores.rs"]
-#[allow(dead_code)] // A store of one edition is for other tests.
 pub mod stores;
 
 use crate::calls::{Call, Moves};
@@ -13,10 +10,10 @@ use generator::frames::Scene;
 use generator::Version;
 use reference::editions::Settings;
 use reference::restore::Restore;
-use stored::Stored;
+use stores::Stored;
 use treskibben::{Frame, Frames, Index};
 
-type Answer = Result<u64, (u64, u64)>;
+pub type Answer = Result<u64, (u64, u64)>;
 
 /// Frames that are moved under an edition.
 #[derive(Clone, Copy, Debug)]
@@ -43,6 +40,7 @@ pub fn allows(own: &Settings, scene: &Scene) -> bool {
 
 /// What is known under an edition, where this is known without one. `answer` tells the rest from 25 on, where
 /// a frame may have so many pointers.
+#[allow(dead_code)] // The bench controller has an order of its own.
 pub fn known_under(
     stored: &Stored,
     scene: &Scene,
@@ -80,15 +78,12 @@ pub fn of_second(frame: Frame) -> reference::Frame {
 }
 
 /// What both libraries leave: the call as C has it, and, where Rust can make it, the same from Rust.
-fn both<'a, F: Copy>(
-    call: &Call<Under<'a, F>>,
+pub fn both<F: Moves>(
+    call: &Call<F>,
     lent: (&mut [u8], &mut [u64]),
     c: impl FnOnce(&mut [u8], &mut [u64]) -> [u64; 3],
     rust: impl FnOnce(&mut [u8], &mut [u64]) -> Option<Answer>,
-) -> Answer
-where
-    Under<'a, F>: Moves,
-{
+) -> Answer {
     let (image, registers) = lent;
     let (mut own_image, mut own_registers) = (image.to_vec(), registers.to_vec());
     let [number, place, value] = c(image, registers);
@@ -108,7 +103,7 @@ where
 }
 
 /// The answer of a safe call.
-fn answer<E: Into<treskibben::Refusal>>(moved: Result<usize, E>) -> Answer {
+pub fn answer<E: Into<treskibben::Refusal>>(moved: Result<usize, E>) -> Answer {
     let moved = moved.map(|pointers| pointers as u64);
     moved.map_err(|refusal| {
         let refusal: treskibben::Refusal = refusal.into();
@@ -118,7 +113,7 @@ fn answer<E: Into<treskibben::Refusal>>(moved: Result<usize, E>) -> Answer {
 
 /// The answer of the second implementation.
 #[allow(dead_code)] // Not every test moves frames by both.
-fn answer_of_second(moved: Result<u64, reference::Refusal>) -> Answer {
+pub fn answer_of_second(moved: Result<u64, reference::Refusal>) -> Answer {
     moved.map_err(|refusal| (refusal.number, refusal.place))
 }
 

@@ -4,12 +4,10 @@
 
 use crate::common::{assert_often, count_random, say};
 use crate::controlled::check;
-use crate::stores::Stores;
-use crate::{move_frame, move_thread};
+use crate::{edition, Bench};
 use generator::frames::bench::{self, Breach, MOST_RECORDS};
-use generator::frames::thread::Thread;
 use generator::frames::Scene;
-use generator::Rng;
+use generator::{Rng, Version};
 
 /// Sections in a run.
 const PARTS: u64 = 270;
@@ -118,22 +116,20 @@ fn run(rng: &mut Rng, counts: &mut Counts) {
             (scene, first, WAYS * one + two)
         }
     };
-    let (section, breach) = (scene.section.encode(), bench::breach(&scene));
-    let stores = Stores::one(256, 0, [true, true]);
+    let (section, stored) = (scene.section.encode(), edition(256, 0, [true, true]));
     let of_section = Scene {
         machine: 0,
         ..scene.clone()
     };
-    let checked = bench::breach(&of_section).map_or(Ok(0), |place| Err((50, place)));
+    let checked = bench::breach(&of_section).map_or((0, 0), |place| (50, place));
     assert_eq!(check(&section), checked, "{one} and {two}");
-    let known = breach.map(|place| (50, place)).or(Some((0, 0)));
-    move_frame(&scene, &section, &stores, known);
-    let thread = Thread::of(scene.clone());
-    move_thread(&thread, &section, &stores, known);
+    let outcome = Bench::of(&scene, &section, &stored).move_both();
+    let breach = bench::breach(&scene).map_or((0, 0), |place| (50, place));
+    assert_eq!((outcome.number, outcome.place), breach);
     counts[nth] += 1;
     let all = match scene.section.version {
-        generator::Version::One => Vec::new(),
-        generator::Version::Three => bench::breaches(&of_section),
+        Version::One => Vec::new(),
+        Version::Three => bench::breaches(&of_section),
     };
     let shapes = counts[WAYS * WAYS + 1..].iter_mut().zip(SHAPES);
     shapes.for_each(|(count, (_, shows))| *count += u64::from(shows(&scene, first, &all)));

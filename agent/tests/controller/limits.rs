@@ -4,10 +4,7 @@
 use crate::calls::Outcome;
 use crate::common::{assert_often, count_random, say};
 use crate::controlled::check;
-use crate::stores::Stores;
-use crate::{move_frame, move_thread, Judged};
-use generator::editions::Settings;
-use generator::frames::named::Named;
+use crate::{edition, Bench};
 use generator::frames::thread::Thread;
 use generator::frames::{Scene, Stop, Table, REGISTERS};
 use generator::layout::{Function, Location, Record, Section};
@@ -144,34 +141,16 @@ pub fn scene(rng: &mut Rng, points: &[Point], at: usize) -> Scene {
     }
 }
 
-/// Checks the section, moves the frame and a thread of it alone, and compares them with what is known.
+/// Checks the section, moves the frame and a thread of it alone, or of none, and compares them with what is known.
 pub fn expect(scene: &Scene) -> Outcome {
-    let settings = Settings {
-        largest_count: 256,
-        machine: 0,
-        version_1: false,
-        version_3: true,
-    };
-    let named = Named {
-        greatest: 1,
-        live: vec![(1, settings)],
-        edition: 1,
-    };
-    let judged = Judged {
-        scene,
-        named: &named,
-        section: None,
-        shared: None,
-    };
-    let (section, stores) = (scene.section.encode(), Stores::of(&named));
-    assert_eq!(check(&section), judged.shared().map_or(Ok(0), Err));
-    let thread = Thread::of(scene.clone());
-    let known = judged.thread(&thread);
-    let outcome = move_thread(&thread, &section, &stores, Some(known));
-    match scene.stops.is_empty() {
-        true => outcome,
-        false => move_frame(scene, &section, &stores, Some(judged.frame(0))),
+    let (section, stored) = (scene.section.encode(), edition(256, 0, [false, true]));
+    let it = Bench::of(scene, &section, &stored);
+    assert_eq!(check(&section), it.judged().err().unwrap_or((0, 0)));
+    if scene.stops.is_empty() {
+        let none = Thread::of(scene.clone());
+        return it.move_thread(&none, Some(it.thread(&none)));
     }
+    it.move_both()
 }
 
 /// Runs of each test.

@@ -2,13 +2,12 @@
 //! faults and with any of them. The earliest in this order is given, to a frame and to a thread.
 
 use crate::common::{assert_often, count_random, say};
-use crate::stores::Stores;
-use crate::{move_frame, move_thread, Judged};
+use crate::under::stores::Stored;
+use crate::Bench;
 use generator::editions::Settings;
 use generator::frames::bench::{self, Breach};
 use generator::frames::faults::aim;
 use generator::frames::named::Named;
-use generator::frames::thread::Thread;
 use generator::frames::{plain, Scene};
 use generator::{aimed, Rng};
 
@@ -91,23 +90,21 @@ fn run(rng: &mut Rng, counts: &mut Counts) {
         let place = aimed::aim(rng, number, &scene.section, &mut built);
         section = place.map(|place| (number, place as u64));
     }
-    let judged = Judged {
+    let stored = Stored::of(rng, &named);
+    let it = Bench {
         scene: &scene,
-        named: &named,
+        bytes: &built.bytes,
+        stored: &stored,
         section,
         shared: due[4].then_some(13),
     };
-    let (known, stores) = (judged.frame(0), Stores::of(&named));
     let first = due.iter().position(|due| *due);
     let expected = match first.map(|first| NAMES[first]) {
         Some("1 to 9") => section.expect("the section's own refusal").0,
         Some(number) => number.parse().expect("a number"),
         None => 0,
     };
-    assert_eq!(known.0, expected, "{due:?}");
-    move_frame(&scene, &built.bytes, &stores, Some(known));
-    let thread = Thread::of(scene.clone());
-    move_thread(&thread, &built.bytes, &stores, Some(judged.thread(&thread)));
+    assert_eq!(it.move_both().number, expected, "{due:?}");
     let Some(first) = first else {
         return;
     };

@@ -1,7 +1,7 @@
 //! Frames that are explained as a whole.
 
 use crate::calls::Call;
-use crate::cases::case;
+use crate::cases::{case, Known};
 use crate::common::{assert_often, count_random, say};
 use crate::under::{by_edition, known_under, of_second, restore, Under};
 use crate::{compare, content, new_content, room, row_of_rust, row_of_second, rows_known, store};
@@ -115,19 +115,22 @@ fn alone(rng: &mut Rng, call: &Call<Under<Frame>>, rows: &[u64]) {
     }
 }
 
-/// Explains a random frame under a random edition, and compares all that is known of it.
-fn run(rng: &mut Rng, counts: &mut Counts) {
+/// A random frame, mostly whole, the bytes of its section, and what is known of it.
+fn frame(rng: &mut Rng) -> (Scene, Vec<u8>, Known) {
     let scene = match rng.below(4) {
         0 => Scene::wide(rng),
         _ => Scene::one(rng),
     };
-    let (scene, section, known) = match rng.below(3) {
-        0 => case(rng, scene),
-        _ => {
-            let section = scene.section.encode();
-            (scene, section, Some((0, 0)))
-        }
-    };
+    if rng.one_in(3) {
+        return case(rng, scene);
+    }
+    let section = scene.section.encode();
+    (scene, section, Some((0, 0)))
+}
+
+/// Explains a random frame under a random edition, and compares all that is known of it.
+fn run(rng: &mut Rng, counts: &mut Counts) {
+    let (scene, section, known) = frame(rng);
     let stored = store(rng, &scene);
     let stop = &scene.stops[0];
     let frames = Frame {

@@ -2,17 +2,16 @@
 
 use crate::calls::Call;
 use crate::common::{count_random, say};
+use crate::thread_cases::case;
+use crate::under::stores::Stored;
 use crate::under::{by_edition, known_under, restore, Under};
 use crate::{compare, content, new_content, room, row_of_rust, row_of_second, rows_known, store};
 use crate::{Rows, ROW, SLOT};
-use generator::frames::faults::{aim, other_machine};
 use generator::frames::named::Named;
 use generator::frames::thread::Thread;
 use generator::frames::{Scene, Size, Table};
-use generator::{aimed, damage, section_in, Rng, Version};
+use generator::Rng;
 use treskibben::Frames;
-
-use crate::under::stored::Stored;
 
 /// Lists in a run, made in parts that each have a source of random numbers.
 const PARTS: u64 = 1_000;
@@ -100,36 +99,6 @@ fn done(call: &Call<Under<&[u64]>>, rows: &Rows) {
             }
         }
     }
-}
-
-/// A random list, the bytes of its section, and what is known of it without an edition: number and place.
-fn case(rng: &mut Rng) -> (Thread, Vec<u8>, Option<(u64, u64)>) {
-    let mut thread = Thread::any(rng);
-    if rng.one_in(16) {
-        other_machine(&mut thread.scene);
-    }
-    let mut known = Some((0, 0));
-    for number in [14, 13, 33] {
-        if rng.one_in(24) && aim(rng, number, &mut thread.scene, 0).is_some() {
-            known = Some((number, 0));
-        }
-    }
-    let mut built = thread.scene.section.build();
-    match rng.below(10) {
-        0 => {
-            let number = rng.pick(aimed::numbers(thread.scene.section.version));
-            let place = aimed::aim(rng, number, &thread.scene.section, &mut built);
-            known = place.map_or(known, |place| Some((number, place as u64)));
-        }
-        1 => {
-            let version = rng.pick(&Version::ALL);
-            let other = section_in(rng, version).encode();
-            damage::damage(rng, &mut built, &other);
-            known = None;
-        }
-        _ => {}
-    }
-    (thread, built.bytes, known)
 }
 
 /// Explains a random thread under a random edition, and compares all that is known of it.

@@ -2,7 +2,7 @@
 
 use crate::calls::Call;
 use crate::frames::explain;
-use crate::under::stored::Stored;
+use crate::under::stores::Stored;
 use crate::under::Under;
 use generator::editions::Settings;
 use generator::frames::named::Named;

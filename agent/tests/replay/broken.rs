@@ -3,25 +3,26 @@
 
 use crate::calls::Replay;
 use crate::common::{assert_often, count_random, say};
-use crate::stores::Stores;
+use crate::edition;
+use crate::stores::Stored;
 use generator::traces::{Item, Trace, ANSWER, END, FRAME};
 use generator::{damage, Rng};
 
 /// The trace of these items on a scene.
-fn with_bytes<'a>(trace: &'a Trace, stores: &'a Stores, bytes: &'a [u8]) -> Replay<'a> {
+fn with_bytes<'a>(trace: &'a Trace, stored: &'a Stored, bytes: &'a [u8]) -> Replay<'a> {
     Replay {
         trace: bytes,
-        ..Replay::of(trace, stores)
+        ..Replay::of(trace, stored)
     }
 }
 
 /// A trace of so many frames, which are moved where they can be, and its edition.
-fn trace(rng: &mut Rng, frames: usize) -> (Trace, Stores) {
+fn trace(rng: &mut Rng, frames: usize) -> (Trace, Stored) {
     loop {
         let trace = Trace::right(rng);
         if trace.items.len() == 2 * frames + 1 {
-            let stores = Stores::one(256, trace.scene.machine, [true, true]);
-            return (trace, stores);
+            let stored = edition(trace.scene.machine);
+            return (trace, stored);
         }
     }
 }
@@ -45,10 +46,10 @@ const TRACES: u64 = 6;
 fn cut_at_every_byte() {
     let counts = count_random("cut traces", TRACES, 1, |rng, counts: &mut [u64; 2]| {
         for frames in 0..5 {
-            let (trace, stores) = trace(rng, frames);
+            let (trace, stored) = trace(rng, frames);
             let items = items(&trace);
             for length in 0..trace.bytes.len() {
-                let call = with_bytes(&trace, &stores, &trace.bytes[..length]);
+                let call = with_bytes(&trace, &stored, &trace.bytes[..length]);
                 let outcome = call.compare();
                 let cut = items.iter().rfind(|(at, _)| *at <= length);
                 let (place, _) = cut.expect("the first item begins at 0");
@@ -73,7 +74,7 @@ fn cut_at_every_byte() {
 fn every_kind_and_every_machine() {
     let counts = count_random("kinds and machines", TRACES, 1, |rng, counts| {
         for frames in 0..4 {
-            let (trace, stores) = trace(rng, frames);
+            let (trace, stored) = trace(rng, frames);
             for (at, own) in items(&trace) {
                 for byte in 0..=255 {
                     let mut bytes = trace.bytes.clone();
@@ -83,12 +84,12 @@ fn every_kind_and_every_machine() {
                         (1, 3) => Some(at + 1),
                         _ => Some(at),
                     };
-                    broken(&trace, &stores, &bytes, place, counts);
+                    broken(&trace, &stored, &bytes, place, counts);
                     if own == 1 {
                         bytes[at] = own;
                         bytes[at + 1] = byte;
                         let place = (byte > 1).then_some(at);
-                        broken(&trace, &stores, &bytes, place, counts);
+                        broken(&trace, &stored, &bytes, place, counts);
                     }
                 }
             }
@@ -105,12 +106,12 @@ fn every_kind_and_every_machine() {
 /// Compares a trace that is broken at this place, or whole.
 fn broken(
     trace: &Trace,
-    stores: &Stores,
+    stored: &Stored,
     bytes: &[u8],
     place: Option<usize>,
     counts: &mut [u64; 2],
 ) {
-    let call = with_bytes(trace, stores, bytes);
+    let call = with_bytes(trace, stored, bytes);
     let outcome = call.compare();
     let expected = place.map_or([0; 2], |place| [35, place as u64]);
     if outcome.numbers[..2] != expected {
@@ -145,7 +146,7 @@ fn damaged_anywhere() {
 /// Replays a trace that is damaged, and counts what became of it.
 fn run_damaged(rng: &mut Rng, counts: &mut [u64; NAMES.len()]) {
     let (trace, other) = (Trace::right(rng), Trace::right(rng));
-    let stores = Stores::one(256, trace.scene.machine, [true, true]);
+    let stored = edition(trace.scene.machine);
     let mut bytes = trace.bytes.clone();
     match rng.below(3) {
         // A bit in a frame or an answer: mostly whole still.
@@ -161,7 +162,7 @@ fn run_damaged(rng: &mut Rng, counts: &mut [u64; NAMES.len()]) {
             }
         }
     }
-    let outcome = with_bytes(&trace, &stores, &bytes).compare();
+    let outcome = with_bytes(&trace, &stored, &bytes).compare();
     let nth = match outcome.numbers {
         [35, 0, ..] => 0,
         [35, ..] => 1,

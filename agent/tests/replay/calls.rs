@@ -1,7 +1,7 @@
 //! One replay: by the library, as C has it and as Rust has it, and by the second implementation.
 
 use crate::common::differ;
-use crate::stores::{Raw, Stores};
+use crate::stores::{Store, Stored};
 use generator::traces::Trace;
 use reference::replay::{parse, replay, Recorded};
 use reference::restore::Restore;
@@ -16,7 +16,7 @@ pub type Numbers = [u64; 6];
 /// All that a replay is given.
 #[derive(Clone, Copy)]
 pub struct Replay<'a> {
-    pub stores: &'a Stores,
+    pub stored: &'a Stored,
     pub section: &'a [u8],
     pub image: &'a [u8],
     pub first: u64,
@@ -44,7 +44,7 @@ struct Told(Numbers);
 
 extern "C" {
     fn treskibben_edition_replay(
-        store: Raw,
+        store: Store,
         edition: u64,
         section: *const u8,
         length: usize,
@@ -62,9 +62,9 @@ extern "C" {
 
 impl<'a> Replay<'a> {
     /// The replay of a trace on its scene.
-    pub fn of(trace: &'a Trace, stores: &'a Stores) -> Replay<'a> {
+    pub fn of(trace: &'a Trace, stored: &'a Stored) -> Replay<'a> {
         Replay {
-            stores,
+            stored,
             section: &trace.section,
             image: &trace.scene.image,
             first: trace.scene.first,
@@ -77,8 +77,8 @@ impl<'a> Replay<'a> {
     /// What the second implementation restores under.
     pub fn restore(&self) -> Restore<'a> {
         Restore {
-            store: &self.stores.second,
-            edition: self.stores.edition,
+            store: &self.stored.second,
+            edition: self.stored.edition,
             section: self.section,
             first: self.first,
             old_starts: self.olds,
@@ -92,8 +92,8 @@ impl<'a> Replay<'a> {
         // for writing; the store is the struct of `treskibben.h`, and so is the declaration.
         let told = unsafe {
             treskibben_edition_replay(
-                self.stores.raw,
-                self.stores.edition,
+                self.stored.c,
+                self.stored.edition,
                 self.section.as_ptr(),
                 self.section.len(),
                 image.as_mut_ptr(),
@@ -111,9 +111,10 @@ impl<'a> Replay<'a> {
         Outcome { numbers, image }
     }
 
-    fn by_rust(&self) -> Outcome {
+    /// What Rust is answered; nothing for a store that is damaged.
+    fn by_rust(&self) -> Option<Outcome> {
         let mut image = self.image.to_vec();
-        let edition = self.stores.library.edition(self.stores.edition);
+        let edition = self.stored.rust()?;
         let table = MoveTable::new(self.olds, self.news);
         let told = edition.replay(self.section, &mut image, self.first, table, self.trace);
         let numbers = match told {
@@ -128,7 +129,7 @@ impl<'a> Replay<'a> {
             ],
             Err(refusal) => [refusal.number(), refusal.place(), 0, 0, 0, 0],
         };
-        Outcome { numbers, image }
+        Some(Outcome { numbers, image })
     }
 
     /// What the second implementation answers, and the answer of the differing frame by its moves one by one.
@@ -161,7 +162,7 @@ impl<'a> Replay<'a> {
     /// trace is read as the replay reads it. Gives the outcome.
     pub fn compare(&self) -> Outcome {
         let (c, rust, second) = (self.by_c(), self.by_rust(), self.by_second());
-        if c != second || rust != second {
+        if c != second || rust.as_ref().is_some_and(|rust| *rust != second) {
             self.fail(&format!(
                 "in C {c:?}, in Rust {rust:?}, by the second implementation {second:?}"
             ));
@@ -207,10 +208,9 @@ impl<'a> Replay<'a> {
             |list: &[u64]| format!("{} entries {:x?}", list.len(), &list[..list.len().min(64)]);
         let (olds, news) = (many(self.olds), many(self.news));
         let (image, trace) = (hex(self.image), hex(self.trace));
-        let (edition, live) = (self.stores.edition, self.stores.second.editions());
         let lent = format!(
-            "edition {edition} of {live:?}, first {:#x}, old starts {olds}, new starts {news}, image {image}, trace {trace}",
-            self.first
+            "{:?}, first {:#x}, old starts {olds}, new starts {news}, image {image}, trace {trace}",
+            self.stored, self.first
         );
         differ("a replay", self.section, &format!("{why}\n{lent}"));
     }

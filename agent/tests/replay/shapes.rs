@@ -9,7 +9,8 @@ use reference::replay::{Recorded, Step};
 /// A trace under an edition, the answers of its frames, the wrong ones that were put in, and the image after it.
 pub struct Replayed<'a> {
     pub trace: &'a Trace,
-    pub named: &'a Named,
+    /// Nothing where the store is damaged.
+    pub named: Option<&'a Named>,
     pub steps: &'a [Step],
     pub answers: &'a [Recorded],
     pub wrong: Option<Wrong>,
@@ -19,7 +20,7 @@ pub struct Replayed<'a> {
 /// A shape: its name, and whether a trace has it.
 type Shape = (&'static str, fn(&Replayed) -> bool);
 
-pub const SHAPES: [Shape; 25] = [
+pub const SHAPES: [Shape; 26] = [
     ("no frames", |it| it.steps.is_empty()),
     ("one frame", |it| it.steps.len() == 1),
     ("several frames", |it| it.steps.len() > 1),
@@ -37,18 +38,21 @@ pub const SHAPES: [Shape; 25] = [
     ("a frame that an earlier one has changed", |it| it.changed()),
     ("the same frame again, with another answer", |it| it.again()),
     ("an edition that is unknown or retired", |it| {
-        it.with(31) && it.named.settings().is_none()
+        it.with(31) && it.named.is_some_and(|named| named.settings().is_none())
     }),
     ("an edition of another machine", |it| {
-        let own = it.named.settings();
+        let own = it.named.and_then(Named::settings);
         it.with(33) && own.is_some_and(|own| own.machine != it.trace.scene.machine)
     }),
     ("an edition of another version", |it| {
-        let own = it.named.settings();
+        let own = it.named.and_then(Named::settings);
         it.with(33) && own.is_some_and(|own| !(own.version_1 && own.version_3))
     }),
+    ("an answer from a damaged store", |it| {
+        it.named.is_none() && !it.steps.is_empty()
+    }),
     ("17 by the edition's count", |it| {
-        it.with(17) && it.named.most() < 256
+        it.with(17) && it.named.is_some_and(|named| named.most() < 256)
     }),
     ("a section that is refused", |it| {
         it.answers
@@ -133,7 +137,10 @@ impl Replayed<'_> {
     /// what all frames share.
     fn changed(&self) -> bool {
         let scene = &self.trace.scene;
-        if !self.named.allows(scene) || self.trace.section != scene.section.encode() {
+        let Some(named) = self.named.filter(|named| named.allows(scene)) else {
+            return false;
+        };
+        if self.trace.section != scene.section.encode() {
             return false;
         }
         let shared = [13, 14];
@@ -147,7 +154,7 @@ impl Replayed<'_> {
             };
             let mut stops = 0..scene.stops.len();
             let first = stops.find(own);
-            let alone = first.map(|stop| plain::refusal_under(scene, stop, self.named.most()));
+            let alone = first.map(|stop| plain::refusal_under(scene, stop, named.most()));
             let now = u64::from(answer.number);
             alone.is_some_and(|(number, _)| number != now && !shared.contains(&now))
         })

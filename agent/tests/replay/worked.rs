@@ -1,15 +1,16 @@
 //! Replays of row I by hand: what is compared, what comes before what, and what the image is after it.
 
 use crate::calls::{Outcome, Replay};
-use crate::stores::Stores;
+use crate::stores::Stored;
 use generator::editions::Settings;
 use generator::frames::named::Named;
+use generator::Rng;
 
 const H: &[u8] = include_bytes!("../../../samples/h-statepoint.section");
 const H_1: &[u8] = include_bytes!("../../../samples/h-version-1.section");
 
 /// Edition 1 is 256, AMD64 and version 3; edition 2 is retired; edition 3 allows one pointer.
-fn stores(edition: u64) -> Stores {
+fn stored(edition: u64) -> Stored {
     let settings = Settings {
         largest_count: 256,
         machine: 0,
@@ -20,11 +21,12 @@ fn stores(edition: u64) -> Stores {
         largest_count: 1,
         ..settings
     };
-    Stores::of(&Named {
+    let named = Named {
         greatest: 3,
         live: vec![(1, settings), (3, one)],
         edition,
-    })
+    };
+    Stored::of(&mut Rng::new(1), &named)
 }
 
 /// The bytes of a frame item: kind, machine, address, function, and 32 registers of which both machines' stack
@@ -69,7 +71,7 @@ fn after() -> Vec<u8> {
 
 fn on(section: &[u8], edition: u64, items: &[Vec<u8>]) -> Outcome {
     let replay = Replay {
-        stores: &stores(edition),
+        stored: &stored(edition),
         section,
         image: &before(),
         first: 0x7000,

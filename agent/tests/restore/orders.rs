@@ -2,7 +2,7 @@
 
 use crate::common::{count_random, nth_version, say};
 use crate::compare;
-use crate::under::stored::Stored;
+use crate::under::stores::Stored;
 use generator::editions::Settings;
 use generator::frames::faults::aim;
 use generator::frames::named::Named;

@@ -3,11 +3,12 @@
 use crate::calls::{Call, Moves, Outcome};
 use crate::common::{assert_often, count_random, say};
 use crate::store;
+use crate::thread_cases::case;
+use crate::under::stores::Stored;
 use crate::under::{known_under, Indexed, Under};
-use generator::frames::faults::{aim, other_machine};
 use generator::frames::thread::Thread;
 use generator::indexes::{self, right};
-use generator::{aimed, damage, section_in, Rng, Version};
+use generator::{Rng, Version};
 
 /// Lists in a run, made in parts that each have a source of random numbers.
 const PARTS: u64 = 1_000;
@@ -27,37 +28,6 @@ const LEAST: [u64; 2] = [1_000, 300];
 /// count; and how often 33 stood before 27, before 29 and before 25.
 type Counts = [u64; 2 * NUMBERS + 4];
 
-/// A random list, the bytes of its section, and what is known of it without an edition and an index: number
-/// and place.
-fn case(rng: &mut Rng) -> (Thread, Vec<u8>, Option<(u64, u64)>) {
-    let mut thread = Thread::any(rng);
-    if rng.one_in(16) {
-        other_machine(&mut thread.scene);
-    }
-    let mut known = Some((0, 0));
-    for number in [14, 13, 33] {
-        if rng.one_in(24) && aim(rng, number, &mut thread.scene, 0).is_some() {
-            known = Some((number, 0));
-        }
-    }
-    let mut built = thread.scene.section.build();
-    match rng.below(8) {
-        0 => {
-            let number = rng.pick(aimed::numbers(thread.scene.section.version));
-            let place = aimed::aim(rng, number, &thread.scene.section, &mut built);
-            known = place.map_or(known, |place| Some((number, place as u64)));
-        }
-        1 => {
-            let version = rng.pick(&Version::ALL);
-            let other = section_in(rng, version).encode();
-            damage::damage(rng, &mut built, &other);
-            known = None;
-        }
-        _ => {}
-    }
-    (thread, built.bytes, known)
-}
-
 /// Compares an answer with what is known of it.
 fn expect<F: Moves>(call: &Call<F>, known: Option<(u64, u64)>) -> Outcome {
     let outcome = call.compare();
@@ -67,21 +37,27 @@ fn expect<F: Moves>(call: &Call<F>, known: Option<(u64, u64)>) -> Outcome {
     outcome
 }
 
-/// Moves a random list under a random edition, without an index and with one, and compares all that is known of
-/// it.
-fn run(rng: &mut Rng, counts: &mut Counts) {
-    let (thread, section, known) = case(rng);
-    let scene = &thread.scene;
-    let (stored, _) = store(rng, scene);
-    let stored = &stored;
-    let list = thread.list();
-    let frames = Under {
+/// A random list, and what is known of what its frames share.
+struct Case {
+    thread: Thread,
+    section: Vec<u8>,
+    stored: Stored,
+    known: Option<(u64, u64)>,
+}
+
+/// Moves a list without an index, and compares all that is known of it.
+fn without_index(case: &Case, counts: &mut Counts) -> Outcome {
+    let Case {
+        thread,
+        section,
         stored,
-        frames: &list[..],
-    };
-    let call = Call::with(scene, &section, frames, thread.registers());
+        known,
+    } = case;
+    let (scene, list) = (&thread.scene, thread.list());
+    let frames = &list[..];
+    let call = Call::with(scene, section, Under { stored, frames }, thread.registers());
     let answer = |most| thread.answer_under(most);
-    let outcome = expect(&call, known_under(stored, scene, known, answer));
+    let outcome = expect(&call, known_under(stored, scene, *known, answer));
     counts[outcome.number as usize] += 1;
     if known.is_some() && outcome.number == 0 {
         let lent = outcome.image == thread.moved() && outcome.registers == thread.moved_registers();
@@ -91,36 +67,65 @@ fn run(rng: &mut Rng, counts: &mut Counts) {
     }
     let by_count = known.is_some() && outcome.number == 17 && thread.answer().0 != 17;
     counts[2 * NUMBERS] += u64::from(by_count);
+    outcome
+}
 
-    let index = match rng.below(3) {
-        0 => indexes::any(rng, &scene.section),
-        _ => right(&scene.section),
-    };
-    let own = match scene.section.version {
-        Version::One => Some((27, 0)),
-        Version::Three if index != right(&scene.section) => Some((29, 0)),
-        Version::Three => None,
-    };
+/// Moves a list with this index, which has this refusal of its own or none, and compares all that is known of it:
+/// also the outcome without an index.
+fn with_index(
+    case: &Case,
+    index: &[u64],
+    own: Option<(u64, u64)>,
+    plain: &Outcome,
+    counts: &mut Counts,
+) {
+    let Case {
+        thread,
+        section,
+        stored,
+        known,
+    } = case;
+    let (scene, list) = (&thread.scene, thread.list());
     let answer = |most| own.unwrap_or_else(|| thread.answer_under(most));
-    let (index, frames) = (&index[..], &list[..]);
-    let frames = Indexed { frames, index };
-    let call = Call::with(
-        scene,
-        &section,
-        Under { stored, frames },
-        thread.registers(),
-    );
-    let indexed = expect(&call, known_under(stored, scene, known, answer));
+    let frames = Indexed {
+        frames: &list,
+        index,
+    };
+    let call = Call::with(scene, section, Under { stored, frames }, thread.registers());
+    let indexed = expect(&call, known_under(stored, scene, *known, answer));
     counts[NUMBERS + indexed.number as usize] += 1;
-    if known.is_some() && own.is_none() && indexed != outcome {
-        call.fail(&format!("{indexed:?}, and without an index {outcome:?}"));
+    if known.is_some() && own.is_none() && indexed != *plain {
+        call.fail(&format!("{indexed:?}, and without an index {plain:?}"));
     }
-    if known == Some((0, 0)) && indexed.number == 33 {
+    if *known == Some((0, 0)) && indexed.number == 33 {
         let counts = &mut counts[2 * NUMBERS + 1..];
         counts[0] += u64::from(own == Some((27, 0)));
         counts[1] += u64::from(own == Some((29, 0)));
         counts[2] += u64::from(thread.answer().0 == 25);
     }
+}
+
+/// Moves a random list under a random edition, without an index and with one.
+fn run(rng: &mut Rng, counts: &mut Counts) {
+    let (thread, section, known) = case(rng);
+    let (stored, _) = store(rng, &thread.scene);
+    let index = match rng.below(3) {
+        0 => indexes::any(rng, &thread.scene.section),
+        _ => right(&thread.scene.section),
+    };
+    let own = match thread.scene.section.version {
+        Version::One => Some((27, 0)),
+        Version::Three if index != right(&thread.scene.section) => Some((29, 0)),
+        Version::Three => None,
+    };
+    let case = Case {
+        thread,
+        section,
+        stored,
+        known,
+    };
+    let plain = without_index(&case, counts);
+    with_index(&case, &index, own, &plain, counts);
 }
 
 #[test]

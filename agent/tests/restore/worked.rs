@@ -2,7 +2,7 @@
 //! beside them, written out by hand.
 
 use crate::calls::{Call, Outcome};
-use crate::under::stored::Stored;
+use crate::under::stores::Stored;
 use crate::under::Under;
 use generator::editions::Settings;
 use generator::frames::named::Named;
