@@ -64,7 +64,7 @@ treskibben replay --section FILE --image OLD --first ADDRESS
 /// A replay: all that it reads.
 struct Replay<'a> {
     arguments: &'a Arguments,
-    /// What is the same for all frames. Its list of frames is empty, and is the one of which something is said.
+    /// What all frames share. Its list has no frame but the one that something is said of.
     inputs: Inputs<'a>,
     image: Vec<u8>,
     trace: Vec<u8>,

@@ -1,7 +1,7 @@
 //! A trace in words, for people.
 
 use crate::frames::Naming;
-use crate::library::{self, Recorded, Refusal, Step};
+use crate::library::{self, Recorded, Step};
 use crate::numbers::count;
 use std::io::{self, Write};
 
@@ -49,22 +49,13 @@ pub fn registers(step: &Step) -> impl Iterator<Item = (String, u64)> + use<'_> {
     not_0.map(move |(number, content)| (machine.register(number), *content))
 }
 
-/// An answer in words, with what was found where it is known.
+/// An answer in words, with what was found where it is known; else with the pair, where its place is one.
 pub fn answer(answer: Recorded, found: Option<&str>) -> String {
-    match library::outcome(answer) {
-        Ok(pointers) => format!("accepted, {}", count(pointers, "pointer")),
-        Err(refusal) => {
-            let pair = pair(&refusal);
-            let found = found.or(pair.as_deref());
-            let found = found.map(|found| format!("; {found}"));
-            let (number, place, cause) = (refusal.number, refusal.place, refusal.cause);
-            let found = found.unwrap_or_default();
-            format!("refused {number} at {place}: {cause}{found}")
-        }
+    let refusal = library::outcome(answer).err();
+    let pair = refusal.filter(|refusal| matches!(refusal.number, 18..=21));
+    let pair = pair.map(|refusal| format!("pair {}", refusal.place));
+    match found.or(pair.as_deref()) {
+        Some(found) => format!("{answer}; {found}"),
+        None => answer.to_string(),
     }
-}
-
-/// What the place of a frame's refusal is, where it is a pair.
-pub fn pair(refusal: &Refusal) -> Option<String> {
-    matches!(refusal.number, 18..=21).then(|| format!("pair {}", refusal.place))
 }

@@ -2,6 +2,7 @@
 
 use crate::run::{Folder, Ran};
 use crate::scenes;
+use generator::frames::faults::aim;
 use generator::frames::plain::{self, Slot};
 use generator::frames::Scene;
 use generator::Rng;
@@ -134,4 +135,53 @@ fn threads() {
     }
     assert!(accepted > 40, "{accepted} accepted, {refused} refused");
     assert!(reasons.iter().all(|times| *times > 30), "{reasons:?}");
+}
+
+/// What was found is told of every frame that is refused, whichever pair and slots are at fault.
+#[test]
+fn refused_frames() {
+    let mut rng = Rng::part(0xE8B, 2);
+    for (number, words) in [
+        (10, &["no record at ", "no function "][..]),
+        (16, &["extent 0x", "the stack size of function "]),
+        (
+            17,
+            &[" pointers; no edition is named, which allows at most 256 "],
+        ),
+        (18, &[": base "]),
+        (19, &[" is not inside the extent 0x"]),
+        (
+            20,
+            &[" shares bytes with the ", " is derived from two bases: "],
+        ),
+        (21, &[" holds 0x"]),
+    ] {
+        let mut times = 0;
+        while times < 25 {
+            let mut scene = Scene::one(&mut rng);
+            let Some(place) = aim(&mut rng, number, &mut scene, 0) else {
+                continue;
+            };
+            let folder = Folder::new();
+            folder.put("section", scene.section.encode());
+            folder.put("image", &scene.image);
+            folder.put("moves", scenes::moves(&scene.table));
+            folder.put("frames", scenes::frames(&scene, &scene.stops));
+            let ran = run(&folder, &scene, "explain", &["--frame", "0", "--json"]);
+            // A warning of functions that are all at 0 may come before.
+            let last = ran.text().lines().last().unwrap();
+            let object: Value = serde_json::from_str(last).unwrap();
+            let told = [&object["number"], &object["place"]];
+            assert_eq!(told.map(Value::as_u64), [Some(number), Some(place)]);
+            let found = object["found"].as_str().unwrap();
+            assert!(
+                words.iter().any(|word| found.contains(word)),
+                "{number}: {found}"
+            );
+            if number >= 18 {
+                assert!(found.contains(&format!("): pair {place}: ")), "{found}");
+            }
+            times += 1;
+        }
+    }
 }

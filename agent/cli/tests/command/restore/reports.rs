@@ -1,7 +1,7 @@
 //! The report that a restore leaves with the new image: whole, and there with it, or not at all.
 
 use super::faults::{as_a_stranger, set_mode};
-use super::killed::{image, thread, whole_run, NEW, OLD};
+use super::killed::{image, thread, NEW, OLD};
 use super::receipts::digest;
 use super::registers::{in_rbx, made, MADE};
 use super::{Restore, DONE, FILES, RECEIPT};
@@ -11,7 +11,7 @@ use std::fs::{self, Permissions};
 use std::os::unix::fs::PermissionsExt;
 use std::process::Stdio;
 use std::thread::sleep;
-use std::time::Duration;
+use std::time::{Duration, Instant};
 
 /// Runs a restore.
 fn restore(row: &Restore, folder: &Folder, more: &[&str]) -> Ran {
@@ -241,8 +241,14 @@ fn killed_at_any_moment() {
     const KILLS: u64 = 80;
     let (row, folder) = (thread(), Folder::new());
     let (old, new) = (image(OLD), image(NEW));
-    // The report takes about as long as the restore.
-    let long = 2 * whole_run(&row, &folder).as_micros() as usize;
+    row.put(&folder);
+    let begun = Instant::now();
+    let whole = restore(&row, &folder, &["--in-place", "--report", "why"]);
+    assert_eq!(whole.status, Some(0), "{}", whole.err);
+    let long = begun.elapsed().as_micros() as usize;
+    for name in [RECEIPT, "why"] {
+        fs::remove_file(folder.at(name)).unwrap();
+    }
     let report = report(&row);
     let mut rng = generator::Rng::part(0xDEAD, 8);
     let (mut replaced, mut made) = (0, 0);
@@ -256,16 +262,17 @@ fn killed_at_any_moment() {
         let mut command = folder.command();
         let command = row.inputs(&mut command).args(more);
         let mut child = command.stdout(Stdio::null()).spawn().unwrap();
-        // Half of the kills are aimed at the writing.
-        let within = match kill % 4 {
-            0 | 1 => long * 5 / 4,
+        // Most kills are aimed at the writing, and at what comes after a name is there.
+        let within = match kill % 3 {
+            0 => long * 3 / 2,
+            1 => {
+                let beside = [".why.treskibben-new", ".new.treskibben-new", "why", "new"];
+                until_there(&mut child, &folder, &beside);
+                long / 8
+            }
             _ => {
-                until_there(
-                    &mut child,
-                    &folder,
-                    &[".why.treskibben-new", "why", ".new.treskibben-new"],
-                );
-                long / 4
+                until_there(&mut child, &folder, &["why", "new"]);
+                long / 16
             }
         };
         sleep(Duration::from_micros(rng.below(within + 1) as u64));
