@@ -1,15 +1,13 @@
 -- The laws of a replay.
 use Prim.Native.Nat.{ℕ}
-use mathlib.Core.Path.{_≡_, refl, ap, _∙_}
+use mathlib.Core.Path.{_≡_, refl, ap}
 use mathlib.Core.Option.{Option, none, some}
-use mathlib.Core.List.{List, map}
 use Rattle.editions.specs.declared.Settings as kept
 use Rattle.editions.specs.declared.Store.{Store}
 use Rattle.editions.specs.Store.{look}
 use Rattle.editions_settings.specs.Under.{settingsOf, byFound, under}
 use Rattle.relocate.specs.declared.Settings.{Settings}
 use Rattle.relocate.specs.Restore.{restore}
-use Rattle.relocate.specs.Lists.{Demand3, OrderFree}
 use Rattle.relocate.proofs.Demand.{demand3, order-free}
 use Rattle.replay.specs.Replay.{compared, framesOf, outcomeOf, imageOf, replayAnswer, replayImage}
 use Rattle.replay.specs.Laws.{BrokenFirst, ReplaysApart}

@@ -1,6 +1,6 @@
 -- A recorded restore is replayed as it was.
 use Prim.Native.Nat.{ℕ, suc}
-use mathlib.Core.Path.{_≡_, refl, sym, ap, _∙_}
+use mathlib.Core.Path.{_≡_, refl, ap}
 use mathlib.Core.Bool.{true}
 use mathlib.Core.Option.{Option, none, some}
 use native.Mathlib.Omega.{arith}
@@ -19,7 +19,6 @@ use Rattle.relocate.specs.Stopped.{Stopped}
 use Rattle.relocate.specs.Relocation.{moved}
 use Rattle.relocate.specs.Lists.{answers}
 use Rattle.replay.specs.declared.Outcome.the-variants.{Same}
-use Rattle.replay.specs.Trace.{Step}
 use Rattle.replay.specs.Replay.{valueOf, asRecorded, compared, framesOf, outcomeOf, imageOf, answersUnder, finalUnder, replayAnswer, replayImage}
 use Rattle.replay.specs.Laws.{recordedOf, recording, ReplaysRecorded}
 use Rattle.replay.proofs.Written.{trace-back}

@@ -1,5 +1,5 @@
 -- A replay step by step: what is left gives what was left before.
-use Prim.Native.Nat.{ℕ, zero, suc, _+_, _*_, _-_, _≤_, _<_}
+use Prim.Native.Nat.{ℕ, suc, _+_, _*_, _-_, _≤_, _<_}
 use mathlib.Core.Path.{_≡_, refl, sym, ap, _∙_}
 use mathlib.Core.Bool.{Bool, true, false, cond}
 use mathlib.Core.List.{List, [], _∷_, map}
@@ -17,7 +17,6 @@ use Rattle.relocate.specs.Stopped.{Stopped}
 use Rattle.relocate.specs.Plan.{plan}
 use Rattle.relocate.specs.Relocation.{answer, moved}
 use Rattle.relocate.specs.Lists.{answers, final}
-use Rattle.replay.specs.declared.Recorded.{Recorded}
 use Rattle.replay.specs.declared.Outcome.{Outcome}
 use Rattle.replay.specs.declared.Outcome.the-variants.{Broken, Same, Differs}
 use Rattle.replay.specs.Trace.{Step, stepAt}

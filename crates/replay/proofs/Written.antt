@@ -1,25 +1,23 @@
 -- A trace that was written is read back.
-use Prim.Native.Nat.{ℕ, zero, suc, _+_, _*_, _≤_, _<_}
-use mathlib.Core.Path.{_≡_, refl, sym, ap, _∙_}
-use mathlib.Core.Bool.{Bool, true, false, cond, _&&_}
-use mathlib.Core.List.{List, [], _∷_, _++_, append-assoc, append-nil, map, List·Memᴰ, List·Memᴰ·head, List·Memᴰ·tail}
+use Prim.Native.Nat.{ℕ, zero, suc, _+_, _*_, _≤_}
+use mathlib.Core.Path.{_≡_, refl, sym, _∙_}
+use mathlib.Core.Bool.{true}
+use mathlib.Core.List.{List, [], _∷_, _++_, append-assoc, append-nil, List·Memᴰ, List·Memᴰ·head, List·Memᴰ·tail}
 use native.Mathlib.Omega.{arith}
 use native.Mathlib.Nat.{add-zero, mul-suc}
-use borrow.Author.Tests.{le-leb, eq-eqb}
-use lib.Dec.{eqb, leb}
-use lib.ListN.{length, getD, drop}
+use borrow.Author.Tests.{eq-eqb}
+use lib.ListN.{length, getD}
 use Rattle.wire.specs.Word.{word}
-use Rattle.stackmap.specs.Fields.{Field, _of_, bytesOf, size, Fit, all, many}
-use Rattle.stackmap.proofs.Fields.{HasFrom, Has, length-bytesOf, size-append, size-all, fields-back, split, fit-join, fit-each, many-back}
+use Rattle.stackmap.specs.Fields.{_of_, bytesOf, size, all}
+use Rattle.stackmap.proofs.Fields.{Has, length-bytesOf, size-append, size-all, fields-back, split, fit-join, fit-each, many-back}
 use Rattle.stackmap.proofs.Items.{byte-word}
-use Rattle.listing.specs.Listing.{stands}
 use Rattle.listing.proofs.Items.{kind-byte, yes-item, other-kind}
 use Rattle.editions_settings.specs.Machine.{machineKnown, machineOf}
 use Rattle.relocate.specs.declared.Machine.{Machine}
 use Rattle.relocate.specs.declared.Machine.the-variants.{Amd64, Aarch64}
 use Rattle.relocate.specs.Stopped.{Stopped}
 use Rattle.replay.specs.declared.Recorded.{Recorded}
-use Rattle.replay.specs.Trace.{frameAt, registersAt, recordedAt, Step, stepAt, Traced, broken, whole, before, frameStands, answerStands, endStands, traceFrom, trace}
+use Rattle.replay.specs.Trace.{frameAt, registersAt, recordedAt, Step, stepAt, whole, frameStands, answerStands, endStands, traceFrom, trace}
 use Rattle.replay.specs.Trace.{machineNumber, registerField, frameItem, answerItem, stepItems, endItem, traceOf}
 use Rattle.replay.specs.Laws.{Recordable, TraceBack}
 

@@ -2,9 +2,9 @@
 -- A replay that is under way.
 use Prim.Native.Nat.{ℕ, _+_, _*_, _-_, _≤_, _<_}
 use mathlib.Core.Path.{_≡_}
-use mathlib.Core.Bool.{Bool, true, cond}
+use mathlib.Core.Bool.{cond}
 use mathlib.Core.List.{List, map}
-use lib.ListN.{length, getD}
+use lib.ListN.{length}
 use Rattle.stackmap.specs.Fields.{many}
 use Rattle.stackmap.specs.Verdict.{need}
 use Rattle.stackmap.specs.Check.{Accepted}
@@ -22,7 +22,7 @@ use Rattle.thread.specs.Code.{Sought}
 use Rattle.replay.specs.declared.Recorded.{Recorded}
 use Rattle.replay.specs.declared.Outcome.{Outcome}
 use Rattle.replay.specs.declared.Outcome.the-variants.{Broken, Same, Differs}
-use Rattle.replay.specs.Layout.{stepSize, frameItemSize}
+use Rattle.replay.specs.Layout.{stepSize}
 use Rattle.replay.specs.Trace.{Step, stepAt, frameAt}
 use Rattle.replay.specs.Replay.{valueOf, asRecorded, compared, framesOf}
 

@@ -1,13 +1,12 @@
 -- The call, from its stages: 35, 31, and the frames.
 use Prim.Native.Nat.{ℕ, _-_, _<_}
-use mathlib.Core.Path.{_≡_, refl, sym, ap, _∙_}
+use mathlib.Core.Path.{_≡_, sym, ap, _∙_}
 use mathlib.Core.List.{List, map}
 use native.Mathlib.Omega.{arith}
 use Rattle.editions.specs.declared.Store.{Store}
 use Rattle.editions_settings.specs.declared.NamedSettings.{NamedSettings}
 use Rattle.editions_settings.specs.Code.{Names}
 use Rattle.editions_settings.proofs.Laws.{under-refused, under-found}
-use Rattle.moves.specs.declared.Move.{Move}
 use Rattle.moves.specs.Settle.{refusedMove}
 use Rattle.relocate.specs.declared.Settings.{Settings}
 use Rattle.relocate.specs.Restore.{Restore}

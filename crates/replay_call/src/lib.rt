@@ -23,7 +23,8 @@ fn of_steps(
     all: usize,
 ) -> Outcome
     requires { ⌜ Holds (now trace) all ⌝ }
-    ensures { λ r. ⌜ (r ≡ compared 0 (stepsFrom (now (trace .entry)) all 0) (answersUnder store edition (restore (now (section .entry)) (now (olds .entry)) (now (news .entry)) first) (now (image .entry)) (framesOf (stepsFrom (now (trace .entry)) all 0))))
+    ensures { λ r. ⌜ (r ≡ compared 0 (stepsFrom (now (trace .entry)) all 0)
+        (answersUnder store edition (restore (now (section .entry)) (now (olds .entry)) (now (news .entry)) first) (now (image .entry)) (framesOf (stepsFrom (now (trace .entry)) all 0))))
         × (now (image .exit) ≡ finalUnder store edition (restore (now (section .entry)) (now (olds .entry)) (now (news .entry)) first) (now (image .entry)) (framesOf (stepsFrom (now (trace .entry)) all 0))) ⌝ }
 {
     let named = editions_settings::named(store, edition);

@@ -1,5 +1,4 @@
 -- A replay's outcome as it crosses the C boundary: number and place of a broken trace; whether an answer differs, which one, and what it is now.
-use Prim.Native.Nat.{ℕ}
 use Rattle.replay.specs.declared.Outcome.{Outcome}
 use Rattle.replay.specs.declared.Outcome.the-variants.{Broken, Same, Differs}
 use Rattle.treskibben_replays.specs.declared.ReplayAnswer.{ReplayAnswer}

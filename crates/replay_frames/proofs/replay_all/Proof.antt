@@ -1,5 +1,5 @@
 use Prim.Native.Nat.{_-_, _≤_}
-use mathlib.Core.Path.{_≡_, refl, sym, ap, _∙_}
+use mathlib.Core.Path.{_≡_}
 use native.Mathlib.Omega.{arith}
 use borrow.Author.Needs.{needs}
 use lib.ListN.{length}
@@ -11,7 +11,8 @@ use Rattle.replay_frames.proofs.replay_all.Statement.{statement}
 use Rattle.replay_frames.proofs.replay_all.Tie as tie
 
 abbrev Inv-loop : tie.InvT-loop
-Inv-loop s image₀ first olds news t all settings tested known₀ i₀ image known i = Done (restore s olds news first settings) t all 0 Same image₀ i known image × (i ≤ all) × (tested ≡ fault (restore s olds news first settings) (length image₀))
+Inv-loop s image₀ first olds news t all settings tested known₀ i₀ image known i =
+    Done (restore s olds news first settings) t all 0 Same image₀ i known image × (i ≤ all) × (tested ≡ fault (restore s olds news first settings) (length image₀))
 
 abbrev μ-loop : tie.MeasureT-loop
 μ-loop s image₀ first olds news t all settings tested known₀ i₀ image known i = all - i

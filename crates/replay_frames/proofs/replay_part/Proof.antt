@@ -1,9 +1,6 @@
-use Prim.Native.Nat.{_-_}
-use mathlib.Core.Path.{_≡_, sym, ap, _∙_}
+use mathlib.Core.Path.{sym, _∙_}
 use native.Mathlib.Omega.{arith}
-use Rattle.moves.specs.Settle.{refusedMove}
 use Rattle.relocate.specs.Restore.{restore}
-use Rattle.replay.specs.Code.{orElse, comparedAlike}
 use Rattle.replay.proofs.Replaying.{done-alike}
 use Rattle.thread_call.proofs.Whole.{valid-accepted, blank-holds, blank-counted}
 use borrow.Author.Needs.{needs}

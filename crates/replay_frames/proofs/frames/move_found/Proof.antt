@@ -1,6 +1,5 @@
 use mathlib.Core.List.{[]}
-use mathlib.Core.Path.{_≡_, sym, ap, _∙_}
-use native.Mathlib.Omega.{arith}
+use mathlib.Core.Path.{_≡_, ap, _∙_}
 use lib.ListN.{length}
 use Rattle.questions.specs.Questions.{firstOf, sought}
 use Rattle.relocate.specs.Restore.{restore}
@@ -46,7 +45,8 @@ move-found-requires c κs =
     let R = restore (a .s .now) (a .olds .now) (a .news .now) (a .first) (a .settings) in
     let g = q .pre .0 in
     let f = c .before .before .cursor .result in
-    let e : c .before .before .before .before .before .before .before .of-frame .result ≡ firstOf (sought (a .s .now) (f .function) (f .address)) = rw (c .before .before .cursor .ensures) (c .before .before .before .before .before .before .before .of-frame .ensures) in
+    let h = c .before .before .before .before .before .before .before .of-frame in
+    let e : h .result ≡ firstOf (sought (a .s .now) (f .function) (f .address)) = rw (c .before .before .cursor .ensures) (h .ensures) in
     let p = early-passed R (a .image .now) (g .looked .section-right) (stopped (a .frame) []) (q .pre .4) in
     (g .looked .section-right, e, p .1, p .2, g .most-right, ap length (c .before .before .before .before .before .read-registers .ensures) ∙ registers-32 _ _)
 
@@ -61,7 +61,9 @@ returns c =
     let g = q .pre .0 in
     let d = c .before .before .before .before .before .before .before .before .before .read-registers .ensures in
     let e = frame-is (a .t .now) (a .k) (a .frame) _ (q .pre .3) d in
-    let o = one-moved R (a .image .now) (g .looked .section-right) (stopped (a .frame) _) (q .pre .4) (ap length d ∙ registers-32 _ _) (c .before .before .before .before .before .before .cursor .result) (c .before .before .before .before .before .before .cursor .ensures) _ _ _ (c .before .before .before .move-found .ensures) in
+    let w = c .before .before .before .before .before .before .cursor in
+    let m = c .before .before .before .move-found .ensures in
+    let o = one-moved R (a .image .now) (g .looked .section-right) (stopped (a .frame) _) (q .pre .4) (ap length d ∙ registers-32 _ _) (w .result) (w .ensures) _ _ _ m in
     (o .0 ∙ ap (answer R (a .image .now)) e, o .1 ∙ ap (moved R (a .image .now)) e)
 
 pub move-found-spec : {M : Type 1} → statement M

@@ -1,10 +1,9 @@
-use mathlib.Core.Path.{_≡_, sym, ap, _∙_}
+use mathlib.Core.Path.{sym, _∙_}
 use native.Mathlib.Omega.{arith}
 use lib.ListN.{length}
 use Rattle.questions.proofs.Standing.{tables-inside}
 use Rattle.relocate.specs.Restore.{restore}
-use Rattle.relocate.specs.Stopped.{stopped}
-use Rattle.replay.specs.Trace.{frameAt, registersAt, stepAt}
+use Rattle.replay.specs.Trace.{stepAt}
 use Rattle.replay.specs.Code.{frameNumber}
 use Rattle.replay_frames.proofs.Moving.{early-is, early-refused}
 use borrow.Author.Needs.{needs}

@@ -1,7 +1,6 @@
 use Prim.Native.Nat.{_+_, _-_, _≤_}
 use mathlib.Core.Path.{_≡_, refl}
 use native.Mathlib.Omega.{arith}
-use borrow.Author.Needs.{needs}
 use Rattle.relocate.specs.Restore.{restore}
 use Rattle.replay.specs.Code.{Done}
 use Rattle.replay.proofs.Replaying.{done-join}

@@ -1,6 +1,5 @@
-use mathlib.Core.Path.{_≡_, sym, _∙_}
+use mathlib.Core.Path.{sym, _∙_}
 use borrow.Author.Tests.{eq-eqb, ne-eqb}
-use native.Mathlib.Omega.{arith}
 use Rattle.replay.specs.Trace.{endStands}
 use Rattle.replay_trace.specs.Shapes.{ended}
 use borrow.Author.Needs.{needs}
