@@ -68,10 +68,10 @@ add-p c =
 
 returns : tie.Need-returns Inv-loop μ-loop
 returns c =
-    let o = c .before .before .before .owner in
+    let o = c .before .before .before .owner .ensures in
     let l = c .before .before .before .before .before in
-    let f = look-hit _ (l .before .before .before .before .before .pre .0) (l .loop .inv .0) _ _ (o .ensures .0) (o .ensures .1) (o .ensures .2) (o .ensures .3) (omega arith) in
-    f _ (c .before .before .address-at .ensures) _ (c .before .keeps .ensures) (c .if1 .left)
+    let a = c .before .before .address-at .ensures in
+    look-hit _ (l .before .before .before .before .before .pre .0) (l .loop .inv .0) _ _ (o .0) (o .1) (o .2) (o .3) (omega arith) _ a _ (c .before .keeps .ensures) (c .if1 .left)
 
 sub-t15 : tie.Need-sub-t15 Inv-loop μ-loop
 sub-t15 c = search needs
@@ -87,11 +87,12 @@ loop-less c = search needs
 
 loop-again : tie.Need-loop-again Inv-loop μ-loop
 loop-again c =
-    let o = c .before .before .before .before .before .owner in
+    let o = c .before .before .before .before .before .owner .ensures in
     let l = c .before .before .before .before .before .before .before in
-    let k = c .before .before .before in
-    let f = look-on _ (l .before .before .before .before .before .pre .0) (l .loop .inv .0) _ _ (o .ensures .0) (o .ensures .1) (o .ensures .2) (o .ensures .3) (omega arith) _ (k .before .address-at .ensures) _ (k .keeps .ensures) in
-    (f (c .before .before .if1 .taken) (c .before .shape-at .ensures .ends), omega (arith, l .loop .inv .1))
+    let a = c .before .before .before .before .address-at .ensures in
+    let k = c .before .before .before .keeps .ensures in
+    let z = c .before .shape-at .ensures .ends in
+    (look-on _ (l .before .before .before .before .before .pre .0) (l .loop .inv .0) _ _ (o .0) (o .1) (o .2) (o .3) (omega arith) _ a _ k (c .before .before .if1 .taken) z, omega (arith, l .loop .inv .1))
 
 returns-2 : tie.Need-returns-2 Inv-loop μ-loop
 returns-2 c = look-end _ (c .before .before .before .before .before .before .pre .0) (c .before .loop .inv .0) (omega arith)

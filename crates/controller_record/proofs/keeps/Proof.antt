@@ -1,4 +1,5 @@
 use mathlib.Core.Path.{sym, _∙_}
+use native.Mathlib.Omega.{arith}
 use Rattle.relocate.specs.Code.{recordOf, poolOf}
 use Rattle.controller.specs.Kept.{beforeOf}
 use Rattle.controller_record.proofs.Keeping.{keeps-late, keeps-falls, keeps-body}
@@ -9,7 +10,7 @@ use Rattle.controller_record.proofs.keeps.Tie as tie
 returns : tie.Need-returns
 returns c =
     let a = c .before .before .args in
-    λ e n d b. keeps-late (poolOf (a .s .now)) (beforeOf (a .number) (a .last)) e (a .number) (a .address) (recordOf (a .s .now) (a .at)) n d b (c .if1 .taken)
+    λ e n d b. keeps-late (poolOf (a .s .now)) (beforeOf (a .number) (a .last)) e (a .number) (a .address) (recordOf (a .s .now) (a .at)) n d b (omega arith)
 
 rises-requires : tie.Need-rises-requires
 rises-requires c κs = search needs
@@ -21,12 +22,12 @@ returns-2 : tie.Need-returns-2
 returns-2 c =
     let a = c .before .before .before .before .before .args in
     let h = sym (c .before .before .rises .ensures) ∙ c .before .if2 .taken in
-    λ e n d b. keeps-body (poolOf (a .s .now)) (beforeOf (a .number) (a .last)) e (a .number) (a .address) (recordOf (a .s .now) (a .at)) n d b (c .before .before .before .if1 .left) h _ (c .body-keeps .ensures)
+    λ e n d b. keeps-body (poolOf (a .s .now)) (beforeOf (a .number) (a .last)) e (a .number) (a .address) (recordOf (a .s .now) (a .at)) n d b (omega arith) h _ (c .body-keeps .ensures)
 
 returns-3 : tie.Need-returns-3
 returns-3 c =
     let a = c .before .before .before .before .args in
-    λ e n d b. keeps-falls (poolOf (a .s .now)) (beforeOf (a .number) (a .last)) e (a .number) (a .address) (recordOf (a .s .now) (a .at)) n d b (c .before .before .if1 .left) (sym (c .before .rises .ensures) ∙ c .if2 .left)
+    λ e n d b. keeps-falls (poolOf (a .s .now)) (beforeOf (a .number) (a .last)) e (a .number) (a .address) (recordOf (a .s .now) (a .at)) n d b (omega arith) (sym (c .before .rises .ensures) ∙ c .if2 .left)
 
 pub keeps-spec : {M : Type 1} → statement M
 keeps-spec = tie.close (tie.spec returns rises-requires body-keeps-requires returns-2 returns-3)

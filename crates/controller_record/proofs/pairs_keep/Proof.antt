@@ -1,4 +1,5 @@
 use mathlib.Core.Path.{_≡_, sym, _∙_}
+use native.Mathlib.Omega.{arith}
 use Rattle.relocate.specs.Code.{recordOf, poolOf}
 use Rattle.controller_record.proofs.Keeping.{pairs-wrong, pairs-right, pointers-are}
 use borrow.Author.Needs.{needs}
@@ -14,7 +15,7 @@ check-forms-requires c κs = search needs
 returns : tie.Need-returns
 returns c =
     let a = c .before .before .before .before .before .args in
-    rw (pairs-wrong (poolOf (a .s .now)) (recordOf (a .s .now) (a .at)) _ _ (c .before .before .before .pairs-of .ensures .counted) (c .before .before .check-forms .ensures .0) (c .if1 .taken))
+    rw (pairs-wrong (poolOf (a .s .now)) (recordOf (a .s .now) (a .at)) _ _ (c .before .before .before .pairs-of .ensures .counted) (c .before .before .check-forms .ensures .0) (omega arith))
 
 returns-2 : tie.Need-returns-2
 returns-2 c =
