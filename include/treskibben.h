@@ -1065,7 +1065,8 @@ typedef struct treskibben_replay_answer {
  *           image is unchanged
  *   0       the frames are moved                                     0
  *
- * Every other refusal, 31 too, is an answer of a frame, which is compared.
+ * Every other refusal, 31 too, is an answer of a frame, which is compared. The call needs about 170 KiB of
+ * stack.
  */
 treskibben_replay_answer treskibben_edition_replay(
     treskibben_editions store, uint64_t edition, const uint8_t *section, size_t length,
