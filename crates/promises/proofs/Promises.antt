@@ -11,6 +11,7 @@ use Rattle.relocate.proofs.Consequences
 use Rattle.relocate_twice.proofs.Twice
 use Rattle.relocate_twice.proofs.Without
 use Rattle.explain.proofs.Laws
+use Rattle.restores.proofs.Editions
 use Rattle.thread.proofs.OneInstant
 use Rattle.report.proofs.Reports
 use Rattle.promises.specs.Promises.{Promises}
@@ -32,6 +33,8 @@ promises =
       demand3 = Demand.demand3;
       order-free = Demand.order-free;
       pair-order = Reorder.pair-order;
+      under-edition = Editions.under-edition;
+      unknown-edition = Editions.unknown-edition;
       one-instant = OneInstant.one-instant;
       index-ordered = Ordered.index-ordered;
       index-answers = Same.index-answers;

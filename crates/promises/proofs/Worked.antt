@@ -29,7 +29,10 @@ use Rattle.relocate.specs.Plan.{recordsOf, only, every, imageRight, extentRight
 use Rattle.relocate.specs.Restore.{sameMachine, allowed}
 use Rattle.relocate.specs.Stopped.{registersRight, cursor}
 use Rattle.relocate.specs.Relocation.{answer, moved}
-use Rattle.promises.specs.Worked.{got, headerWith, sectionH, listingH, sectionOldH, listingOldH, image, table, WorkedTable}
+use Rattle.editions.specs.Calls.{settingsRight}
+use Rattle.editions.specs.Store.{holds, look, room, kept, makeIn, empty}
+use Rattle.editions_settings.specs.Under.{settingsOf, under}
+use Rattle.promises.specs.Worked.{got, store, headerWith, sectionH, listingH, sectionOldH, listingOldH, image, table, WorkedTable}
 
 pub worked : WorkedTable
 unfolding word bytes must chain bind pick shift bytesOf size all many functionFields constantFields locationFields liveOutFields
@@ -42,6 +45,6 @@ unfolding word bytes must chain bind pick shift bytesOf size all many functionFi
     withAddress atOffset ofFunction sought constantOf splice lowest rising noZero tableRight lookUp Slots.same Slots.overlap Pointers.anyOverlap
     Pointers.slotsClash Pointers.clash Pointers.newDerived Pointers.newContent atLowest first20 first21 settled settle
     deoptCount constantHead pairedRest isStatepoint pairUp pairs isZero isNull sizeRight pointersIn isFrameOrStack isMemorySlot isRegisterSlot isSlot sameSize rightForm registerOf asOffset
-    slotAddress isRegister slotsInside slotAt inside flatten pointersOf pairOf recordsOf only every imageRight extentRight planPairs planRecord sameMachine allowed registersRight cursor plan answer moved got
+    slotAddress isRegister slotsInside slotAt inside flatten pointersOf pairOf recordsOf only every imageRight extentRight planPairs planRecord sameMachine allowed registersRight cursor plan answer moved settingsRight holds look room kept makeIn empty settingsOf under store got
     headerWith sectionH listingH sectionOldH listingOldH image table
 worked = refl

@@ -9,6 +9,7 @@ use Rattle.relocate.specs.Consequences.{Untouched, KeepsCursor, Counts, KeepsDi
 use Rattle.relocate_twice.specs.Twice.{TwoMoves, JoinedTables}
 use Rattle.relocate_twice.specs.Without.{WithoutSelfPair}
 use Rattle.explain.specs.Laws.{Explains}
+use Rattle.restores.specs.Laws.{UnderEdition, UnknownEdition}
 use Rattle.thread.specs.Theorems.{OneInstant}
 use Rattle.report.specs.Laws as Report
 use Rattle.promises.specs.Worked.{WorkedTable}
@@ -30,6 +31,9 @@ pub record Promises : Type 0 where
   pub demand3 : Demand3
   pub order-free : OrderFree
   pub pair-order : PairOrder
+  -- so it is under one edition: its moves are those of the one restore with its settings; and 31 changes nothing
+  pub under-edition : UnderEdition
+  pub unknown-edition : UnknownEdition
   -- a whole thread in one call: all frames move, or none does
   pub one-instant : OneInstant
   -- an address index is the one order of a section's rows, and with it a lookup gives what the plain walk gives

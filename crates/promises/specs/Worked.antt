@@ -1,7 +1,7 @@
 -- Document 01's worked table, with document 02's change of row D and some rows of version 1: what is asked, and what is answered.
 use Prim.Native.Nat.{ℕ, zero, suc}
 use mathlib.Core.Path.{_≡_}
-use mathlib.Core.Bool.{Bool, true, false, not}
+use mathlib.Core.Bool.{Bool, true, false}
 use mathlib.Core.List.{List, [], _∷_, _++_, map}
 use lib.ListN.{replicate}
 use Rattle.wire.specs.Word.{bytes}
@@ -12,12 +12,11 @@ use Rattle.stackmap.specs.Check.{sectionCheck}
 use Rattle.listing.specs.Listing.{Converted, toListing, toSection}
 use Rattle.listing.specs.RoundTrip.{result}
 use Rattle.moves.specs.declared.Move.{Move}
-use Rattle.relocate.specs.declared.Frame.{Frame}
-use Rattle.relocate.specs.declared.Machine.the-variants.{Amd64}
-use Rattle.relocate.specs.declared.Settings.{Settings}
-use Rattle.relocate.specs.Restore.{restore}
-use Rattle.relocate.specs.Stopped.{Stopped}
-use Rattle.relocate.specs.Relocation.{answer, moved}
+use Rattle.editions.specs.declared.Settings.{Settings}
+use Rattle.editions.specs.declared.Store.{Store}
+use Rattle.editions.specs.Store.{empty, makeIn}
+use Rattle.restores.specs.Restores.{request}
+use Rattle.restores.specs.Moves.{Numbered, numbered, answerUnder, movedUnder}
 
 -- what is asked: the check of a section, a section's listing, a listing's section, or a move of a frame at 0x1020 (in version 1: at the
 -- offset 0x20 of function 0) with RSP 0x7000, by a table of one object (old start, new start), in an image from 0x7000
@@ -51,13 +50,18 @@ shifted (suc n) a im = leaves (suc n) (a .place) im
 abbrev pub registers : List ℕ
 registers = replicate 7 0 ++ (0x7000 ∷ replicate 24 0)
 
-abbrev pub frame : Bool → Stopped
-frame true = record { frame = record { machine = Amd64; address = 0x20; function = 0 }; registers = registers }
-frame false = record { frame = record { machine = Amd64; address = 0x1020; function = 0 }; registers = registers }
+abbrev pub frame : Bool → Numbered
+frame true = numbered 0 0x20 0 registers
+frame false = numbered 0 0x1020 0 registers
 
 -- document 02: the worked moves name an edition with 256, AMD64 and version 3; those in version 1 one that allows it
-abbrev pub edition : Bool → Settings
-edition old = record { most = 256; machine = Amd64; version1 = old; version3 = not old }
+abbrev pub settings : Bool → Settings
+settings true = record { most = 256; machine = 0; version1 = 1; version3 = 0 }
+settings false = record { most = 256; machine = 0; version1 = 0; version3 = 1 }
+
+-- made in an empty store, where it is edition 1
+unfoldable pub store : Bool → Store
+store old = makeIn empty (settings old) .left
 
 -- an output with room enough
 abbrev pub room : List ℕ
@@ -68,9 +72,9 @@ got (check s) = checked (sectionCheck s)
 got (listingOf s) = let c = toListing s room in converted (c .number) c
 got (sectionOf l) = let c = toSection l room in converted (c .number) c
 got (moveIn s old new im) =
-    let R = restore s (old ∷ []) (new ∷ []) 0x7000 (edition (isOld s)) in
-    let a = answer R im (frame (isOld s)) in
-    shifted (a .number) a (moved R im (frame (isOld s)))
+    let Q = request (store (isOld s)) 1 s (old ∷ []) (new ∷ []) 0x7000 in
+    let a = answerUnder Q im (frame (isOld s)) in
+    shifted (a .number) a (movedUnder Q im (frame (isOld s)))
 
 -- a header of version v with three counts
 unfoldable pub headerWith : ℕ → ℕ → ℕ → ℕ → List ℕ

@@ -11,9 +11,5 @@ pub extern "C" fn treskibben_fill_index(section: &[u8], index: &mut [u64]) -> An
     ensures { λ r. ⌜ (r ≡ listed (fillIndex (now (section .entry)) (now (index .entry)))) × (now (index .exit) ≡ fillIndex (now (section .entry)) (now (index .entry)) .output) ⌝ }
 {
     let w = index_fill::fill(section, index);
-    Answer {
-        number: w.number as u64,
-        place: w.place as u64,
-        value: w.written as u64,
-    }
+    treskibben_answers::written_answer(w)
 }

@@ -22,7 +22,7 @@ pub extern "C" fn treskibben_edition_make(
 ) -> treskibben_editions::MakeAnswer
     ensures { λ r. ⌜ r ≡ Answer.makeAnswer (madeAnswer (makeIn store settings)) ⌝ }
 {
-    treskibben_editions::make_answer(editions_store::make(store, settings))
+    treskibben_editions::make(store, settings)
 }
 
 // Retires an edition: 31 for one that is unknown or retired. A refusal leaves the store as it was.
@@ -33,7 +33,7 @@ pub extern "C" fn treskibben_edition_retire(
 ) -> treskibben_editions::RetireAnswer
     ensures { λ r. ⌜ r ≡ Answer.retireAnswer (retiredAnswer (retireIn store edition)) ⌝ }
 {
-    treskibben_editions::retire_answer(editions_store::retire(store, edition))
+    treskibben_editions::retire(store, edition)
 }
 
 // The settings of an edition: 31 for one that is unknown or retired.
@@ -44,5 +44,5 @@ pub extern "C" fn treskibben_edition_read(
 ) -> treskibben_editions::ReadAnswer
     ensures { λ r. ⌜ r ≡ Answer.readAnswer (readAnswer (readIn store edition)) ⌝ }
 {
-    treskibben_editions::read_answer(editions_store::read(store, edition))
+    treskibben_editions::read(store, edition)
 }

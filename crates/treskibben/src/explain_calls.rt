@@ -3,12 +3,13 @@ ghost use mathlib.Core.Path.{_≡_};
 ghost use Rattle.moves.specs.Slots.{memory, register};
 ghost use Rattle.relocate.specs.Restore.{restore, everything};
 ghost use Rattle.relocate.specs.Stopped.{stopped};
+ghost use Rattle.explain.specs.declared.Reason.the-variants.{Refused};
 ghost use Rattle.explain.specs.Explain.{explained};
 ghost use Rattle.treskibben_answers.specs.Answer.{frameOf};
-ghost use Rattle.treskibben_answers.specs.Machine.{machineOf};
-ghost use Rattle.treskibben_reasons.specs.Answer.{reasonAnswer, ofMachine};
-use crate::LAST_MACHINE;
+ghost use Rattle.editions_settings.specs.Machine.{machineOf, ofMachine};
+ghost use Rattle.treskibben_reasons.specs.Answer.{reasonAnswer};
 use explain::Asked;
+use restores::LAST_MACHINE;
 use treskibben_answers as answers;
 use treskibben_reasons::ReasonAnswer;
 
@@ -25,7 +26,7 @@ pub extern "C" fn treskibben_explain_address(
     registers: &[u64],
     address: u64,
 ) -> ReasonAnswer
-    ensures { λ r. ⌜ r ≡ reasonAnswer (ofMachine machine (now (section .entry))
+    ensures { λ r. ⌜ r ≡ reasonAnswer (ofMachine Refused machine (now (section .entry))
         (explained (restore (now (section .entry)) (now (olds .entry)) (now (news .entry)) first (everything (machineOf machine))) (now (image .entry))
         (stopped (frameOf (machineOf machine) frame) (now (registers .entry))) (memory address))) ⌝ }
 {
@@ -34,7 +35,7 @@ pub extern "C" fn treskibben_explain_address(
             section,
         )));
     }
-    let known = answers::machine_of(machine);
+    let known = editions_settings::machine_of(machine);
     treskibben_reasons::reason_answer(explain_slot::explain(
         section,
         image,
@@ -43,7 +44,7 @@ pub extern "C" fn treskibben_explain_address(
         news,
         answers::frame_of(known, frame),
         registers,
-        answers::everything(known),
+        editions_settings::everything(known),
         Asked::Address(address),
     ))
 }
@@ -61,7 +62,7 @@ pub extern "C" fn treskibben_explain_register(
     registers: &[u64],
     number: u64,
 ) -> ReasonAnswer
-    ensures { λ r. ⌜ r ≡ reasonAnswer (ofMachine machine (now (section .entry))
+    ensures { λ r. ⌜ r ≡ reasonAnswer (ofMachine Refused machine (now (section .entry))
         (explained (restore (now (section .entry)) (now (olds .entry)) (now (news .entry)) first (everything (machineOf machine))) (now (image .entry))
         (stopped (frameOf (machineOf machine) frame) (now (registers .entry))) (register number))) ⌝ }
 {
@@ -70,7 +71,7 @@ pub extern "C" fn treskibben_explain_register(
             section,
         )));
     }
-    let known = answers::machine_of(machine);
+    let known = editions_settings::machine_of(machine);
     treskibben_reasons::reason_answer(explain_slot::explain(
         section,
         image,
@@ -79,7 +80,7 @@ pub extern "C" fn treskibben_explain_register(
         news,
         answers::frame_of(known, frame),
         registers,
-        answers::everything(known),
+        editions_settings::everything(known),
         Asked::Register(number),
     ))
 }

@@ -1,13 +1,14 @@
 // The exported functions that are handed an address index, for C and Rust, and nothing else.
 ghost use mathlib.Core.Path.{_≡_};
 ghost use Rattle.index.specs.Index.{byIndex, allByIndex};
+ghost use Rattle.moves.specs.Settle.{refusedMove};
 ghost use Rattle.relocate.specs.Restore.{restore, everything};
 ghost use Rattle.thread_index.specs.ByIndex.{threadByIndexAnswer, threadByIndexImage, threadByIndexRegisters};
 ghost use Rattle.thread.specs.Thread.{threadOf};
 ghost use Rattle.treskibben_answers.specs.Answer.{findAnswerOf, moveAnswer};
-ghost use Rattle.treskibben_answers.specs.Machine.{machineOf, ofMachine, leftOf};
+ghost use Rattle.editions_settings.specs.Machine.{machineOf, ofMachine, leftOf};
 ghost use Rattle.treskibben.specs.AddressIndex.{listed};
-use crate::LAST_MACHINE;
+use restores::LAST_MACHINE;
 
 // The question by address through an index: the section's refusal, 27 on version 1, 29 unless the list is the section's index, 10 exactly if
 // no record has the address; or the first record with it, its function, and how many records share it.
@@ -34,11 +35,7 @@ pub extern "C" fn treskibben_find_all_by_index(
     ensures { λ r. ⌜ (r ≡ listed (allByIndex (now (section .entry)) (now (index .entry)) (now (addresses .entry)) (now (answers .entry)))) × (now (answers .exit) ≡ allByIndex (now (section .entry)) (now (index .entry)) (now (addresses .entry)) (now (answers .entry)) .output) ⌝ }
 {
     let w = index_find_all::find_all_by_index(section, index, addresses, answers);
-    treskibben_answers::Answer {
-        number: w.number as u64,
-        place: w.place as u64,
-        value: w.written as u64,
-    }
+    treskibben_answers::written_answer(w)
 }
 
 // The move of a whole thread that is handed an index: as `treskibben_thread`, and 27 and 29 between 14 and 25.
@@ -54,7 +51,7 @@ pub extern "C" fn treskibben_thread_by_index(
     registers: &mut [u64],
     index: &[u64],
 ) -> treskibben_answers::Answer
-    ensures { λ r. ⌜ (r ≡ moveAnswer (ofMachine machine (now (section .entry)) (threadByIndexAnswer (restore (now (section .entry)) (now (olds .entry)) (now (news .entry)) first (everything (machineOf machine)))
+    ensures { λ r. ⌜ (r ≡ moveAnswer (ofMachine refusedMove machine (now (section .entry)) (threadByIndexAnswer (restore (now (section .entry)) (now (olds .entry)) (now (news .entry)) first (everything (machineOf machine)))
         (now (image .entry)) (now (index .entry)) (threadOf (machineOf machine) (now (frames .entry)) (now (registers .entry))))))
         × (now (image .exit) ≡ leftOf machine (now (image .entry)) (threadByIndexImage (restore (now (section .entry)) (now (olds .entry)) (now (news .entry)) first (everything (machineOf machine)))
         (now (image .entry)) (now (index .entry)) (threadOf (machineOf machine) (now (frames .entry)) (now (registers .entry)))))
@@ -64,7 +61,7 @@ pub extern "C" fn treskibben_thread_by_index(
     if machine > LAST_MACHINE {
         return treskibben_answers::unknown_machine(stackmap_check::check(section));
     }
-    let known = treskibben_answers::machine_of(machine);
+    let known = editions_settings::machine_of(machine);
     treskibben_answers::move_answer(thread_index::relocate_thread_by_index(
         section,
         image,
@@ -75,6 +72,6 @@ pub extern "C" fn treskibben_thread_by_index(
         frames,
         registers,
         index,
-        treskibben_answers::everything(known),
+        editions_settings::everything(known),
     ))
 }

@@ -3,21 +3,21 @@ ghost use mathlib.Core.Path.{_≡_};
 ghost use Rattle.stackmap.specs.Check.{sectionCheck};
 ghost use Rattle.questions.specs.Questions.{byAddress, byFunction, recordPlace, locationAnswer, liveOutAnswer};
 ghost use Rattle.listing.specs.Listing.{toListing, toSection};
+ghost use Rattle.moves.specs.Settle.{refusedMove};
 ghost use Rattle.relocate.specs.Restore.{restore, everything};
 ghost use Rattle.relocate.specs.Stopped.{stopped};
 ghost use Rattle.relocate.specs.Relocation;
 ghost use Rattle.thread.specs.Thread.{threadAnswer, threadImage, threadRegisters};
 ghost use Rattle.thread.specs.Thread.{threadOf};
-ghost use Rattle.treskibben_answers.specs.Machine.{machineOf, ofMachine, leftOf};
+ghost use Rattle.editions_settings.specs.Machine.{machineOf, ofMachine, leftOf};
 ghost use Rattle.treskibben_answers.specs.Answer.{answer, converted, moveAnswer, frameOf, findAnswerOf, recordPlaceOf, locationOf, liveOutOf};
 ghost use Rattle.treskibben_answers.specs.Version.{version};
+use restores::LAST_MACHINE;
 use treskibben_answers as answers;
-
-// AArch64, the machine with the greatest number.
-pub const LAST_MACHINE: u64 = 1;
 
 pub mod address_index;
 pub mod edition_calls;
+pub mod edition_moves;
 pub mod explain_calls;
 pub mod flat_sections;
 pub mod index_lookups;
@@ -131,7 +131,7 @@ pub extern "C" fn treskibben_relocate(
     frame: answers::Frame,
     registers: &mut [u64],
 ) -> answers::Answer
-    ensures { λ r. ⌜ (r ≡ moveAnswer (ofMachine machine (now (section .entry))
+    ensures { λ r. ⌜ (r ≡ moveAnswer (ofMachine refusedMove machine (now (section .entry))
         (Relocation.answer (restore (now (section .entry)) (now (olds .entry)) (now (news .entry)) first (everything (machineOf machine))) (now (image .entry)) (stopped (frameOf (machineOf machine) frame) (now (registers .entry))))))
         × (now (image .exit) ≡ leftOf machine (now (image .entry))
         (Relocation.moved (restore (now (section .entry)) (now (olds .entry)) (now (news .entry)) first (everything (machineOf machine))) (now (image .entry)) (stopped (frameOf (machineOf machine) frame) (now (registers .entry)))))
@@ -141,7 +141,7 @@ pub extern "C" fn treskibben_relocate(
     if machine > LAST_MACHINE {
         return answers::unknown_machine(stackmap_check::check(section));
     }
-    let known = answers::machine_of(machine);
+    let known = editions_settings::machine_of(machine);
     answers::move_answer(relocate_frame::relocate(
         section,
         image,
@@ -150,7 +150,7 @@ pub extern "C" fn treskibben_relocate(
         news,
         answers::frame_of(known, frame),
         registers,
-        answers::everything(known),
+        editions_settings::everything(known),
     ))
 }
 
@@ -168,7 +168,7 @@ pub extern "C" fn treskibben_thread(
     frames: &[u64],
     registers: &mut [u64],
 ) -> answers::Answer
-    ensures { λ r. ⌜ (r ≡ moveAnswer (ofMachine machine (now (section .entry)) (threadAnswer (restore (now (section .entry)) (now (olds .entry)) (now (news .entry)) first (everything (machineOf machine)))
+    ensures { λ r. ⌜ (r ≡ moveAnswer (ofMachine refusedMove machine (now (section .entry)) (threadAnswer (restore (now (section .entry)) (now (olds .entry)) (now (news .entry)) first (everything (machineOf machine)))
         (now (image .entry)) (threadOf (machineOf machine) (now (frames .entry)) (now (registers .entry))))))
         × (now (image .exit) ≡ leftOf machine (now (image .entry)) (threadImage (restore (now (section .entry)) (now (olds .entry)) (now (news .entry)) first (everything (machineOf machine)))
         (now (image .entry)) (threadOf (machineOf machine) (now (frames .entry)) (now (registers .entry)))))
@@ -178,7 +178,7 @@ pub extern "C" fn treskibben_thread(
     if machine > LAST_MACHINE {
         return answers::unknown_machine(stackmap_check::check(section));
     }
-    let known = answers::machine_of(machine);
+    let known = editions_settings::machine_of(machine);
     answers::move_answer(thread_call::relocate_thread(
         section,
         image,
@@ -188,6 +188,6 @@ pub extern "C" fn treskibben_thread(
         known,
         frames,
         registers,
-        answers::everything(known),
+        editions_settings::everything(known),
     ))
 }

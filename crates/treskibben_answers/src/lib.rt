@@ -3,11 +3,7 @@ ghost use mathlib.Core.Path.{_≡_};
 ghost use Rattle.treskibben_answers.specs.Answer.{answer, moveAnswer, frameOf, findAnswerOf, recordPlaceOf, contentNumber, locationOf, liveOutOf};
 ghost use Rattle.questions.specs.Questions.{signed, ask};
 ghost use Rattle.moves.specs.Settle.{refusedMove};
-ghost use Rattle.treskibben_answers.specs.Machine.{machineOf};
 ghost use Rattle.treskibben_answers.specs.Version.{version};
-ghost use Prim.Native.Nat.{_≤_};
-ghost use Rattle.moves.specs.Limits.{pairsMost};
-ghost use Rattle.relocate.specs.Restore as spec;
 use stackmap::Verdict;
 
 // The number of the interface.
@@ -157,14 +153,15 @@ pub fn conversion_answer(c: listing::Conversion) -> Answer
     }
 }
 
-// A machine that is known, by its number.
-pub fn machine_of(number: u64) -> relocate::Machine
-    ensures { λ r. ⌜ r ≡ machineOf number ⌝ }
+// A call that writes numbers into a lent list: a refusal, or how many it wrote.
+pub fn written_answer(w: index::Written) -> Answer
+    ensures { λ r. ⌜ r ≡ record { number = w .number; place = w .place; value = w .written } ⌝ }
 {
-    if number == 0 {
-        return relocate::Machine::Amd64;
+    Answer {
+        number: w.number as u64,
+        place: w.place as u64,
+        value: w.written as u64,
     }
-    relocate::Machine::Aarch64
 }
 
 // A move for a machine that is not known: the section's refusal, or 33.
@@ -199,18 +196,6 @@ pub fn frame_of(machine: relocate::Machine, f: Frame) -> relocate::Frame
         machine,
         address: f.address,
         function: f.function,
-    }
-}
-
-// Settings that allow everything to a frame of this machine.
-pub fn everything(machine: relocate::Machine) -> relocate::Settings
-    ensures { λ r. ⌜ (r ≡ spec.everything machine) × (r .most ≤ pairsMost) ⌝ }
-{
-    relocate::Settings {
-        most: moves::PAIRS_MOST,
-        machine,
-        version1: true,
-        version3: true,
     }
 }
 

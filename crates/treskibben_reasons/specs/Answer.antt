@@ -1,13 +1,8 @@
 -- A reason as it crosses the C boundary: reason, number, place, pair, old base and new base, with zeros where there is nothing to tell.
-use Prim.Native.Nat.{ℕ}
-use mathlib.Core.Bool.{cond}
-use mathlib.Core.List.{List}
 use Rattle.stackmap.specs.declared.Verdict.{Verdict}
-use Rattle.stackmap.specs.Check.{sectionCheck}
 use Rattle.questions.specs.Questions.{ask}
 use Rattle.explain.specs.declared.Reason.{Reason}
 use Rattle.explain.specs.declared.Reason.the-variants.{Unlisted, OnlyBase, NullBase, Moved, Refused}
-use Rattle.treskibben_answers.specs.Machine.{machineKnown}
 use Rattle.treskibben_reasons.specs.declared.ReasonAnswer.{ReasonAnswer}
 
 -- the reasons' numbers: 0 unlisted, 1 listed only as base, 2 null base, 3 moved, 4 refused
@@ -21,6 +16,3 @@ reasonAnswer (Refused n p) = record { reason = 4; number = n; place = p; pair = 
 -- a machine's number that is none is 33, directly after the section's own refusals
 abbrev pub unknownMachine : Verdict → Reason
 unknownMachine v = ask Refused (Refused 33 0) v
-
-abbrev pub ofMachine : ℕ → List ℕ → Reason → Reason
-ofMachine n s r = cond (machineKnown n) r (unknownMachine (sectionCheck s))

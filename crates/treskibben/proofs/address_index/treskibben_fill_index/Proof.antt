@@ -6,8 +6,8 @@ use Rattle.treskibben.proofs.address_index.treskibben_fill_index.Tie as
 fill-requires : tie.Need-fill-requires
 fill-requires c κs = search needs
 
-cast-t6 : tie.Need-cast-t6
-cast-t6 c = search needs
+written-answer-requires : tie.Need-written-answer-requires
+written-answer-requires c κs = search needs
 
 same-length : tie.Need-same-length
 same-length c = search needs
@@ -15,7 +15,7 @@ same-length c = search needs
 returns : tie.Need-returns
 returns c =
     let t = c .before .before .before .fill .ensures in
-    (rw (t .number, t .place, t .written), t .output)
+    (rw (c .written-answer .ensures, t .number, t .place, t .written), t .output)
 
 pub treskibben-fill-index-spec : {M : Type 1} → statement M
-treskibben-fill-index-spec = tie.close (tie.spec fill-requires cast-t6 same-length returns)
+treskibben-fill-index-spec = tie.close (tie.spec fill-requires written-answer-requires same-length returns)

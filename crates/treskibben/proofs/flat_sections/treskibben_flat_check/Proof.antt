@@ -1,3 +1,5 @@
+use mathlib.Core.Path.{ap, _∙_}
+use Rattle.treskibben_flat.specs.Flat.{checked}
 use borrow.Author.Needs.{needs}
 use Rattle.treskibben.proofs.flat_sections.treskibben_flat_check.Statement.{statement}
 use Rattle.treskibben.proofs.flat_sections.treskibben_flat_check.Tie as tie
@@ -5,11 +7,11 @@ use Rattle.treskibben.proofs.flat_sections.treskibben_flat_check.Tie as
 check-requires : tie.Need-check-requires
 check-requires c κs = search needs
 
-cast-t3 : tie.Need-cast-t3
-cast-t3 c = search needs
+checked-answer-requires : tie.Need-checked-answer-requires
+checked-answer-requires c κs = search needs
 
 returns : tie.Need-returns
-returns c = rw (← c .check .ensures)
+returns c = c .checked-answer .ensures ∙ ap checked (c .before .check .ensures)
 
 pub treskibben-flat-check-spec : {M : Type 1} → statement M
-treskibben-flat-check-spec = tie.close (tie.spec check-requires cast-t3 returns)
+treskibben-flat-check-spec = tie.close (tie.spec check-requires checked-answer-requires returns)

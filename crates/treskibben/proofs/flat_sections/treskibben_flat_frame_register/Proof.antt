@@ -1,3 +1,5 @@
+use mathlib.Core.Path.{ap, _∙_}
+use Rattle.treskibben_flat.specs.Flat.{registerOf}
 use borrow.Author.Needs.{needs}
 use Rattle.treskibben.proofs.flat_sections.treskibben_flat_frame_register.Statement.{statement}
 use Rattle.treskibben.proofs.flat_sections.treskibben_flat_frame_register.Tie as tie
@@ -5,11 +7,11 @@ use Rattle.treskibben.proofs.flat_sections.treskibben_flat_frame_regist
 register-requires : tie.Need-register-requires
 register-requires c κs = search needs
 
-cast-t4 : tie.Need-cast-t4
-cast-t4 c = search needs
+register-answer-requires : tie.Need-register-answer-requires
+register-answer-requires c κs = search needs
 
 returns : tie.Need-returns
-returns c = rw (← c .before .register .ensures)
+returns c = c .register-answer .ensures ∙ ap registerOf (c .before .register .ensures)
 
 pub treskibben-flat-frame-register-spec : {M : Type 1} → statement M
-treskibben-flat-frame-register-spec = tie.close (tie.spec register-requires cast-t4 returns)
+treskibben-flat-frame-register-spec = tie.close (tie.spec register-requires register-answer-requires returns)

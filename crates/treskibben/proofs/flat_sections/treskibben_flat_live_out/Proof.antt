@@ -1,3 +1,5 @@
+use mathlib.Core.Path.{ap, _∙_}
+use Rattle.treskibben_flat.specs.Flat.{liveOutOf}
 use borrow.Author.Needs.{needs}
 use Rattle.treskibben.proofs.flat_sections.treskibben_flat_live_out.Statement.{statement}
 use Rattle.treskibben.proofs.flat_sections.treskibben_flat_live_out.Tie as tie
@@ -5,11 +7,11 @@ use Rattle.treskibben.proofs.flat_sections.treskibben_flat_live_out.Tie
 live-out-requires : tie.Need-live-out-requires
 live-out-requires c κs = search needs
 
-cast-t4 : tie.Need-cast-t4
-cast-t4 c = search needs
+live-out-answer-requires : tie.Need-live-out-answer-requires
+live-out-answer-requires c κs = search needs
 
 returns : tie.Need-returns
-returns c = rw (← c .before .live-out .ensures)
+returns c = c .live-out-answer .ensures ∙ ap liveOutOf (c .before .live-out .ensures)
 
 pub treskibben-flat-live-out-spec : {M : Type 1} → statement M
-treskibben-flat-live-out-spec = tie.close (tie.spec live-out-requires cast-t4 returns)
+treskibben-flat-live-out-spec = tie.close (tie.spec live-out-requires live-out-answer-requires returns)

@@ -1,3 +1,5 @@
+use mathlib.Core.Path.{ap, _∙_}
+use Rattle.treskibben_flat.specs.Flat.{locationOf}
 use borrow.Author.Needs.{needs}
 use Rattle.treskibben.proofs.flat_sections.treskibben_flat_location.Statement.{statement}
 use Rattle.treskibben.proofs.flat_sections.treskibben_flat_location.Tie as tie
@@ -5,11 +7,11 @@ use Rattle.treskibben.proofs.flat_sections.treskibben_flat_location.Tie
 location-requires : tie.Need-location-requires
 location-requires c κs = search needs
 
-cast-t4 : tie.Need-cast-t4
-cast-t4 c = search needs
+location-answer-requires : tie.Need-location-answer-requires
+location-answer-requires c κs = search needs
 
 returns : tie.Need-returns
-returns c = rw (← c .before .location .ensures)
+returns c = c .location-answer .ensures ∙ ap locationOf (c .before .location .ensures)
 
 pub treskibben-flat-location-spec : {M : Type 1} → statement M
-treskibben-flat-location-spec = tie.close (tie.spec location-requires cast-t4 returns)
+treskibben-flat-location-spec = tie.close (tie.spec location-requires location-answer-requires returns)

@@ -1,3 +1,5 @@
+use mathlib.Core.Path.{ap, _∙_}
+use Rattle.treskibben_flat.specs.Flat.{recordOf}
 use borrow.Author.Needs.{needs}
 use Rattle.treskibben.proofs.flat_sections.treskibben_flat_record.Statement.{statement}
 use Rattle.treskibben.proofs.flat_sections.treskibben_flat_record.Tie as tie
@@ -5,11 +7,11 @@ use Rattle.treskibben.proofs.flat_sections.treskibben_flat_record.Tie a
 record-requires : tie.Need-record-requires
 record-requires c κs = search needs
 
-cast-t4 : tie.Need-cast-t4
-cast-t4 c = search needs
+record-answer-requires : tie.Need-record-answer-requires
+record-answer-requires c κs = search needs
 
 returns : tie.Need-returns
-returns c = rw (← c .before .record .ensures)
+returns c = c .record-answer .ensures ∙ ap recordOf (c .before .record .ensures)
 
 pub treskibben-flat-record-spec : {M : Type 1} → statement M
-treskibben-flat-record-spec = tie.close (tie.spec record-requires cast-t4 returns)
+treskibben-flat-record-spec = tie.close (tie.spec record-requires record-answer-requires returns)

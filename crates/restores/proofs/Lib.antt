@@ -1,0 +1,4 @@
+pub mod Laws
+pub mod Moving
+mod Beginning
+pub mod Editions

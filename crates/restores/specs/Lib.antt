@@ -1,0 +1,4 @@
+pub mod Restores
+pub mod Moves
+pub mod Laws
+pub mod Code
