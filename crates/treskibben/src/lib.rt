@@ -19,6 +19,7 @@ pub mod address_index;
 pub mod edition_calls;
 pub mod edition_moves;
 pub mod explain_calls;
+pub mod explain_reports;
 pub mod flat_sections;
 pub mod index_lookups;
 pub mod reports;

@@ -18,6 +18,9 @@ Inv-loop s at start count old window registers live bases derived pointers olds 
 abbrev μ-loop : tie.MeasureT-loop
 μ-loop s at start count old window registers live bases derived pointers olds news frame rows₀ to position k₀ rows k = pointers - k
 
+returns : tie.Need-returns Inv-loop μ-loop
+returns c = rowing-end _ _ _ _ _ _ _ (c .before .loop .inv) (omega arith)
+
 loop-holds : tie.Need-loop-holds Inv-loop μ-loop
 loop-holds c = rowing-start _ _ _ _ _
 
@@ -57,9 +60,6 @@ loop-again c =
 
 same-length : tie.Need-same-length Inv-loop μ-loop
 same-length c = c .before .loop .inv .wide
-
-returns : tie.Need-returns Inv-loop μ-loop
-returns c = rowing-end _ _ _ _ _ _ _ (c .before .loop .inv) (omega arith)
 
 pub put-rows-spec : {M : Type 1} → statement M
 put-rows-spec =

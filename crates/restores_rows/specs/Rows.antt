@@ -1,0 +1,16 @@
+-- Why, for all slots of a frame at once, under the edition that the frame's move names.
+use Prim.Native.Nat.{ℕ}
+use mathlib.Core.List.{List}
+use Rattle.moves.specs.declared.Move.{Move}
+use Rattle.moves.specs.Settle.{refusedMove}
+use Rattle.explain.specs.Rows.{explainFrame, explainFrameList}
+use Rattle.restores.specs.Restores.{Request, byEdition, leftByEdition}
+use Rattle.restores.specs.Moves.{Numbered, stoppedOf}
+
+-- refused by 31, 1 to 9 or 33 as the move is; and else what the restore with the edition's settings gives
+abbrev pub explainFrameUnder : Request → List ℕ → Numbered → List ℕ → Move
+explainFrameUnder Q im g lent = byEdition Q (g .machine) refusedMove (λ R. explainFrame R im (stoppedOf g) lent)
+
+-- and the list that it leaves
+abbrev pub explainFrameListUnder : Request → List ℕ → Numbered → List ℕ → List ℕ
+explainFrameListUnder Q im g lent = leftByEdition Q (g .machine) lent (λ R. explainFrameList R im (stoppedOf g) lent)
