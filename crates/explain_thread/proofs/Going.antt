@@ -1,7 +1,7 @@
 -- The rows of a thread's frames, written one frame after another.
 use Prim.Native.Nat.{ℕ, suc, _+_, _*_, _-_, _≤_, _<_}
 use mathlib.Core.Path.{_≡_, refl, sym, ap, _∙_}
-use mathlib.Core.List.{List, [], _∷_, _++_}
+use mathlib.Core.List.{List, [], _∷_, _++_, List·Memᴰ, List·Memᴰ·head, List·Memᴰ·tail}
 use native.Mathlib.Omega.{arith}
 use lib.ListN.{length}
 use lib.Seq.{sets, length-sets}
@@ -25,10 +25,12 @@ module _ (R : Restore) (im : List ℕ) (th : Thread) (n : ℕ) where
     pub most : k ≤ n
     pub wide : length rows ≡ length lent
     pub fits : to + 16 * pointersIn R im (left k) ≡ 16 * pointersIn R im (framesFrom th n 0)
+    pub each : (f : Stopped) → List·Memᴰ f (left k) → answer R im f .number ≡ 0
     pub same : sets rows to (threadRows R im k (left k)) ≡ sets lent 0 (threadRows R im 0 (framesFrom th n 0))
 
-  pub going-start : (lent : List ℕ) → Going lent lent 0 0
-  going-start lent = record { most = omega arith; wide = refl; fits = rw (frames-start th n) (omega arith); same = rw (frames-start th n) }
+  pub going-start : (lent : List ℕ) → ((f : Stopped) → List·Memᴰ f (framesFrom th n 0) → answer R im f .number ≡ 0) → Going lent lent 0 0
+  going-start lent h =
+      record { most = omega arith; wide = refl; fits = rw (frames-start th n) (omega arith); each = rw (frames-start th n) h; same = rw (frames-start th n) }
 
   module _ (lent rows : List ℕ) (k to : ℕ) (g : Going lent rows k to) (l : k < n) where
     abbrev f : Stopped
@@ -46,14 +48,22 @@ module _ (R : Restore) (im : List ℕ) (th : Thread) (n : ℕ) where
     pub going-room : 16 * pointersIn R im (framesFrom th n 0) ≤ length lent → to + 16 * answer R im f .count ≤ length rows
     going-room h = omega (arith, g .fits, g .wide, next-count)
 
-    pub going-on : (yes : answer R im f .number ≡ 0) (after : List ℕ) (to′ : ℕ) → to′ ≡ to + 16 * answer R im f .count → after ≡ sets rows to (rowsOf R im f k)
+    -- the next frame is accepted
+    pub going-yes : answer R im f .number ≡ 0
+    going-yes = g .each f (rw (frames-step th n k l) (List·Memᴰ·head refl))
+
+    each-on : (h : Stopped) → List·Memᴰ h (left (k + 1)) → answer R im h .number ≡ 0
+    each-on h m = g .each h (rw (frames-step th n k l) (List·Memᴰ·tail m))
+
+    pub going-on : (after : List ℕ) (to′ : ℕ) → to′ ≡ to + 16 * answer R im f .count → after ≡ sets rows to (rowsOf R im f k)
         → Going lent after (k + 1) to′
-    going-on yes after to′ e p =
-        let d : to + length (rowsOf R im f k) ≡ to′ = omega (arith, rows-length R im f yes k, e) in
+    going-on after to′ e p =
+        let d : to + length (rowsOf R im f k) ≡ to′ = omega (arith, rows-length R im f going-yes k, e) in
         record {
           most = omega arith;
           wide = ap length p ∙ length-sets rows to (rowsOf R im f k) ∙ g .wide;
           fits = omega (arith, g .fits, next-count, e);
+          each = each-on;
           same = ap (λ (m : List ℕ). sets m to′ (threadRows R im (k + 1) (left (k + 1)))) p
               ∙ ap (λ (m : ℕ). sets (sets rows to (rowsOf R im f k)) m (threadRows R im (k + 1) (left (k + 1)))) (sym d)
               ∙ sym (sets-append rows to (rowsOf R im f k) (threadRows R im (k + 1) (left (k + 1))))

@@ -2,11 +2,13 @@
 // written.
 ghost use mathlib.Core.Path.{_≡_};
 ghost use mathlib.Core.Bool.{true};
-ghost use Prim.Native.Nat.{ℕ, _+_, _*_, _/_, _≤_, _<_};
+ghost use mathlib.Core.List.{List·Memᴰ};
+ghost use Prim.Native.Nat.{_+_, _*_, _/_, _≤_, _<_};
 ghost use lib.ListN.{length};
 ghost use lib.Seq.{sets};
 ghost use Rattle.moves.specs.Limits.{pairsMost};
 ghost use Rattle.relocate.specs.Restore.{restore};
+ghost use Rattle.relocate.specs.Stopped as stoppedSpec;
 ghost use Rattle.relocate.specs.Relocation.{answer};
 ghost use Rattle.thread.specs.Thread.{frameNumbers, listRight, stoppedAt, framesFrom, threadOf, pointersIn};
 ghost use Rattle.thread.specs.Code.{Looked, Ready};
@@ -110,7 +112,7 @@ fn put_frames(
     settings: Settings,
 )
     requires { ⌜ Ready (restore (now s) (now olds) (now news) first settings) machine (length (now image)) (length (now registers)) (now frames) count (now keys) (now hits)
-        × ((k : ℕ) → k < count → answer (restore (now s) (now olds) (now news) first settings) (now image) (stoppedAt (threadOf machine (now frames) (now registers)) k) .number ≡ 0)
+        × ((f : stoppedSpec.Stopped) → List·Memᴰ f (framesFrom (threadOf machine (now frames) (now registers)) count 0) → answer (restore (now s) (now olds) (now news) first settings) (now image) f .number ≡ 0)
         × (rowNumbers * pointersIn (restore (now s) (now olds) (now news) first settings) (now image) (framesFrom (threadOf machine (now frames) (now registers)) count 0) ≤ length (now rows)) ⌝ }
     ensures { λ r. ⌜ now (rows .exit) ≡ sets (now (rows .entry)) 0 (threadRows (restore (now (s .entry)) (now (olds .entry)) (now (news .entry)) first settings) (now (image .entry)) 0 (framesFrom (threadOf machine (now (frames .entry)) (now (registers .entry))) count 0)) ⌝ }
 {
