@@ -48,7 +48,7 @@ fn put_frame(
 ) -> usize
     requires { ⌜ Ready (restore (now s) (now olds) (now news) first settings) machine (length (now image)) (length (now registers)) (now frames) count (now keys) (now hits) × (k < count)
         × (answer (restore (now s) (now olds) (now news) first settings) (now image) (stoppedAt (threadOf machine (now frames) (now registers)) k) .number ≡ 0)
-        × (to + rowNumbers * answer (restore (now s) (now olds) (now news) first settings) (now image) (stoppedAt (threadOf machine (now frames) (now registers)) k) .count ≤ length (now rows)) ⌝ }
+        × (to + rowNumbers * answer (restore (now s) (now olds) (now news) first settings) (now image) (stoppedAt (threadOf machine (now frames) (now registers)) k) .count ≤ length (now rows)) × (to ≤ 16777216) ⌝ }
     ensures { λ r. ⌜ (r ≡ to + rowNumbers * answer (restore (now (s .entry)) (now (olds .entry)) (now (news .entry)) first settings) (now (image .entry)) (stoppedAt (threadOf machine (now (frames .entry)) (now (registers .entry))) k) .count)
         × (now (rows .exit) ≡ sets (now (rows .entry)) to (rowsOf (restore (now (s .entry)) (now (olds .entry)) (now (news .entry)) first settings) (now (image .entry)) (stoppedAt (threadOf machine (now (frames .entry)) (now (registers .entry))) k) k)) ⌝ }
 {
