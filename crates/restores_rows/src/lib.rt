@@ -1,9 +1,10 @@
-// Why, for all slots of a frame in one call, by the edition that the frame's move names, with the machine as a number. Nothing but the lent list is
-// written.
+// Why, for all slots of a frame or of a thread in one call, by the edition that the move names, with the machine as a number. Nothing but the lent
+// list is written.
 ghost use mathlib.Core.Path.{_≡_};
 ghost use Rattle.restores.specs.Restores.{request};
 ghost use Rattle.restores.specs.Moves.{numbered};
-ghost use Rattle.restores_rows.specs.Rows.{explainFrameUnder, explainFrameListUnder};
+ghost use Rattle.restores_thread.specs.Threads.{numberedThread};
+ghost use Rattle.restores_rows.specs.Rows.{explainFrameUnder, explainFrameListUnder, explainThreadUnder, explainThreadListUnder};
 use editions::Store;
 use moves::Move;
 use relocate::Frame;
@@ -43,6 +44,43 @@ pub fn explain_frame(
             olds,
             news,
             frame,
+            registers,
+            rows,
+            settings,
+        );
+    }
+    moving::refused(begun.number, begun.place)
+}
+
+// The same of a thread, as `explain_thread::explain` does.
+pub fn explain_thread(
+    store: Store,
+    edition: u64,
+    section: &[u8],
+    image: &[u8],
+    first: u64,
+    olds: &[u64],
+    news: &[u64],
+    machine: u64,
+    list: &[u64],
+    registers: &[u64],
+    rows: &mut [u64],
+) -> Move
+    ensures { λ r. ⌜ (r ≡ explainThreadUnder (request store edition (now (section .entry)) (now (olds .entry)) (now (news .entry)) first) (now (image .entry)) (numberedThread machine (now (list .entry)) (now (registers .entry))) (now (rows .entry)))
+        × (now (rows .exit) ≡ explainThreadListUnder (request store edition (now (section .entry)) (now (olds .entry)) (now (news .entry)) first) (now (image .entry)) (numberedThread machine (now (list .entry)) (now (registers .entry))) (now (rows .entry))) ⌝ }
+{
+    let begun = restores::begin(store, edition, machine, section);
+    if begun.passed {
+        let known = begun.machine;
+        let settings = begun.settings;
+        return explain_thread::explain(
+            section,
+            image,
+            first,
+            olds,
+            news,
+            known,
+            list,
             registers,
             rows,
             settings,

@@ -3,7 +3,8 @@
 ghost use mathlib.Core.Path.{_≡_};
 ghost use Rattle.restores.specs.Restores.{request};
 ghost use Rattle.restores.specs.Moves.{numbered};
-ghost use Rattle.restores_rows.specs.Rows.{explainFrameUnder, explainFrameListUnder};
+ghost use Rattle.restores_thread.specs.Threads.{numberedThread};
+ghost use Rattle.restores_rows.specs.Rows.{explainFrameUnder, explainFrameListUnder, explainThreadUnder, explainThreadListUnder};
 ghost use Rattle.treskibben_answers.specs.Answer.{moveAnswer};
 use editions::Store;
 use treskibben_answers as answers;
@@ -38,6 +39,40 @@ pub extern "C" fn treskibben_edition_explain_frame(
         machine,
         frame.address,
         frame.function,
+        registers,
+        rows,
+    ))
+}
+
+// The same for all frames of a thread, in list order, as `treskibben_edition_thread` is lent them: the refusal of the thread's call, 24, or how many
+// numbers are written.
+#[no_mangle]
+pub extern "C" fn treskibben_edition_explain_thread(
+    store: Store,
+    edition: u64,
+    section: &[u8],
+    image: &[u8],
+    first: u64,
+    olds: &[u64],
+    news: &[u64],
+    machine: u64,
+    frames: &[u64],
+    registers: &[u64],
+    rows: &mut [u64],
+) -> answers::Answer
+    ensures { λ r. ⌜ (r ≡ moveAnswer (explainThreadUnder (request store edition (now (section .entry)) (now (olds .entry)) (now (news .entry)) first) (now (image .entry)) (numberedThread machine (now (frames .entry)) (now (registers .entry))) (now (rows .entry))))
+        × (now (rows .exit) ≡ explainThreadListUnder (request store edition (now (section .entry)) (now (olds .entry)) (now (news .entry)) first) (now (image .entry)) (numberedThread machine (now (frames .entry)) (now (registers .entry))) (now (rows .entry))) ⌝ }
+{
+    answers::move_answer(restores_rows::explain_thread(
+        store,
+        edition,
+        section,
+        image,
+        first,
+        olds,
+        news,
+        machine,
+        frames,
         registers,
         rows,
     ))
