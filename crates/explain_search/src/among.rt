@@ -108,7 +108,7 @@ fn named(live: &[u8; PAIRS_MOST], numbers: &[usize; PAIRS_MOST], x: usize, point
 }
 
 // The slot by its number x. The record at `at` has `count` pairs, from location `start` on, which are `pointers` pointers.
-fn of_number(
+pub fn of_number(
     s: &[u8],
     at: usize,
     start: usize,

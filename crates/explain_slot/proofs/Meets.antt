@@ -10,14 +10,12 @@ use borrow.Author.Tests.{eq-eqb, ne-eqb, eqb-true, eqb-false, ltb-true, ltb-fals
 use lib.Dec.{eqb, ltb}
 use lib.ListN.{length, getD}
 use Rattle.stackmap.specs.Check.{Accepted}
-use Rattle.moves.specs.declared.Move.{Move}
 use Rattle.moves.specs.Table.{lookUp}
 use Rattle.moves.specs.Search.{lowest}
 use Rattle.moves.specs.Window.{part}
 use Rattle.moves.specs.Slots.{Slot, memory, register, State, state, read, same}
 use Rattle.moves.specs.Pointers.{Pointer, null, slots, orZero}
-use Rattle.moves.specs.Plan.{Plan, refuse, window, pairOf, atPair, says}
-use Rattle.moves.specs.Settle.{settled}
+use Rattle.moves.specs.Plan.{window, pairOf}
 use Rattle.moves.specs.Arrays as arrays
 use Rattle.moves.specs.Arrays.{registersFrom, slotOf, Placed, AllPlaced}
 use Rattle.moves.proofs.Words.{fromImage, read-part}
@@ -95,9 +93,14 @@ module _ (R : Restore) (im : List ℕ) (st : Stopped) (x : Slot) where
   unfolding accepted still
   shape a b c e f g = rw (e, f, g)
 
-  pub says-refused : (n p : ℕ) → plan R (length im) st ≡ refuse n p → (n ≡ 0 → ⊥) → explained R im st x ≡ Refused n p
-  unfolding explained answer
-  says-refused n p e h = rw (e, ne-eqb n 0 h)
+  -- a refused frame, and an accepted one
+  pub says-refused : (n p : ℕ) → answer R im st .number ≡ n → answer R im st .place ≡ p → (n ≡ 0 → ⊥) → explained R im st x ≡ Refused n p
+  unfolding explained
+  says-refused n p e i h = rw (e, i, ne-eqb n 0 h)
+
+  says-accepted : answer R im st .number ≡ 0 → explained R im st x ≡ accepted R im st x
+  unfolding explained
+  says-accepted h = rw (eq-eqb (answer R im st .number) 0 h)
 
   module _ (off size : ℕ) (pss : List (List Pointer)) (is : plan R (length im) st ≡ window off size pss) where
     abbrev w : State
@@ -105,18 +108,6 @@ module _ (R : Restore) (im : List ℕ) (st : Stopped) (x : Slot) where
 
     abbrev table : ℕ → Option ℕ
     table = lookUp (R .olds) (R .news)
-
-    answer-is : (m : Move) → m ≡ atPair pss (settled table (flatten pss) w) → answer R im st ≡ m
-    unfolding answer
-    answer-is m e = rw is (sym e)
-
-    pub says-stopped : (m : Move) → m ≡ atPair pss (settled table (flatten pss) w) → (m .number ≡ 0 → ⊥) → explained R im st x ≡ Refused (m .number) (m .place)
-    unfolding explained
-    says-stopped m e h = rw (answer-is m e, ne-eqb (m .number) 0 h)
-
-    says-accepted : (m : Move) → m ≡ atPair pss (settled table (flatten pss) w) → m .number ≡ 0 → explained R im st x ≡ accepted R im st x
-    unfolding explained
-    says-accepted m e h = rw (answer-is m e, eq-eqb (m .number) 0 h)
 
     module _ (k : Accepted (R .section)) (n : ℕ) (live bases derived : List ℕ) (held : arrays.pointersOf n live bases derived ≡ flatten pss)
         (placed : AllPlaced size registerCount n live bases derived) (small : size ≤ imageMost) where
@@ -126,17 +117,17 @@ module _ (R : Restore) (im : List ℕ) (st : Stopped) (x : Slot) where
       abbrev sp : ℕ
       sp = cursor st .sp
 
-      listed-is : listed R st ≡ map (map (pointerAt sp)) pss
+      pub listed-is : listed R st ≡ map (map (pointerAt sp)) pss
       unfolding listed
       listed-is = rw (q .one, ← q .pairs-are)
 
-      long : n ≡ length (flatten pss)
+      pub long : n ≡ length (flatten pss)
       long = sym (pointers-length live bases derived n) ∙ ap length held
 
-      at : (j : ℕ) → j < n → getD (flatten pss) j null ≡ arrays.pointerAt live bases derived j
+      pub at : (j : ℕ) → j < n → getD (flatten pss) j null ≡ arrays.pointerAt live bases derived j
       at j l = ap (λ (ps : List Pointer). getD ps j null) (sym held) ∙ pointers-at live bases derived n j l
 
-      base-same : (y : ℕ) → Placed size registerCount y → contentAt R im (st .registers) (addressed sp (slotOf y)) ≡ read w (slotOf y)
+      pub base-same : (y : ℕ) → Placed size registerCount y → contentAt R im (st .registers) (addressed sp (slotOf y)) ≡ read w (slotOf y)
       base-same y p =
           ap (λ (s : Slot). read (state im (st .registers)) (inImage (R .first) s)) (addressed-is sp (slotOf y))
           ∙ ap (read (state im (st .registers))) (in-image (R .first) sp off (slotOf y) (q .low) (q .off-is))
@@ -247,6 +238,5 @@ module _ (R : Restore) (im : List ℕ) (st : Stopped) (x : Slot) where
       told-is none num = nowhere num
       told-is (some z) num = somewhere z num
 
-      pub says-told : (m : Move) → m ≡ atPair pss (settled table (flatten pss) w) → m .number ≡ 0
-          → explained R im st x ≡ told w live bases derived table n pss (numberOf sp x)
-      says-told m e h = says-accepted m e h ∙ told-is (numberOf sp x) (λ y p. number-same sp size small y p x)
+      pub says-told : answer R im st .number ≡ 0 → explained R im st x ≡ told w live bases derived table n pss (numberOf sp x)
+      says-told h = says-accepted h ∙ told-is (numberOf sp x) (λ y p. number-same sp size small y p x)

@@ -23,7 +23,8 @@ use relocate_pairs::pairs;
 use relocate_pairs::statepoint;
 use stackmap_tables::tables;
 
-fn refused(number: u8, place: usize) -> Outline
+// A refusal, with nothing known of the record.
+pub fn refused(number: u8, place: usize) -> Outline
     ensures { λ r. ⌜ r ≡ refusedOutline number place ⌝ }
 {
     Outline {

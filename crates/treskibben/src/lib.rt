@@ -20,6 +20,7 @@ pub mod controllers;
 pub mod edition_calls;
 pub mod edition_moves;
 pub mod explain_calls;
+pub mod explain_reports;
 pub mod flat_sections;
 pub mod index_lookups;
 pub mod replays;

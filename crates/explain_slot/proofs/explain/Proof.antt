@@ -1,72 +1,103 @@
-use mathlib.Core.Path.{sym, _∙_}
+use Prim.Native.Nat.{_+_, _-_}
+use mathlib.Core.Path.{_≡_, sym, _∙_}
 use native.Mathlib.Omega.{arith}
 use lib.ListN.{length}
-use Rattle.questions.proofs.Standing.{tables-inside}
-use Rattle.questions.proofs.Searched.{section-accepted}
+use Rattle.moves.proofs.Splice.{part-length}
 use Rattle.relocate.specs.Restore.{restore}
 use Rattle.relocate.specs.Stopped.{stopped}
-use Rattle.relocate_frame.proofs.Stages.{plan-section, plan-33, allowed-is}
+use Rattle.relocate_plan.proofs.Following.{extent-tells}
+use Rattle.relocate_judge.proofs.Leading.{judged-cursor}
 use Rattle.explain.specs.Explain.{slotOf}
-use Rattle.explain_slot.proofs.Meets.{says-refused}
-use Rattle.explain_slot.proofs.Leading.{section-number}
+use Rattle.explain_slot.proofs.Leading.{tells-refused, tells-slice}
 use borrow.Author.Needs.{needs}
 use Rattle.explain_slot.proofs.explain.Statement.{statement}
 use Rattle.explain_slot.proofs.explain.Tie as tie
 
-records-requires : tie.Need-records-requires
-records-requires c κs = search needs
-
-of-section-requires : tie.Need-of-section-requires
-of-section-requires c κs = search needs
+judge-requires : tie.Need-judge-requires
+judge-requires c κs = search needs
 
 returns : tie.Need-returns
 returns c =
-    let a = c .before .before .before .before .before .before .before .before .args in
-    let r = c .before .before .records in
-    let R = restore (a .section .now) (a .olds .now) (a .news .now) (a .first) (a .settings) in
-    let st = stopped (a .frame) (a .registers .now) in
-    let o = sym (c .before .of-section .ensures) ∙ c .if1 .taken in
-    sym (says-refused R (a .image .now) st (slotOf (a .asked)) _ _ (plan-section R (a .image .now) st (r .result) (r .ensures) o) (section-number (r .result) o))
+    let a = c .before .before .before .before .before .before .before .before .before .before .before .args in
+    tells-refused (restore (a .section .now) (a .olds .now) (a .news .now) (a .first) (a .settings)) (a .image .now) (stopped (a .frame) (a .registers .now)) _ _ _ _ _ (slotOf (a .asked))
+    (c .before .before .judge .ensures) (c .if1 .taken)
 
-is-old-requires : tie.Need-is-old-requires
-is-old-requires c κs =
-    let a = c .before .before .before .before .before .before .before .before .args in
-    let r = c .before .before .records in
-    let i = tables-inside (a .section .now) (length (a .section .now)) (section-accepted (a .section .now) (a .frame .address) (r .result) (r .ensures) (sym (c .before .of-section .ensures) ∙ c .if1 .left)) in
-    omega arith
+cursor-requires : tie.Need-cursor-requires
+cursor-requires c κs = c .before .before .judge .ensures .held (c .if1 .left) .registers-right
 
-allowed-requires : tie.Need-allowed-requires
-allowed-requires c κs = search needs
-
-of-section-requires-2 : tie.Need-of-section-requires-2
-of-section-requires-2 c κs =
-    let s = c .before .before .before .before .before .before .before .before .before .before .before in
+sub-off : tie.Need-sub-off
+sub-off c =
+    let s = c .before .before .before .before .before .before .before .before .before .before .before .before .before in
     let a = s .args in
     let R = restore (a .section .now) (a .olds .now) (a .news .now) (a .first) (a .settings) in
-    (c .before .before .before .before .before .records .ensures, sym (c .before .before .before .before .of-section .ensures) ∙ c .before .before .before .if1 .left, allowed-is R (a .frame .machine) _ _ (c .before .before .is-old .ensures) (c .before .allowed .ensures) ∙ c .if2 .taken, s .pre)
+    let f = c .before .cursor in
+    let h = judged-cursor R (a .image .now) (stopped (a .frame) (a .registers .now)) _ (f .result) _ _ _ _ (sym (f .ensures)) (c .before .before .before .before .judge .ensures) .held (c .before .before .if1 .left) in
+    let x = extent-tells (a .first) (length (a .image .now)) (f .result .sp) (c .before .before .before .before .judge .result .size) (h .stands .extent) in
+    omega arith
+
+add-end : tie.Need-add-end
+add-end c =
+    let s = c .before .before .before .before .before .before .before .before .before .before .before .before .before .before in
+    let a = s .args in
+    let R = restore (a .section .now) (a .olds .now) (a .news .now) (a .first) (a .settings) in
+    let f = c .before .before .cursor in
+    let h = judged-cursor R (a .image .now) (stopped (a .frame) (a .registers .now)) _ (f .result) _ _ _ _ (sym (f .ensures)) (c .before .before .before .before .before .judge .ensures) .held (c .before .before .before .if1 .left) in
+    let x = extent-tells (a .first) (length (a .image .now)) (f .result .sp) (c .before .before .before .before .before .judge .result .size) (h .stands .extent) in
+    omega arith
+
+sub-reason : tie.Need-sub-reason
+sub-reason c = search needs
+
+part-reason-start : tie.Need-part-reason-start
+part-reason-start c = search needs
+
+part-reason-end : tie.Need-part-reason-end
+part-reason-end c =
+    let s = c .before .before .before .before .before .before .before .before .before .before .before .before .before .before in
+    let a = s .args in
+    let R = restore (a .section .now) (a .olds .now) (a .news .now) (a .first) (a .settings) in
+    let f = c .before .before .cursor in
+    let h = judged-cursor R (a .image .now) (stopped (a .frame) (a .registers .now)) _ (f .result) _ _ _ _ (sym (f .ensures)) (c .before .before .before .before .before .judge .ensures) .held (c .before .before .before .if1 .left) in
+    let x = extent-tells (a .first) (length (a .image .now)) (f .result .sp) (c .before .before .before .before .before .judge .result .size) (h .stands .extent) in
+    omega arith
+
+reason-requires : tie.Need-reason-requires
+reason-requires c κs =
+    let s = c .before .before .before .before .before .before .before .before .before .before .before .before .before .before .before .before .before .before in
+    let a = s .args in
+    let R = restore (a .section .now) (a .olds .now) (a .news .now) (a .first) (a .settings) in
+    let f = c .before .before .before .before .before .before .cursor in
+    let h = judged-cursor R (a .image .now) (stopped (a .frame) (a .registers .now)) _ (f .result) _ _ _ _ (sym (f .ensures)) (c .before .before .before .before .before .before .before .before .before .judge .ensures) .held (c .before .before .before .before .before .before .before .if1 .left) in
+    let x = extent-tells (a .first) (length (a .image .now)) (f .result .sp) (c .before .before .before .before .before .before .before .before .before .judge .result .size) (h .stands .extent) in
+    let off = f .result .sp - a .first in
+    let n = off + c .before .before .before .before .before .before .before .before .before .judge .result .size - off in
+    let z : n ≡ c .before .before .before .before .before .before .before .before .before .judge .result .size = omega arith in
+    let e = part-length (a .image .now) off n (omega arith) ∙ z in
+    (h .stands .formed .paired, h .stands .formed .few, rw (e, h .registers-right) (h .placed), h .table-right)
 
 returns-2 : tie.Need-returns-2
-returns-2 c = c .of-section2 .ensures
-
-returns-3 : tie.Need-returns-3
-returns-3 c =
-    let a = c .before .before .before .before .before .before .before .before .before .before .before .args in
-    let r = c .before .before .before .before .before .records in
+returns-2 c =
+    let s = c .before .before .before .before .before .before .before .before .before .before .before .before .before .before .before .before .before .before .before in
+    let a = s .args in
     let R = restore (a .section .now) (a .olds .now) (a .news .now) (a .first) (a .settings) in
-    let st = stopped (a .frame) (a .registers .now) in
-    let k = section-accepted (a .section .now) (a .frame .address) (r .result) (r .ensures) (sym (c .before .before .before .before .of-section .ensures) ∙ c .before .before .before .if1 .left) in
-    sym (says-refused R (a .image .now) st (slotOf (a .asked)) 33 0
-    (plan-33 R (a .image .now) st k (allowed-is R (a .frame .machine) _ _ (c .before .before .is-old .ensures) (c .before .allowed .ensures) ∙ c .if2 .left)) (λ z. absurd (omega arith)))
+    let f = c .before .before .before .before .before .before .before .cursor in
+    let h = judged-cursor R (a .image .now) (stopped (a .frame) (a .registers .now)) _ (f .result) _ _ _ _ (sym (f .ensures)) (c .before .before .before .before .before .before .before .before .before .before .judge .ensures) .held (c .before .before .before .before .before .before .before .before .if1 .left) in
+    let x = extent-tells (a .first) (length (a .image .now)) (f .result .sp) (c .before .before .before .before .before .before .before .before .before .before .judge .result .size) (h .stands .extent) in
+    let off = f .result .sp - a .first in
+    let n = off + c .before .before .before .before .before .before .before .before .before .before .judge .result .size - off in
+    tells-slice R (a .image .now) (stopped (a .frame) (a .registers .now)) (f .result) (c .before .before .before .before .before .before .before .before .before .before .judge .result) _ _ _ (slotOf (a .asked)) n (omega arith) _ (c .reason .ensures (f .result)) h
 
 pub explain-spec : {M : Type 1} → statement M
 explain-spec =
     tie.close
     (tie.spec
-    records-requires
-    of-section-requires
+    judge-requires
     returns
-    is-old-requires
-    allowed-requires
-    of-section-requires-2
-    returns-2
-    returns-3)
+    cursor-requires
+    sub-off
+    add-end
+    sub-reason
+    part-reason-start
+    part-reason-end
+    reason-requires
+    returns-2)
