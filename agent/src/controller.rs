@@ -117,6 +117,8 @@ pub fn relocate(
 /// Moves the pointers of a whole thread as [`Edition::relocate_thread`] does, where the profile is kept, all of its
 /// frames or none, and gives their number.
 ///
+/// The call needs about 272 KiB of stack, which a thread of [`std::thread`] has many times over.
+///
 /// # Errors
 ///
 /// The first of these that holds. A refusal leaves all of the image and all registers unchanged.
