@@ -11,6 +11,7 @@ use Rattle.relocate.proofs.Consequences
 use Rattle.relocate_twice.proofs.Twice
 use Rattle.relocate_twice.proofs.Without
 use Rattle.explain.proofs.Laws
+use Rattle.explain_laws.proofs.Tells as Rows
 use Rattle.restores.proofs.Editions
 use Rattle.thread.proofs.OneInstant
 use Rattle.controller.proofs.Laws as controlled
@@ -52,6 +53,7 @@ promises =
       two-moves = Twice.two-moves;
       without-self-pair = Without.without-self-pair;
       explains = Laws.explains;
+      rows-tell = Rows.rows-tell;
       broken-first = Replays.broken-first;
       trace-bound = Traces.trace-bound;
       trace-back = Written.trace-back;

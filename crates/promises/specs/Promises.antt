@@ -9,6 +9,7 @@ use Rattle.relocate.specs.Consequences.{Untouched, KeepsCursor, Counts, KeepsDi
 use Rattle.relocate_twice.specs.Twice.{TwoMoves, JoinedTables}
 use Rattle.relocate_twice.specs.Without.{WithoutSelfPair}
 use Rattle.explain.specs.Laws.{Explains}
+use Rattle.explain_laws.specs.Tells.{RowsTell}
 use Rattle.restores.specs.Laws.{UnderEdition, UnknownEdition}
 use Rattle.thread.specs.Theorems.{OneInstant}
 use Rattle.replay.specs.Laws.{BrokenFirst, TraceBound, TraceBack, ReplaysRecorded, ReplaysApart}
@@ -52,8 +53,9 @@ pub record Promises : Type 0 where
   pub joined-tables : JoinedTables
   pub two-moves : TwoMoves
   pub without-self-pair : WithoutSelfPair
-  -- what the lab is told of a slot is what the move does to it
+  -- what the lab is told of a slot is what the move does to it, and the rows of a frame tell it of every slot
   pub explains : Explains
+  pub rows-tell : RowsTell
   -- a broken trace is 35 and leaves the image; a trace is read back as it was written, a recorded restore differs in nothing when it is replayed, and
   -- where no two extents share a byte its answers are the plain ones and the order of its frames could be any
   pub broken-first : BrokenFirst
