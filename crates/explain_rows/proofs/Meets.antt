@@ -182,7 +182,8 @@ pub held-rows : (R : Restore) (im : List ℕ) (st : Stopped) (f : Cursor) (o : O
     → inOrder (rowBy (state (part im (f .sp - R .first) (o .size)) (st .registers)) live bases derived (lookUp (R .olds) (R .news)) (o .pointers) (pointersIn R f o) (f .sp) k) (o .pointers) 0 ≡ rowsOf R im st k
 held-rows R im st f o live bases derived h k =
     subst
-    (λ (q : Cursor). Held R im st q o live bases derived → inOrder (rowBy (state (part im (q .sp - R .first) (o .size)) (st .registers)) live bases derived (lookUp (R .olds) (R .news)) (o .pointers) (pointersIn R q o) (q .sp) k) (o .pointers) 0 ≡ rowsOf R im st k)
+    (λ (q : Cursor). Held R im st q o live bases derived → inOrder (rowBy (state (part im (q .sp - R .first) (o .size)) (st .registers)) live bases derived (lookUp (R .olds) (R .news)) (o .pointers) (pointersIn R q o) (q .sp) k)
+    (o .pointers) 0 ≡ rowsOf R im st k)
     (sym (h .cursor-is)) (λ g. own-rows R im st o live bases derived g k) h
 
 -- as the code writes them, by the slice that it takes of the image

@@ -48,7 +48,8 @@ judge-window-requires c κs =
       o .formed .few,
       omega (arith, o .small),
       omega (arith, s .pre .2),
-      rw (s .pre .2) (placed-end (a .frame .sp - a .first) (a .outline .size) _ _ _ _ _ (o .formed .counted) (c .before .before .before .before .before .before .before .before .fill .ensures .3 (c .before .before .before .before .before .before .if1 .left))),
+      rw (s .pre .2) (placed-end (a .frame .sp - a .first) (a .outline .size) _ _ _ _ _ (o .formed .counted)
+          (c .before .before .before .before .before .before .before .before .fill .ensures .3 (c .before .before .before .before .before .before .if1 .left))),
       s .pre .3,
     )
 
