@@ -1,3 +1,4 @@
+pub mod Lengths
 pub mod Writing
 pub mod Meets
 pub mod Answers

@@ -11,6 +11,7 @@ use lib.Dec.{eqb, leb}
 use lib.ListN.{length, getD, take, drop, length-append, List·getD-append}
 use lib.Seq.{sets, getD-append-add}
 use Rattle.stackmap.proofs.Tests.{and-true}
+use Rattle.moves.specs.declared.Move.{Move}
 use Rattle.moves.specs.Table.{lookUp}
 use Rattle.moves.specs.Window.{part}
 use Rattle.moves.specs.Slots.{Slot, memory, register, State, state}
@@ -33,7 +34,7 @@ use Rattle.explain_search.proofs.Searching.{number-at, number-register}
 use Rattle.explain_slot.proofs.Meets.{listed-is, long, at, base-same}
 use Rattle.explain_slot.proofs.Leading.{windowOf, tells-held}
 use Rattle.explain_rows.specs.Written.{sortAt, placeAt, inOrder, slotBy, slotsBy, rowBy}
-use Rattle.explain_rows.proofs.Writing.{row-length, order-length}
+use Rattle.explain_rows.proofs.Lengths.{rows-length}
 
 -- Rows in order.
 
@@ -181,7 +182,8 @@ pub held-rows : (R : Restore) (im : List ℕ) (st : Stopped) (f : Cursor) (o : O
     → inOrder (rowBy (state (part im (f .sp - R .first) (o .size)) (st .registers)) live bases derived (lookUp (R .olds) (R .news)) (o .pointers) (pointersIn R f o) (f .sp) k) (o .pointers) 0 ≡ rowsOf R im st k
 held-rows R im st f o live bases derived h k =
     subst
-    (λ (q : Cursor). Held R im st q o live bases derived → inOrder (rowBy (state (part im (q .sp - R .first) (o .size)) (st .registers)) live bases derived (lookUp (R .olds) (R .news)) (o .pointers) (pointersIn R q o) (q .sp) k) (o .pointers) 0 ≡ rowsOf R im st k)
+    (λ (q : Cursor). Held R im st q o live bases derived → inOrder (rowBy (state (part im (q .sp - R .first) (o .size)) (st .registers)) live bases derived (lookUp (R .olds) (R .news)) (o .pointers) (pointersIn R q o) (q .sp) k)
+    (o .pointers) 0 ≡ rowsOf R im st k)
     (sym (h .cursor-is)) (λ g. own-rows R im st o live bases derived g k) h
 
 -- as the code writes them, by the slice that it takes of the image
@@ -195,8 +197,7 @@ frame-put R im st f o live bases derived h k out after to n e q = q ∙ rw e (ap
 pub held-length : (R : Restore) (im : List ℕ) (st : Stopped) (f : Cursor) (o : Outline) (live bases derived : List ℕ) → Held R im st f o live bases derived
     → (k : ℕ) → length (rowsOf R im st k) ≡ 16 * o .pointers
 held-length R im st f o live bases derived h k =
-    sym (ap length (held-rows R im st f o live bases derived h k))
-    ∙ order-length _ (row-length (state (part im (f .sp - R .first) (o .size)) (st .registers)) live bases derived (lookUp (R .olds) (R .news)) (o .pointers) (pointersIn R f o) (f .sp) k) (o .pointers) 0
+    rows-length R im st (ap (λ (m : Move). m .number) (h .answer-is)) k ∙ ap (λ (m : Move). 16 * m .count) (h .answer-is)
 
 pub image-ends : (first n : ℕ) → imageRight first n ≡ true → first + n < 2 ^ 64
 unfolding imageRight

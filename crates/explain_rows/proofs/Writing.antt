@@ -16,11 +16,11 @@ use Rattle.moves.specs.Plan.{pairOf}
 use Rattle.moves.specs.Arrays.{registersFrom}
 use Rattle.moves.proofs.Numbers.{slot-memory, slot-register}
 use Rattle.explain.specs.declared.Reason.{Reason}
-use Rattle.explain.specs.declared.Reason.the-variants.{Unlisted, OnlyBase, NullBase, Moved, Refused}
 use Rattle.explain.specs.Rows.{reasonNumbers, noSlot}
 use Rattle.explain_search.specs.Told.{toldOf}
 use Rattle.explain_rows.specs.declared.Told.{Told}
 use Rattle.explain_rows.specs.Written.{numbersOf, sortAt, placeAt, inOrder, slotBy, slotsBy, rowBy}
+use Rattle.explain_rows.proofs.Lengths.{reason-length}
 
 -- The slot with the number x.
 
@@ -42,13 +42,6 @@ module _ (x : ℕ) where
   place-register sp h = rw (slot-register x h)
 
 -- Every row is sixteen numbers.
-
-reason-length : (r : Reason) → length (reasonNumbers r) ≡ 4
-reason-length Unlisted = refl
-reason-length OnlyBase = refl
-reason-length NullBase = refl
-reason-length (Moved p o n) = refl
-reason-length (Refused n p) = refl
 
 module _ (w : State) (live bases derived : List ℕ) (table : ℕ → Option ℕ) (n : ℕ) (pss : List (List Pointer)) (sp : ℕ) where
   pub slot-length : (x : ℕ) → length (slotBy w live bases derived table n pss sp x) ≡ 7
@@ -120,10 +113,6 @@ put-slot-told out after to a a′ b b′ v v′ t r r′ e x y z q s =
 -- What is left to write, after k of n rows.
 
 module _ (row : ℕ → List ℕ) (each : (j : ℕ) → length (row j) ≡ 16) where
-  pub order-length : (n j : ℕ) → length (inOrder row n j) ≡ 16 * n
-  order-length zero j = refl
-  order-length (suc n) j = length-append (row j) (inOrder row n (suc j)) ∙ omega (arith, each j, order-length n (suc j))
-
   pub record Rowing (to n : ℕ) (lent rows : List ℕ) (k : ℕ) : Type 0 where
     pub most : k ≤ n
     pub wide : length rows ≡ length lent

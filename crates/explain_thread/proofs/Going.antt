@@ -13,7 +13,7 @@ use Rattle.thread.specs.Thread.{Thread, stoppedAt, framesFrom, pointersIn}
 use Rattle.thread.proofs.Frames.{frames-step, frames-end, frames-start}
 use Rattle.explain.specs.Rows.{rowsOf}
 use Rattle.explain_thread.specs.Rows.{threadRows}
-use Rattle.explain_thread.proofs.Lengths.{rows-length}
+use Rattle.explain_rows.proofs.Lengths.{rows-length}
 
 module _ (R : Restore) (im : List ℕ) (th : Thread) (n : ℕ) where
   -- the frames that are left

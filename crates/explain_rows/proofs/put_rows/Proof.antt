@@ -54,9 +54,13 @@ loop-again : tie.Need-loop-again Inv-loop μ-loop
 loop-again c =
     let a = c .before .before .before .before .before .before .before .before .before .before .before .before .before .before .before .before .before .args in
     rowing-on _ _ _ _ _ _ _ _ (c .before .before .before .before .before .before .before .before .before .before .loop .inv) (omega arith)
-    (put-both _ _ _ _ 2 (a .position ∷ c .before .before .before .before .before .before .before .pair-of .result ∷ []) (slotsBy (state (a .window .now) (a .registers .now)) (a .live .now) (a .bases .now) (a .derived .now) (lookUp (a .olds .now) (a .news .now)) (a .pointers) (pointersBy (a .old) (poolOf (a .s .now)) (a .frame) (recordOf (a .s .now) (a .at))) (a .frame .sp) (c .before .before .before .before .before .before .before .before .before .before .loop .k)) _
+    (put-both _ _ _ _ 2 (a .position ∷ c .before .before .before .before .before .before .before .pair-of .result ∷ [])
+    (slotsBy (state (a .window .now) (a .registers .now)) (a .live .now) (a .bases .now) (a .derived .now) (lookUp (a .olds .now) (a .news .now)) (a .pointers)
+    (pointersBy (a .old) (poolOf (a .s .now)) (a .frame) (recordOf (a .s .now) (a .at))) (a .frame .sp) (c .before .before .before .before .before .before .before .before .before .before .loop .k)) _
     (c .before .before .before .before .before .before .put-head .ensures) (c .before .before .put-slots .ensures) refl
-    (row-is (state (a .window .now) (a .registers .now)) (a .live .now) (a .bases .now) (a .derived .now) (lookUp (a .olds .now) (a .news .now)) (a .pointers) (pointersBy (a .old) (poolOf (a .s .now)) (a .frame) (recordOf (a .s .now) (a .at))) (a .frame .sp) (a .position) (c .before .before .before .before .before .before .before .before .before .before .loop .k) _ (c .before .before .before .before .before .before .before .pair-of .ensures (a .frame))))
+    (row-is (state (a .window .now) (a .registers .now)) (a .live .now) (a .bases .now) (a .derived .now) (lookUp (a .olds .now) (a .news .now)) (a .pointers)
+    (pointersBy (a .old) (poolOf (a .s .now)) (a .frame) (recordOf (a .s .now) (a .at))) (a .frame .sp) (a .position) (c .before .before .before .before .before .before .before .before .before .before .loop .k) _
+    (c .before .before .before .before .before .before .before .pair-of .ensures (a .frame))))
 
 same-length : tie.Need-same-length Inv-loop μ-loop
 same-length c = c .before .loop .inv .wide

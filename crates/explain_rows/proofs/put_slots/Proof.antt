@@ -35,14 +35,31 @@ same-length c = search needs
 returns : tie.Need-returns
 returns c =
     let a = c .before .before .before .before .before .before .before .before .before .before .before .before .before .before .before .before .before .before .args in
-    put-nulls _ _ _ _ (c .before .before .before .before .before .before .before .before .plain .result) (c .before .before .before .plain2 .result) (ap (λ (t : Told). numbersOf t) (c .before .before .before .before .before .before .before .before .plain .ensures)) (ap (λ (t : Told). numbersOf t) (c .before .before .before .plain2 .ensures))
-    (c .before .before .before .before .before .before .before .put-slot .ensures) (c .before .before .put-slot2 .ensures) _ (slots-null (state (a .window .now) (a .registers .now)) (a .live .now) (a .bases .now) (a .derived .now) (lookUp (a .olds .now) (a .news .now)) (a .pointers) (pointersBy (a .old) (poolOf (a .s .now)) (a .frame) (recordOf (a .s .now) (a .at))) (a .frame .sp) (a .k) (c .before .before .before .before .before .before .before .before .before .before .if1 .taken))
+    put-nulls _ _ _ _ (c .before .before .before .before .before .before .before .before .plain .result) (c .before .before .before .plain2 .result)
+    (ap (λ (t : Told). numbersOf t) (c .before .before .before .before .before .before .before .before .plain .ensures)) (ap (λ (t : Told). numbersOf t) (c .before .before .before .plain2 .ensures))
+    (c .before .before .before .before .before .before .before .put-slot .ensures) (c .before .before .put-slot2 .ensures) _
+    (slots-null (state (a .window .now) (a .registers .now)) (a .live .now) (a .bases .now) (a .derived .now) (lookUp (a .olds .now) (a .news .now)) (a .pointers)
+    (pointersBy (a .old) (poolOf (a .s .now)) (a .frame) (recordOf (a .s .now) (a .at))) (a .frame .sp) (a .k) (c .before .before .before .before .before .before .before .before .before .before .if1 .taken))
 
 mul-put-told : tie.Need-mul-put-told
 mul-put-told c = search needs
 
 element-copy-out-put-told : tie.Need-element-copy-out-put-told
 element-copy-out-put-told c = search needs
+
+returns-2 : tie.Need-returns-2
+returns-2 c =
+    let a = c .before .before .before .before .before .before .before .before .before .before .before .before .before .before .before .before .before .before .args in
+    let b = getD (a .bases .now) (a .k) 0 in
+    let d = getD (a .derived .now) (a .k) 0 in
+    put-both _ _ _ _ 7 (slotBy (state (a .window .now) (a .registers .now)) (a .live .now) (a .bases .now) (a .derived .now) (lookUp (a .olds .now) (a .news .now)) (a .pointers)
+    (pointersBy (a .old) (poolOf (a .s .now)) (a .frame) (recordOf (a .s .now) (a .at))) (a .frame .sp) b)
+    (slotBy (state (a .window .now) (a .registers .now)) (a .live .now) (a .bases .now) (a .derived .now) (lookUp (a .olds .now) (a .news .now)) (a .pointers)
+    (pointersBy (a .old) (poolOf (a .s .now)) (a .frame) (recordOf (a .s .now) (a .at))) (a .frame .sp) d) _ (c .before .before .before .before .before .before .before .put-told .ensures) (c .before .before .put-told2 .ensures)
+    (slot-length (state (a .window .now) (a .registers .now)) (a .live .now) (a .bases .now) (a .derived .now) (lookUp (a .olds .now) (a .news .now)) (a .pointers)
+    (pointersBy (a .old) (poolOf (a .s .now)) (a .frame) (recordOf (a .s .now) (a .at))) (a .frame .sp) b)
+    (slots-live (state (a .window .now) (a .registers .now)) (a .live .now) (a .bases .now) (a .derived .now) (lookUp (a .olds .now) (a .news .now)) (a .pointers)
+    (pointersBy (a .old) (poolOf (a .s .now)) (a .frame) (recordOf (a .s .now) (a .at))) (a .frame .sp) (a .k) (c .before .before .before .before .before .before .before .before .before .before .if1 .left))
 
 put-told-requires : tie.Need-put-told-requires
 put-told-requires c κs =
@@ -62,16 +79,6 @@ put-told-requires-2 c κs =
 
 same-length-2 : tie.Need-same-length-2
 same-length-2 c = search needs
-
-returns-2 : tie.Need-returns-2
-returns-2 c =
-    let a = c .before .before .before .before .before .before .before .before .before .before .before .before .before .before .before .before .before .before .args in
-    let b = getD (a .bases .now) (a .k) 0 in
-    let d = getD (a .derived .now) (a .k) 0 in
-    put-both _ _ _ _ 7 (slotBy (state (a .window .now) (a .registers .now)) (a .live .now) (a .bases .now) (a .derived .now) (lookUp (a .olds .now) (a .news .now)) (a .pointers) (pointersBy (a .old) (poolOf (a .s .now)) (a .frame) (recordOf (a .s .now) (a .at))) (a .frame .sp) b)
-    (slotBy (state (a .window .now) (a .registers .now)) (a .live .now) (a .bases .now) (a .derived .now) (lookUp (a .olds .now) (a .news .now)) (a .pointers) (pointersBy (a .old) (poolOf (a .s .now)) (a .frame) (recordOf (a .s .now) (a .at))) (a .frame .sp) d) _ (c .before .before .before .before .before .before .before .put-told .ensures) (c .before .before .put-told2 .ensures)
-    (slot-length (state (a .window .now) (a .registers .now)) (a .live .now) (a .bases .now) (a .derived .now) (lookUp (a .olds .now) (a .news .now)) (a .pointers) (pointersBy (a .old) (poolOf (a .s .now)) (a .frame) (recordOf (a .s .now) (a .at))) (a .frame .sp) b)
-    (slots-live (state (a .window .now) (a .registers .now)) (a .live .now) (a .bases .now) (a .derived .now) (lookUp (a .olds .now) (a .news .now)) (a .pointers) (pointersBy (a .old) (poolOf (a .s .now)) (a .frame) (recordOf (a .s .now) (a .at))) (a .frame .sp) (a .k) (c .before .before .before .before .before .before .before .before .before .before .if1 .left))
 
 pub put-slots-spec : {M : Type 1} → statement M
 put-slots-spec =

@@ -27,7 +27,10 @@ same-length c = search needs
 
 returns : tie.Need-returns
 returns c =
-    put-slot-told (c .before .before .before .before .before .before .before .before .before .before .before .before .before .before .before .args .rows .now) _ (c .before .before .before .before .before .before .before .before .before .before .before .before .before .before .before .args .to) _ _ _ _ _ _ _ _ _ (c .before .before .put-slot .ensures) (c .before .before .before .before .before .sort .ensures) (c .before .before .before .before .place .ensures) (c .before .before .before .before .before .before .before .before .read .ensures) (c .before .before .before .numbers .ensures)
+    put-slot-told (c .before .before .before .before .before .before .before .before .before .before .before .before .before .before .before .args .rows .now) _
+    (c .before .before .before .before .before .before .before .before .before .before .before .before .before .before .before .args .to) _ _ _ _ _ _ _ _ _ (c .before .before .put-slot .ensures)
+    (c .before .before .before .before .before .sort .ensures) (c .before .before .before .before .place .ensures) (c .before .before .before .before .before .before .before .before .read .ensures)
+    (c .before .before .before .numbers .ensures)
     (c .before .before .before .before .before .before .before .of-number .ensures (c .before .before .before .before .before .before .before .before .before .before .before .before .before .before .before .args .frame))
 
 pub put-told-spec : {M : Type 1} → statement M

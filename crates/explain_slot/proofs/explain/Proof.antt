@@ -67,7 +67,8 @@ reason-requires c κs =
     let a = s .args in
     let R = restore (a .section .now) (a .olds .now) (a .news .now) (a .first) (a .settings) in
     let f = c .before .before .before .before .before .before .cursor in
-    let h = judged-cursor R (a .image .now) (stopped (a .frame) (a .registers .now)) _ (f .result) _ _ _ _ (sym (f .ensures)) (c .before .before .before .before .before .before .before .before .before .judge .ensures) .held (c .before .before .before .before .before .before .before .if1 .left) in
+    let h = judged-cursor R (a .image .now) (stopped (a .frame) (a .registers .now)) _ (f .result) _ _ _ _ (sym (f .ensures)) (c .before .before .before .before .before .before .before .before .before .judge .ensures) .held
+    (c .before .before .before .before .before .before .before .if1 .left) in
     let x = extent-tells (a .first) (length (a .image .now)) (f .result .sp) (c .before .before .before .before .before .before .before .before .before .judge .result .size) (h .stands .extent) in
     let off = f .result .sp - a .first in
     let n = off + c .before .before .before .before .before .before .before .before .before .judge .result .size - off in
@@ -81,11 +82,13 @@ returns-2 c =
     let a = s .args in
     let R = restore (a .section .now) (a .olds .now) (a .news .now) (a .first) (a .settings) in
     let f = c .before .before .before .before .before .before .before .cursor in
-    let h = judged-cursor R (a .image .now) (stopped (a .frame) (a .registers .now)) _ (f .result) _ _ _ _ (sym (f .ensures)) (c .before .before .before .before .before .before .before .before .before .before .judge .ensures) .held (c .before .before .before .before .before .before .before .before .if1 .left) in
+    let h = judged-cursor R (a .image .now) (stopped (a .frame) (a .registers .now)) _ (f .result) _ _ _ _ (sym (f .ensures)) (c .before .before .before .before .before .before .before .before .before .before .judge .ensures) .held
+    (c .before .before .before .before .before .before .before .before .if1 .left) in
     let x = extent-tells (a .first) (length (a .image .now)) (f .result .sp) (c .before .before .before .before .before .before .before .before .before .before .judge .result .size) (h .stands .extent) in
     let off = f .result .sp - a .first in
     let n = off + c .before .before .before .before .before .before .before .before .before .before .judge .result .size - off in
-    tells-slice R (a .image .now) (stopped (a .frame) (a .registers .now)) (f .result) (c .before .before .before .before .before .before .before .before .before .before .judge .result) _ _ _ (slotOf (a .asked)) n (omega arith) _ (c .reason .ensures (f .result)) h
+    tells-slice R (a .image .now) (stopped (a .frame) (a .registers .now)) (f .result) (c .before .before .before .before .before .before .before .before .before .before .judge .result) _ _ _ (slotOf (a .asked)) n (omega arith) _
+    (c .reason .ensures (f .result)) h
 
 pub explain-spec : {M : Type 1} → statement M
 explain-spec =

@@ -98,7 +98,8 @@ returns-3 c =
     let w : 16 * j .result .count ≡ length rows = omega arith in
     let l : length rows ≤ length (a .rows .now) = let k = c .before .before .before .before .if2 .left in omega arith in (
       ap acceptedMove w ∙ sym (rows-yes (threadAnswer R im th) rows (a .rows .now) y l),
-      c .before .before .put-frames .ensures ∙ ap (λ (fs : List Stopped). sets (a .rows .now) 0 (threadRows R im 0 fs)) (frames-are R im th y (a .count) (a .keys .now) (a .hits .now) (s .pre .0) (s .pre .1) (s .pre .2)) ∙ sym (list-written (threadAnswer R im th) rows (a .rows .now) y l),
+      c .before .before .put-frames .ensures ∙ ap (λ (fs : List Stopped). sets (a .rows .now) 0 (threadRows R im 0 fs)) (frames-are R im th y (a .count) (a .keys .now) (a .hits .now) (s .pre .0) (s .pre .1) (s .pre .2)) ∙ sym
+          (list-written (threadAnswer R im th) rows (a .rows .now) y l),
     )
 
 pub of-checked-spec : {M : Type 1} → statement M

@@ -28,8 +28,14 @@ put-frame-requires c κs =
     let R = restore (a .s .now) (a .olds .now) (a .news .now) (a .first) (a .settings) in
     let th = threadOf (a .machine) (a .frames .now) (a .registers .now) in
     let l = c .before .before .loop in
-    let t = c .before .loop-test .taken in
-    (s .pre .0, t, going-yes R (a .image .now) th (a .count) _ _ (l .k) (l .to) (l .inv) t, going-room R (a .image .now) th (a .count) _ _ (l .k) (l .to) (l .inv) t (s .pre .2), omega (arith, l .inv .fits, pointers-few R (a .image .now) th (s .pre .0 .most-right) (a .count) 0, s .pre .0 .looked .most))
+    let t = c .before .loop-test .taken in (
+      s .pre .0,
+      t,
+      going-yes R (a .image .now) th (a .count) _ _ (l .k) (l .to) (l .inv) t,
+      going-room R (a .image .now) th (a .count) _ _ (l .k) (l .to) (l .inv) t (s .pre .2),
+      omega
+          (arith, l .inv .fits, pointers-few R (a .image .now) th (s .pre .0 .most-right) (a .count) 0, s .pre .0 .looked .most),
+    )
 
 add-k : tie.Need-add-k Inv-loop μ-loop
 add-k c = omega (arith, c .before .before .before .before .before .before .before .before .before .before .before .before .before .pre .0 .looked .most)

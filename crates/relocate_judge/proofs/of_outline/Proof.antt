@@ -48,7 +48,8 @@ judge-window-requires c κs =
       o .formed .few,
       omega (arith, o .small),
       omega (arith, s .pre .2),
-      rw (s .pre .2) (placed-end (a .frame .sp - a .first) (a .outline .size) _ _ _ _ _ (o .formed .counted) (c .before .before .before .before .before .before .before .before .fill .ensures .3 (c .before .before .before .before .before .before .if1 .left))),
+      rw (s .pre .2) (placed-end (a .frame .sp - a .first) (a .outline .size) _ _ _ _ _ (o .formed .counted)
+          (c .before .before .before .before .before .before .before .before .fill .ensures .3 (c .before .before .before .before .before .before .if1 .left))),
       s .pre .3,
     )
 
@@ -68,7 +69,7 @@ returns-2 c g settings l =
     let in-all = c .before .before .before .before .before .before .before .before .before .before .before .before .if1 .left in
     leads-stop (a .s .now) (a .olds .now) (a .news .now) (a .first) settings (a .image .now) g (a .registers .now) (a .frame) (a .outline) (s .pre .0) l
     (i .result) (i .ensures .0) in-all _ _ _ (i .ensures .2 in-all) (i .ensures .3 in-all) (p .result) (j .result) (p .ensures (a .frame)) (j .ensures)
-    (c .before .if2 .taken) _ (c .refused2 .ensures)
+    (λ z. omega arith) _ (c .refused2 .ensures)
 
 returns-3 : tie.Need-returns-3
 returns-3 c g settings l =

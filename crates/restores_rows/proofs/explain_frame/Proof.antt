@@ -21,7 +21,8 @@ returns c =
     let a = c .before .before .before .before .before .before .before .before .before .before .before .before .before .args in
     let Q = request (a .store) (a .edition) (a .section .now) (a .olds .now) (a .news .now) (a .first) in
     let st : Machine → Stopped = λ m. stopped (record { machine = m; address = a .address; function = a .function }) (a .registers .now) in
-    told-passed Q (a .machine) (c .before .before .before .before .before .before .begin .result) (c .before .before .before .before .before .before .begin .ensures) (a .rows .now) (λ m R. explainFrame R (a .image .now) (st m) (a .rows .now)) (λ m R. explainFrameList R (a .image .now) (st m) (a .rows .now))
+    told-passed Q (a .machine) (c .before .before .before .before .before .before .begin .result) (c .before .before .before .before .before .before .begin .ensures) (a .rows .now)
+    (λ m R. explainFrame R (a .image .now) (st m) (a .rows .now)) (λ m R. explainFrameList R (a .image .now) (st m) (a .rows .now))
     (c .before .before .before .before .before .if1 .taken) _ _ (c .before .before .explain .ensures .0) (c .before .before .explain .ensures .1)
 
 refused-requires : tie.Need-refused-requires

@@ -21,7 +21,8 @@ returns c =
     let a = c .before .before .before .before .before .before .before .before .before .before .before .before .before .before .args in
     let Q = request (a .store) (a .edition) (a .section .now) (a .olds .now) (a .news .now) (a .first) in
     let th : Machine → Thread = λ m. threadOf m (a .list .now) (a .registers .now) in
-    told-passed Q (a .machine) (c .before .before .before .before .before .before .begin .result) (c .before .before .before .before .before .before .begin .ensures) (a .rows .now) (λ m R. explainThread R (a .image .now) (th m) (a .rows .now)) (λ m R. explainThreadList R (a .image .now) (th m) (a .rows .now))
+    told-passed Q (a .machine) (c .before .before .before .before .before .before .begin .result) (c .before .before .before .before .before .before .begin .ensures) (a .rows .now)
+    (λ m R. explainThread R (a .image .now) (th m) (a .rows .now)) (λ m R. explainThreadList R (a .image .now) (th m) (a .rows .now))
     (c .before .before .before .before .before .if1 .taken) _ _ (c .before .before .explain .ensures .0) (c .before .before .explain .ensures .1)
 
 refused-requires : tie.Need-refused-requires

@@ -63,7 +63,8 @@ judge-found-requires c κs =
     let s = c .before .before .before .before .before .before .before .before .before .before .before .before .before .before in
     let a = s .args in
     let f = c .before .before .before .before .cursor .result in
-    let e : c .before .before .before .before .before .before .of-frame .result ≡ firstOf (sought (a .s .now) (f .function) (f .address)) = rw (c .before .before .before .before .cursor .ensures) (c .before .before .before .before .before .before .of-frame .ensures) in
+    let e : c .before .before .before .before .before .before .of-frame .result ≡ firstOf (sought (a .s .now) (f .function) (f .address)) = rw (c .before .before .before .before .cursor .ensures)
+    (c .before .before .before .before .before .before .of-frame .ensures) in
     (s .pre .0 .looked .section-right, e, s .pre .0 .image-right, s .pre .0 .table-right, s .pre .0 .most-right, search needs)
 
 returns : tie.Need-returns

@@ -42,12 +42,19 @@ returns c =
     let no = j .ensures .refused (c .before .if1 .taken) in
     let m = answer R (a .image .now) (stoppedAt th (c .before .before .before .before .before .before .before .before .loop .k)) in
     c .refused .ensures ∙ ap (λ (n : ℕ). refusedMove n (c .before .before .before .before .before .before .before .before .loop .k)) (sym (no .0))
-    ∙ judging-stop R (a .image .now) th (a .count) (acceptedMove (pointersIn R (a .image .now) (framesFrom th (a .count) 0))) (c .before .before .before .before .before .before .before .before .loop .inv) (c .before .before .before .before .before .before .before .loop-test .taken) m refl (λ z. c .before .if1 .taken (sym (no .0) ∙ z))
+    ∙ judging-stop R (a .image .now) th (a .count) (acceptedMove (pointersIn R (a .image .now) (framesFrom th (a .count) 0))) (c .before .before .before .before .before .before .before .before .loop .inv)
+    (c .before .before .before .before .before .before .before .loop-test .taken) m refl (λ z. c .before .if1 .taken (sym (no .0) ∙ z))
 
 add-sum : tie.Need-add-sum Inv-loop μ-loop
 add-sum c =
     let q = c .before .before .before .before .before .before .before .before .before .before .before .before .before .before .before in
-    omega (arith, c .before .before .before .judge-frame .ensures .held (c .before .if1 .left) .stands .formed .few, c .before .before .before .before .before .before .before .before .loop .inv .few, c .before .before .before .before .before .before .before .before .loop .inv .most, q .pre .looked .most)
+    omega (
+      arith,
+      c .before .before .before .judge-frame .ensures .held (c .before .if1 .left) .stands .formed .few,
+      c .before .before .before .before .before .before .before .before .loop .inv .few,
+      c .before .before .before .before .before .before .before .before .loop .inv .most,
+      q .pre .looked .most,
+    )
 
 add-k : tie.Need-add-k Inv-loop μ-loop
 add-k c = omega (arith, c .before .before .before .before .before .before .before .before .loop .inv .most, c .before .before .before .before .before .before .before .before .before .before .before .before .before .before .before .pre .looked .most)
@@ -66,7 +73,8 @@ loop-again c =
     let m = answer R (a .image .now) (stoppedAt th (l .k)) in
     let is = j .ensures .held (c .before .if1 .left) .answer-is in
     let n : m .count ≡ j .result .pointers = ap (λ (x : Move). x .count) is in
-    rw (← n) (judging-on R (a .image .now) th (a .count) (acceptedMove (pointersIn R (a .image .now) (framesFrom th (a .count) 0))) (l .inv) (c .before .before .before .before .before .before .before .loop-test .taken) m refl (q .pre .most-right) (ap (λ (x : Move). x .number) is))
+    rw (← n) (judging-on R (a .image .now) th (a .count) (acceptedMove (pointersIn R (a .image .now) (framesFrom th (a .count) 0))) (l .inv) (c .before .before .before .before .before .before .before .loop-test .taken) m refl
+    (q .pre .most-right) (ap (λ (x : Move). x .number) is))
 
 returns-2 : tie.Need-returns-2 Inv-loop μ-loop
 returns-2 c =
