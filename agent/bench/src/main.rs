@@ -3,8 +3,8 @@
 //!
 //! `cargo --offline run --release -p bench [ROUNDS] [--svg DIR]`; with a folder, the rows are drawn there too.
 //! `cargo --offline run --release -p bench reads [ROUNDS]` measures the two ways to read eight bytes, and nothing else;
-//! with `flat` instead of `reads`, flat sections and nothing else, with `index`, address indexes, and with `report`, the
-//! monthly report, by the command too.
+//! with `flat` instead of `reads`, flat sections and nothing else, with `index`, address indexes, with `report`, the
+//! monthly report, by the command too, and with `restores`, replays, explanations and the bench controller.
 
 mod conversions;
 mod flat;
@@ -14,6 +14,7 @@ mod measure;
 mod parser;
 mod reads;
 mod report;
+mod restores;
 mod section;
 mod svg;
 mod thread;
@@ -51,6 +52,7 @@ fn main() {
         ["flat", ref rest @ ..] => flat::rows(rounds(rest), LIMIT),
         ["index", ref rest @ ..] => index::rows(rounds(rest), LIMIT),
         ["report", ref rest @ ..] => report::rows(rounds(rest), LIMIT),
+        ["restores", ref rest @ ..] => restores::rows(rounds(rest), LIMIT),
         ref rest => all(rounds(rest)),
     }
 }
@@ -69,7 +71,7 @@ fn rounds(words: &[&str]) -> usize {
         Some(rounds) if rounds >= FEWEST => return rounds,
         Some(_) => eprintln!("bench: fewer than {FEWEST} rounds give no steady median"),
         None => eprintln!(
-            "bench: [reads|flat|index|report] [ROUNDS] is what can be asked, and not `{}`",
+            "bench: [reads|flat|index|report|restores] [ROUNDS] is what can be asked, and not `{}`",
             words.join(" ")
         ),
     }

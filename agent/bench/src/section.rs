@@ -234,6 +234,25 @@ pub fn statepoint_with_pairs(pairs: usize) -> Vec<u8> {
     parts.bytes()
 }
 
+/// A section that the bench controller takes, as large as it may be: 64 statepoints of one function, the first at `STATEPOINT`, with 16
+/// pairs each, as those of `statepoint_with_pairs`.
+pub fn profile() -> Vec<u8> {
+    let mut parts = Parts::default();
+    let mut locations = vec![constant(0); 3];
+    for pair in 0..16 {
+        let base = (3, 8, RSP, 8 * (pair & !1));
+        locations.extend([base, (3, 8, RSP, 8 * pair)]);
+    }
+    for number in 0..64 {
+        parts.write_record(number, &locations, 0);
+    }
+    for field in [0x40_0000, 128, 64] {
+        parts.functions.extend(u64::to_le_bytes(field));
+    }
+    parts.record_count = 64;
+    parts.bytes()
+}
+
 /// A section of one statepoint, at `STATEPOINT`, whose slots from RSP on are each their own base: `pointers` of them, so many to a pair.
 pub fn statepoint_of_selves(pointers: usize, to_a_pair: usize) -> Vec<u8> {
     let mut parts = Parts::default();

@@ -24,7 +24,7 @@ const MOST_FOR_ALL: f64 = 2.0;
 
 const FRAMES: usize = 4_096;
 const OBJECTS: u64 = 65_536;
-const STACK: u64 = 0x7fff_0000_0000;
+pub const STACK: u64 = 0x7fff_0000_0000;
 const WORD: u64 = 8;
 
 /// The most bytes of a frame: on both sections the frames then fit in the largest image.
@@ -45,7 +45,7 @@ pub struct Stack {
 #[derive(Clone, Default)]
 pub struct List {
     pub frames: Vec<Frame>,
-    registers: Vec<Registers>,
+    pub registers: Vec<Registers>,
 }
 
 impl List {
@@ -230,7 +230,7 @@ impl Stack {
         ]
     }
 
-    fn table(&self) -> MoveTable<'_> {
+    pub fn table(&self) -> MoveTable<'_> {
         MoveTable::new(&self.objects, &self.objects)
     }
 
