@@ -22,6 +22,7 @@ use Rattle.controller.specs.Profile.{profileCheck}
 use Rattle.controller.specs.Controller.{controllerAnswer, controllerImage, controllerRegisters, controllerThreadAnswer, controllerThreadImage, controllerThreadRegisters}
 use Rattle.controller.specs.Lists.{isValid, inProfile, taken}
 use Rattle.controller.specs.Laws.{AsBase, Excluded, NeverGives, ControllerDemand3, ControllerOrderFree, SameThread, ControllerOneInstant, ControllerLaws}
+use Rattle.controller.proofs.First.{profile-first}
 use Rattle.controller.proofs.Profiles.{profiled}
 use Rattle.controller.proofs.Own.{Own, own}
 use Rattle.controller.proofs.Excluded.{other, base-excluded}
@@ -111,6 +112,7 @@ one-instant =
 pub controller-laws : ControllerLaws
 controller-laws =
     record {
+      profile-first = profile-first;
       as-base = as-base;
       never-gives = never-gives;
       demand3 = demand3;

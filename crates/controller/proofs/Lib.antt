@@ -1,3 +1,4 @@
+mod First
 pub mod Breaches
 pub mod Pairs
 pub mod Profiles

@@ -1,5 +1,5 @@
--- The controller's moves and threads: 1 to 9, then 50, then 33 and the rest as the base gives them. What it accepts, it moves exactly as the
--- base does.
+-- The controller's moves and threads: 1 to 9, then 50, then 33 and the rest as the base gives them.
+-- What it accepts, it moves exactly as the base does.
 use Prim.Native.Nat.{ℕ}
 use mathlib.Core.List.{List}
 use Rattle.questions.specs.Questions.{ask}

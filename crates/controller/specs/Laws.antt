@@ -3,6 +3,8 @@ use Prim.Native.Nat.{ℕ, _≤_}
 use mathlib.Core.Path.{_≡_}
 use mathlib.Core.Bool.{true, false}
 use mathlib.Core.List.{List, map, List·Permᴰ}
+use Rattle.stackmap.specs.declared.Verdict.the-variants.{Refused}
+use Rattle.moves.specs.Settle.{refusedMove}
 use Rattle.relocate.specs.Restore.{Restore}
 use Rattle.relocate.specs.Stopped.{Stopped}
 use Rattle.relocate.specs.Relocation.{answer, moved, movedRegisters}
@@ -10,10 +12,17 @@ use Rattle.relocate.specs.Lists.{final, Disjoint, Holds}
 use Rattle.thread.specs.Thread.{Thread, threadAnswer, threadImage, threadRegisters}
 use Rattle.thread.specs.Theorems.{Movable, ByFrames, SameCall}
 use Rattle.thread.specs.Thread.{listRight, framesOf}
-use Rattle.controller.specs.Profile.{pointersMost}
+use Rattle.controller.specs.Profile.{pointersMost, profileCheck}
 use Rattle.controller.specs.Controller.{controllerAnswer, controllerImage, controllerRegisters, controllerThreadAnswer, controllerThreadImage, controllerThreadRegisters}
 use Rattle.controller.specs.Lists.{controllerAnswers, controllerFinal, controllerFinalRegisters, inProfile, taken}
 use Rattle.controller.specs.Worked.{WorkedProfile}
+
+-- 0. The section's own refusals and 50 come before 33 and all else, whatever settings, image, table and registers are.
+pub record ProfileFirst : Type 0 where
+  pub frame : (R : Restore) (im : List ℕ) (f : Stopped) (n p : ℕ) → profileCheck (f .frame .machine) (R .section) ≡ Refused n p
+      → controllerAnswer R im f ≡ refusedMove n p
+  pub thread : (R : Restore) (im : List ℕ) (t : Thread) (n p : ℕ) → profileCheck (t .machine) (R .section) ≡ Refused n p
+      → controllerThreadAnswer R im t ≡ refusedMove n p
 
 -- 1. What the profile takes is moved exactly as the base does; nothing else is accepted, and a refusal changes nothing.
 pub record AsBase : Type 0 where
@@ -74,6 +83,7 @@ pub record ControllerOneInstant : Type 0 where
       → listRight (t′ .list) (t′ .registers) ≡ true → List·Permᴰ (framesOf t) (framesOf t′) → SameThread R im t × SameThread R im t′ × SameCall R im t t′
 
 pub record ControllerLaws : Type 0 where
+  pub profile-first : ProfileFirst
   pub as-base : AsBase
   pub never-gives : NeverGives
   pub demand3 : ControllerDemand3

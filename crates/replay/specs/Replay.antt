@@ -41,8 +41,10 @@ unfoldable pub imageOf : Traced → List ℕ → (List Stopped → List ℕ) →
 imageOf (broken p) im left = im
 imageOf (whole ss) im left = left (framesOf ss)
 
--- Under an edition of a store: R is the section, the table and the first address, which wait for settings. The frames are moved one after
--- another, each on the image that the last one left, and with the registers of its own item. Where the edition is unknown each answer is 31.
+-- Under an edition of a store: R is the section, the table and the first address, which wait for settings.
+-- The frames are moved one after another, also after a difference,
+-- each on the image that the last one left, and with the registers of its own item.
+-- Where the edition is unknown each answer is 31.
 module _ (st : Store) (e : ℕ) (R : Settings → Restore) (im : List ℕ) where
   abbrev pub answersUnder : List Stopped → List Move
   answersUnder fs = under st e (map (λ (f : Stopped). refusedMove 31 0) fs) (λ settings. answers (R settings) fs im)
