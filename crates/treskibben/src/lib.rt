@@ -88,7 +88,7 @@ pub extern "C" fn treskibben_location(
 ) -> answers::Location
     ensures { λ r. ⌜ r ≡ locationOf (locationAnswer (now (section .entry)) «record» location) ⌝ }
 {
-    answers::location_answer(questions_read::read::location(section, record, location))
+    answers::location_answer(questions_items::location(section, record, location))
 }
 
 // The question by record and live-out number: the section's refusal, 10, 11, or the live-out.
@@ -100,7 +100,7 @@ pub extern "C" fn treskibben_live_out(
 ) -> answers::LiveOut
     ensures { λ r. ⌜ r ≡ liveOutOf (liveOutAnswer (now (section .entry)) «record» «live_out») ⌝ }
 {
-    answers::live_out_answer(questions_read::read::live_out(section, record, live_out))
+    answers::live_out_answer(questions_items::live_out(section, record, live_out))
 }
 
 // Section to listing: the section's refusal, 24, or the listing in the output and its length. A refusal writes nothing, and
