@@ -12,9 +12,9 @@ use relocate::Machine;
 use relocate::Spot;
 // The machine's two pointers, for the callers too.
 pub use relocate_registers::frame_pointer;
-pub use relocate_registers::stack_pointer;
 use relocate_registers::is_frame_or_stack;
 use relocate_registers::is_register_slot;
+pub use relocate_registers::stack_pointer;
 use stackmap::layout;
 
 const KIND_REGISTER: u8 = 1;
