@@ -55,7 +55,7 @@ pub fn explain(
         return moving::refused(24, 0);
     }
     let at = relocate_frame::cursor(frame, registers);
-    explain_rows::put_frame(
+    explain_outline::put_frame(
         section,
         outline,
         image,

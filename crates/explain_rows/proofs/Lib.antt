@@ -1,4 +1,1 @@
-pub mod Lengths
 pub mod Writing
-pub mod Meets
-pub mod Answers

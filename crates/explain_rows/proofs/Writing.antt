@@ -1,5 +1,5 @@
 -- Rows written one after the other.
-use Prim.Native.Nat.{ℕ, zero, suc, _+_, _*_, _-_, _/_, _≤_, _<_}
+use Prim.Native.Nat.{ℕ, zero, suc, _+_, _*_, _-_, _≤_, _<_}
 use mathlib.Core.Path.{_≡_, refl, sym, ap, _∙_}
 use mathlib.Core.Bool.{Bool, true, false, cond}
 use mathlib.Core.Option.{Option}
@@ -7,39 +7,19 @@ use mathlib.Core.List.{List, [], _∷_, _++_}
 use native.Mathlib.Omega.{arith}
 use borrow.Author.Tests.{eq-eqb, ne-eqb}
 use lib.Dec.{eqb}
-use lib.ListN.{length, getD, set, length-append}
+use lib.ListN.{length, getD, length-append}
 use lib.Seq.{sets, length-sets}
 use Rattle.wire.proofs.Laws.{sets-append}
 use Rattle.moves.specs.Slots.{State}
 use Rattle.moves.specs.Pointers.{Pointer}
 use Rattle.moves.specs.Plan.{pairOf}
-use Rattle.moves.specs.Arrays.{registersFrom}
-use Rattle.moves.proofs.Numbers.{slot-memory, slot-register}
 use Rattle.explain.specs.declared.Reason.{Reason}
 use Rattle.explain.specs.Rows.{reasonNumbers, noSlot}
-use Rattle.explain_search.specs.Told.{toldOf}
-use Rattle.explain_rows.specs.declared.Told.{Told}
-use Rattle.explain_rows.specs.Written.{numbersOf, sortAt, placeAt, inOrder, slotBy, slotsBy, rowBy}
-use Rattle.explain_rows.proofs.Lengths.{reason-length}
-
--- The slot with the number x.
-
-module _ (x : ℕ) where
-  pub sort-memory : x < registersFrom → 1 ≡ sortAt x
-  unfolding sortAt
-  sort-memory h = rw (slot-memory x h)
-
-  pub sort-register : registersFrom ≤ x → 2 ≡ sortAt x
-  unfolding sortAt
-  sort-register h = rw (slot-register x h)
-
-  pub place-memory : (sp : ℕ) → x < registersFrom → sp + x ≡ placeAt sp x
-  unfolding placeAt
-  place-memory sp h = rw (slot-memory x h)
-
-  pub place-register : (sp : ℕ) → registersFrom ≤ x → (x - registersFrom) / 8 ≡ placeAt sp x
-  unfolding placeAt
-  place-register sp h = rw (slot-register x h)
+use Rattle.explain_pointers.specs.Told.{toldOf}
+use Rattle.explain_numbers.specs.declared.Told.{Told}
+use Rattle.explain_numbers.specs.Numbers.{numbersOf}
+use Rattle.explain_laws.proofs.Lengths.{reason-length}
+use Rattle.explain_rows.specs.Written.{inOrder, slotBy, slotsBy, rowBy}
 
 -- Every row is sixteen numbers.
 
@@ -87,19 +67,6 @@ pub put-nulls : (out mid after : List ℕ) (to : ℕ) (t u : Told) → numbersOf
     → mid ≡ sets out to (0 ∷ 0 ∷ 0 ∷ numbersOf t) → after ≡ sets mid (to + 7) (0 ∷ 0 ∷ 0 ∷ numbersOf u) → (zs : List ℕ) → noSlot ++ noSlot ≡ zs → after ≡ sets out to zs
 put-nulls out mid after to t u e d p q zs z =
     put-both out mid after to 7 noSlot noSlot zs (p ∙ ap (λ (l : List ℕ). sets out to (0 ∷ 0 ∷ 0 ∷ l)) e) (q ∙ ap (λ (l : List ℕ). sets mid (to + 7) (0 ∷ 0 ∷ 0 ∷ l)) d) refl z
-
--- Single numbers, one after the other.
-
-abbrev puts : List ℕ → ℕ → ℕ → List ℕ → List ℕ
-puts l i k [] = l
-puts l i k (v ∷ vs) = puts (set l (i + k) v) i (suc k) vs
-
-puts-are : (l : List ℕ) (i k : ℕ) (vs : List ℕ) → puts l i k vs ≡ sets l (i + k) vs
-puts-are l i k [] = refl
-puts-are l i k (v ∷ vs) = puts-are (set l (i + k) v) i (suc k) vs ∙ ap (λ (m : ℕ). sets (set l (i + k) v) m vs) (omega arith)
-
-pub put-numbers : (l : List ℕ) (i a : ℕ) (vs : List ℕ) → puts (set l i a) i 1 vs ≡ sets l i (a ∷ vs)
-put-numbers l i a vs = puts-are (set l i a) i 1 vs ∙ ap (λ (m : ℕ). sets (set l i a) m vs) (omega arith)
 
 -- a slot as `put_told` writes it
 pub put-slot-told : (out after : List ℕ) (to a a′ b b′ v v′ : ℕ) (t : Told) (r r′ : Reason) → after ≡ sets out to (a ∷ b ∷ v ∷ numbersOf t) → a ≡ a′ → b ≡ b′ → v ≡ v′

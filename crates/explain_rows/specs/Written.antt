@@ -10,22 +10,9 @@ use Rattle.moves.specs.Slots.{State, read}
 use Rattle.moves.specs.Pointers.{Pointer}
 use Rattle.moves.specs.Plan.{pairOf}
 use Rattle.moves.specs.Arrays.{slotOf}
-use Rattle.explain.specs.declared.Reason.{Reason}
-use Rattle.explain.specs.Explain.{addressed}
-use Rattle.explain.specs.Rows.{sortOf, placeOf, reasonNumbers, noSlot}
-use Rattle.explain_search.specs.Told.{toldOf}
-use Rattle.explain_rows.specs.declared.Told.{Told}
-
--- a reason as the code holds it
-abbrev pub numbersOf : Told → List ℕ
-numbersOf t = t .reason ∷ t .pair ∷ t .old ∷ t .new ∷ []
-
--- the sort of the slot with number x, and its address or register number
-unfoldable pub sortAt : ℕ → ℕ
-sortAt x = sortOf (slotOf x)
-
-unfoldable pub placeAt : ℕ → ℕ → ℕ
-placeAt sp x = placeOf (addressed sp (slotOf x))
+use Rattle.explain.specs.Rows.{reasonNumbers, noSlot}
+use Rattle.explain_pointers.specs.Told.{toldOf}
+use Rattle.explain_numbers.specs.Numbers.{sortAt, placeAt}
 
 -- rows one after the other: n of them, from row j on
 abbrev pub inOrder : (ℕ → List ℕ) → ℕ → ℕ → List ℕ

@@ -2,22 +2,22 @@
 // No entry point: it requires arrays that hold the pointers of a frame, and a table that has passed 14.
 ghost use mathlib.Core.Path.{_≡_};
 ghost use mathlib.Core.Bool.{true};
-ghost use Prim.Native.Nat.{ℕ, _≤_, _<_};
-ghost use lib.Dec.{ltb};
-ghost use lib.ListN.{length, getD};
+ghost use Prim.Native.Nat.{_≤_};
+ghost use lib.ListN.{length};
 ghost use Rattle.moves.specs.Limits.{pairsMost};
-ghost use Rattle.moves.specs.Search.{lowest};
 ghost use Rattle.moves.specs.Slots.{state};
 ghost use Rattle.moves.specs.Pointers.{orZero};
 ghost use Rattle.moves.specs.Table.{tableRight, lookUp};
-ghost use Rattle.moves.specs.Arrays.{Placed, AllPlaced};
+ghost use Rattle.moves.specs.Arrays.{AllPlaced};
 ghost use Rattle.relocate.specs.declared.Cursor as cursorType;
 ghost use Rattle.relocate.specs.Code.{recordOf, poolOf, Paired, pointersBy};
 ghost use Rattle.explain.specs.Explain.{slotOf};
-ghost use Rattle.explain_search.specs.Told.{numberOf, namedAt, movesAt, toldOf, told};
-use crate::numbers;
+ghost use Rattle.explain_pointers.specs.Told.{numberOf, toldOf, told};
 use explain::Asked;
 use explain::Reason;
+use explain_pointers::first_moved;
+use explain_pointers::named;
+use explain_pointers::numbers;
 use moves::NewStart;
 use moves::PAIRS_MOST;
 use moves_slots::slots;
@@ -34,77 +34,6 @@ fn new_start(olds: &[u64], news: &[u64], base: u64) -> u64
         NewStart::At(to) => to,
         NewStart::Nothing => 0,
     }
-}
-
-// Whether pointer k is derived in the slot x, from an old base that is not 0.
-fn moves_at(
-    window: &[u8],
-    registers: &[u64],
-    live: &[u8; PAIRS_MOST],
-    bases: &[usize; PAIRS_MOST],
-    derived: &[usize; PAIRS_MOST],
-    x: usize,
-    k: usize,
-) -> bool
-    requires { ⌜ (k < pairsMost) × ((getD (now live) k 0 ≡ 0 → ⊥) → Placed (length (now window)) (length (now registers)) (getD (now bases) k 0)) ⌝ }
-    ensures { λ r. ⌜ r ≡ movesAt (state (now (window .entry)) (now (registers .entry))) (now (live .entry)) (now (bases .entry)) (now (derived .entry)) x k ⌝ }
-{
-    if live[k] == 0 {
-        return false;
-    }
-    if derived[k] == x {
-        return slots::read(window, registers, bases[k]) != 0;
-    }
-    false
-}
-
-// The lowest such pointer, or `pointers` if there is none.
-fn first_moved(
-    window: &[u8],
-    registers: &[u64],
-    live: &[u8; PAIRS_MOST],
-    bases: &[usize; PAIRS_MOST],
-    derived: &[usize; PAIRS_MOST],
-    x: usize,
-    pointers: usize,
-) -> usize
-    requires { ⌜ (pointers ≤ pairsMost) × AllPlaced (length (now window)) (length (now registers)) pointers (now live) (now bases) (now derived) ⌝ }
-    ensures { λ r. ⌜ r ≡ lowest (movesAt (state (now (window .entry)) (now (registers .entry))) (now (live .entry)) (now (bases .entry)) (now (derived .entry)) x) pointers ⌝ }
-{
-    let mut k: usize = 0;
-    while k < pointers {
-        if moves_at(window, registers, live, bases, derived, x, k) {
-            return k;
-        }
-        k += 1;
-    }
-    k
-}
-
-// Whether pointer k has this slot, of its base slots or its derived slots.
-fn named_at(live: &[u8; PAIRS_MOST], numbers: &[usize; PAIRS_MOST], x: usize, k: usize) -> bool
-    requires { ⌜ k < pairsMost ⌝ }
-    ensures { λ r. ⌜ r ≡ namedAt (now (live .entry)) (now (numbers .entry)) x k ⌝ }
-{
-    if live[k] == 0 {
-        return false;
-    }
-    numbers[k] == x
-}
-
-// Whether one of the pointers has it.
-fn named(live: &[u8; PAIRS_MOST], numbers: &[usize; PAIRS_MOST], x: usize, pointers: usize) -> bool
-    requires { ⌜ pointers ≤ pairsMost ⌝ }
-    ensures { λ r. ⌜ r ≡ ltb (lowest (namedAt (now (live .entry)) (now (numbers .entry)) x) pointers) pointers ⌝ }
-{
-    let mut k: usize = 0;
-    while k < pointers {
-        if named_at(live, numbers, x, k) {
-            return true;
-        }
-        k += 1;
-    }
-    false
 }
 
 // The slot by its number x. The record at `at` has `count` pairs, from location `start` on, which are `pointers` pointers.

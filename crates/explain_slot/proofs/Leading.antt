@@ -15,7 +15,7 @@ use Rattle.relocate_judge.specs.Judged.{pointersIn, Held, Judged}
 use Rattle.explain.specs.declared.Reason.{Reason}
 use Rattle.explain.specs.declared.Reason.the-variants.{Refused}
 use Rattle.explain.specs.Explain.{explained}
-use Rattle.explain_search.specs.Told.{numberOf, told}
+use Rattle.explain_pointers.specs.Told.{numberOf, told}
 use Rattle.explain_slot.proofs.Meets.{says-refused, says-told}
 
 module _ (R : Restore) (im : List ℕ) (st : Stopped) (f : Cursor) (o : Outline) (live bases derived : List ℕ) (x : Slot) where

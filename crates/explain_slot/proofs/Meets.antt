@@ -31,9 +31,9 @@ use Rattle.relocate.proofs.Demand.{in-image}
 use Rattle.explain.specs.declared.Reason.{Reason}
 use Rattle.explain.specs.declared.Reason.the-variants.{Unlisted, OnlyBase, NullBase, Moved, Refused}
 use Rattle.explain.specs.Explain.{addressed, pointerAt, listed, Hit, lowestPair, derives, hasBase, oldBase, movedBy, orElse, still, byHit, accepted, explained}
-use Rattle.explain_search.specs.Told.{numberOf, namedAt, baseAt, movesAt, byPointer, toldOf, told}
-use Rattle.explain_search.proofs.Searching.{lowest-true, moves-live}
-use Rattle.explain_search.proofs.Lowest.{found, lost, none-found}
+use Rattle.explain_pointers.specs.Told.{numberOf, namedAt, baseAt, movesAt, byPointer, toldOf, told}
+use Rattle.explain_pointers.proofs.Searching.{lowest-true, moves-live}
+use Rattle.explain_pointers.proofs.Lowest.{found, lost, none-found}
 
 -- A slot is one number.
 

@@ -1,11 +1,10 @@
--- What an accepted call tells, and its frames as the code hands them on.
-use Prim.Native.Nat.{ℕ, zero, suc, _+_, _*_, _/_, _≤_}
-use mathlib.Core.Path.{_≡_, refl, sym, ap, subst, _∙_}
+-- What an accepted call tells.
+use Prim.Native.Nat.{ℕ, suc, _*_, _/_, _≤_}
+use mathlib.Core.Path.{_≡_, refl, sym, ap, _∙_}
 use mathlib.Core.Bool.{Bool, true, false, cond}
 use mathlib.Core.List.{List, [], _∷_, map, List·Memᴰ}
 use native.Mathlib.Omega.{arith}
-use native.Mathlib.Decide.{ℕ-discrete}
-use lib.ListN.{length, take, drop}
+use lib.ListN.{length}
 use Rattle.stackmap.specs.declared.Verdict.the-variants.{Refused}
 use Rattle.stackmap.specs.Check.{sectionCheck}
 use Rattle.stackmap.proofs.Numbers.{section-numbered}
@@ -13,25 +12,21 @@ use Rattle.questions.specs.Questions.{ask}
 use Rattle.moves.specs.Limits.{pairsMost}
 use Rattle.moves.specs.declared.Move.{Move}
 use Rattle.moves.specs.Settle.{refusedMove, acceptedMove}
-use Rattle.relocate.specs.declared.Cursor.{Cursor}
-use Rattle.relocate.specs.declared.Frame.{Frame}
 use Rattle.relocate.specs.Restore.{Restore}
-use Rattle.relocate.specs.Stopped.{Stopped, stopped, cursor}
+use Rattle.relocate.specs.Stopped.{Stopped}
 use Rattle.relocate.specs.Relocation.{answer, Extent, extentOf}
-use Rattle.relocate_plan.specs.declared.Outline.{Outline}
-use Rattle.relocate_judge.specs.Judged.{Held, Judged}
-use Rattle.thread.specs.Thread.{Thread, sharesOne, apart, judged, listRight, framesFrom, framesOf, stoppedAt, pointersIn, threadAnswer}
+use Rattle.thread.specs.Thread.{Thread, sharesOne, apart, judged, listRight, framesFrom, framesOf, pointersIn, threadAnswer}
 use Rattle.thread.specs.Code.{Looked, Ready}
 use Rattle.thread.specs.Theorems.{Movable}
 use Rattle.thread.proofs.Judged.{judged-passes}
 use Rattle.thread.proofs.OneInstant.{accepted-only}
 use Rattle.thread.proofs.Parts.{right-tells}
-use Rattle.thread_call.proofs.Few.{answer-few}
 use Rattle.thread_call.proofs.Whole.{thread-section}
 use Rattle.explain.specs.Rows.{rowsAnswer, rowsList}
-use Rattle.explain_rows.proofs.Answers.{rows-no, list-kept}
-use Rattle.explain_thread.specs.Rows.{threadRows}
-use Rattle.explain_thread.proofs.Lengths.{thread-length}
+use Rattle.explain_outline.proofs.Answers.{rows-no, list-kept}
+use Rattle.explain_frames.specs.Rows.{threadRows}
+use Rattle.explain_frames.proofs.Lengths.{thread-length}
+use Rattle.explain_thread_rows.proofs.Lent.{pointers-few}
 
 -- 26 not given: what follows is
 apart-passed : (i : ℕ) (earlier xs : List Extent) (k : Move) → apart i earlier xs k .number ≡ 0 → apart i earlier xs k ≡ k
@@ -43,12 +38,6 @@ apart-passed i earlier (x ∷ xs) k h = go (apart-passed (suc i) (x ∷ earlier)
         → cond b (refusedMove 26 i) (apart (suc i) (x ∷ earlier) xs k) .number ≡ 0 → cond b (refusedMove 26 i) (apart (suc i) (x ∷ earlier) xs k) ≡ k
     go rest true e = absurd (omega arith)
     go rest false e = rest e
-
--- a frame has no more than 256 pointers
-pub pointers-few : (R : Restore) (im : List ℕ) (t : Thread) → R .settings .most ≤ 256 → (n k : ℕ) → pointersIn R im (framesFrom t n k) ≤ 256 * n
-unfolding pointersIn
-pointers-few R im t h zero k = omega arith
-pointers-few R im t h (suc n) k = omega (arith, answer-few R im (stoppedAt t k), pointers-few R im t h n (suc k))
 
 module _ (R : Restore) (im : List ℕ) (t : Thread) (accepts : threadAnswer R im t .number ≡ 0) where
   m : Movable R im t
@@ -94,25 +83,6 @@ module _ (R : Restore) (im : List ℕ) (t : Thread) (accepts : threadAnswer R im
 
     pub count-few : threadAnswer R im t .count ≤ 1048576
     count-few = omega (arith, pointers-are, pointers-few R im t most count 0, looked .most)
-
--- an accepted frame's outline is no refusal
-accepted-outline : (R : Restore) (im : List ℕ) (st : Stopped) (f : Cursor) (o : Outline) (live bases derived : List ℕ) → Judged R im st f o live bases derived
-    → answer R im st .number ≡ 0 → o .number ≡ 0
-accepted-outline R im st f o live bases derived j accepts = go (ℕ-discrete (o .number) 0)
-  where
-    go : Dec (o .number ≡ 0) → o .number ≡ 0
-    go (yes z) = z
-    go (no h) = absurd (h (sym (j .refused h .0) ∙ accepts))
-
--- as it is lent to `put_frame`
-pub held-lent : (R : Restore) (im : List ℕ) (th : Thread) (k n : ℕ) (fr : Frame) (f : Cursor) (o : Outline) (live bases derived : List ℕ)
-    → stopped fr (take n (drop (32 * k) (th .registers))) ≡ stoppedAt th k → f ≡ cursor (stopped fr (take n (drop (32 * k) (th .registers))))
-    → answer R im (stoppedAt th k) .number ≡ 0 → Judged R im (stoppedAt th k) (cursor (stoppedAt th k)) o live bases derived
-    → Held R im (stopped fr (take n (drop (32 * k) (th .registers)))) f o live bases derived
-held-lent R im th k n fr f o live bases derived s e accepts j =
-    let h = j .held (accepted-outline R im (stoppedAt th k) (cursor (stoppedAt th k)) o live bases derived j accepts) in
-    subst (λ (q : Cursor). Held R im (stopped fr (take n (drop (32 * k) (th .registers)))) q o live bases derived) (sym e)
-    (subst (λ (st : Stopped). Held R im st (cursor st) o live bases derived) (sym s) h)
 
 -- The section's own refusal is the call's.
 module _ (R : Restore) (im : List ℕ) (t : Thread) (n p : ℕ) (h : sectionCheck (R .section) ≡ Refused n p) (rows lent : List ℕ) where

@@ -1,17 +1,16 @@
 -- What the walk tells of a list is whether it is the section's index.
 use Prim.Native.Nat.{ℕ, zero, suc, _+_, _*_, _-_, _^_, _≤_, _<_}
 use mathlib.Core.Path.{_≡_, refl, sym, ap, _∙_}
-use mathlib.Core.Bool.{Bool, true, false, _&&_, _||_, true≢false}
+use mathlib.Core.Bool.{Bool, true, false, _&&_, true≢false}
 use mathlib.Core.Logic.{⊎-elim}
 use mathlib.Core.List.{List, [], _∷_, map, List·Memᴰ, List·Memᴰ·head, List·Memᴰ·tail, List·Memᴰ·not-nil, List·Memᴰ·cases-cons}
 use native.Mathlib.Omega.{arith}
 use native.Mathlib.Decide.{decLt}
-use borrow.Author.Tests.{eq-eqb, eqb-true, le-leb, lt-leb, leb-true}
+use borrow.Author.Tests.{eqb-true, le-leb, leb-true}
 use lib.Dec.{eqb, leb}
 use lib.ListN.{length, drop, length-map}
 use Rattle.wire.specs.Word.{Bytes, word}
 use Rattle.wire.proofs.Laws.{word-bound, word-drop}
-use Rattle.sorted_pairs.specs.Pairs.{firstAt, secondAt, rankAt, Rising, Stepped, Placed}
 use Rattle.stackmap.specs.declared.Verdict.{Verdict}
 use Rattle.stackmap.specs.declared.Verdict.the-variants.{Valid}
 use Rattle.stackmap.specs.Verdict.{shift}
@@ -28,70 +27,11 @@ use Rattle.questions.specs.Questions.{ask}
 use Rattle.index.specs.Rows.{Row}
 use Rattle.index.specs.Numbered.{rowsOf}
 use Rattle.index.specs.Index.{rowOf, indexOf, same}
-use Rattle.index.proofs.Index.{rowAt, rows-has, rows-place, exactly, index-length, index-has, index-rises}
+use Rattle.index.proofs.Index.{exactly, index-length, index-has, index-rises}
 use Rattle.index.proofs.Numbers.{section-numbered}
 use Rattle.index.proofs.Same.{same-self}
-use Rattle.index_check.specs.Seen.{isIn, seen, allSeen, Usable, Following, Began}
-
--- A row in a list of rows.
-
-and-first : (a b : Bool) → (a && b) ≡ true → a ≡ true
-and-first true b h = refl
-and-first false b h = h
-
-and-rest : (a b : Bool) → (a && b) ≡ true → b ≡ true
-and-rest true b h = h
-and-rest false b h = absurd (true≢false (sym h))
-
-one-row : (x y : Row) → (eqb (y .address) (x .address) && eqb (y .number) (x .number)) ≡ true → x ≡ y
-one-row x y h =
-    let a = eqb-true (y .address) (x .address) (and-first (eqb (y .address) (x .address)) (eqb (y .number) (x .number)) h) in
-    let n = eqb-true (y .number) (x .number) (and-rest (eqb (y .address) (x .address)) (eqb (y .number) (x .number)) h) in
-    λ i. record { address = sym a i; number = sym n i }
-
-in-mem : (x : Row) (ys : List Row) → isIn x ys ≡ true → List·Memᴰ x ys
-unfolding isIn
-in-mem x [] h = absurd (true≢false (sym h))
-in-mem x (y ∷ ys) h = go (in-mem x ys) (eqb (y .address) (x .address) && eqb (y .number) (x .number)) refl
-  where
-    go : (isIn x ys ≡ true → List·Memᴰ x ys) → (b : Bool) → (eqb (y .address) (x .address) && eqb (y .number) (x .number)) ≡ b → List·Memᴰ x (y ∷ ys)
-    go rest true e = List·Memᴰ·head (one-row x y e)
-    go rest false e = List·Memᴰ·tail (rest (rw e at h))
-
-or-true : (b : Bool) → (b || true) ≡ true
-or-true true = refl
-or-true false = refl
-
-mem-in : (x : Row) (ys : List Row) → List·Memᴰ x ys → isIn x ys ≡ true
-unfolding isIn
-mem-in x [] m = absurd (List·Memᴰ·not-nil m)
-mem-in x (y ∷ ys) m =
-    ⊎-elim
-    (λ e. let a : y .address ≡ x .address = ap (λ (r : Row). r .address) (sym e) in let n : y .number ≡ x .number = ap (λ (r : Row). r .number) (sym e) in rw (eq-eqb _ _ a, eq-eqb _ _ n))
-    (λ k. rw (mem-in x ys k) (or-true (eqb (y .address) (x .address) && eqb (y .number) (x .number))))
-    (List·Memᴰ·cases-cons m)
-
-not-in : (x : Row) (ys : List Row) → (List·Memᴰ x ys → ⊥) → isIn x ys ≡ false
-not-in x ys h = go (isIn x ys) refl
-  where
-    go : (b : Bool) → isIn x ys ≡ b → isIn x ys ≡ false
-    go true e = absurd (h (in-mem x ys e))
-    go false e = e
-
--- a row is in the list exactly if its place is below n
-pub placed-in : (xs : List ℕ) (n r : ℕ) (x : Row) → Placed xs n (x .address) (x .number) r → leb (r + 1) n ≡ isIn x (rowsOf n xs)
-unfolding rowAt
-placed-in xs n r x p = go (decLt r n)
-  where
-    go : Dec (r < n) → leb (r + 1) n ≡ isIn x (rowsOf n xs)
-    go (yes l) =
-        let h = p .here l in
-        let e : rowAt xs r ≡ x = λ i. record { address = h .0 i; number = h .1 i } in
-        le-leb (r + 1) n (omega arith) ∙ sym (mem-in x (rowsOf n xs) (rw e at (rows-has n xs r l)))
-    go (no l) =
-        let z : r ≡ n = omega (arith, p .most) in
-        lt-leb (r + 1) n (omega arith)
-        ∙ sym (not-in x (rowsOf n xs) (λ m. let q = rows-place n xs x m in p .none z (q .0) (q .1) (sym (ap (λ (w : Row). w .address) (q .2))) (sym (ap (λ (w : Row). w .number) (q .2)))))
+use Rattle.index_follow.specs.Seen.{isIn, seen, allSeen, Usable, Following, Began}
+use Rattle.index_follow.proofs.Rows.{and-first, and-rest, in-mem, mem-in}
 
 -- All rows.
 

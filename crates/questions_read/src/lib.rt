@@ -1,2 +1,2 @@
-// The questions by location and by live-out.
+// A location of a record that stands there.
 pub mod read;

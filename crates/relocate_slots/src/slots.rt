@@ -2,31 +2,20 @@
 // No entry point: it requires an extent inside the image, which 16 has tested.
 ghost use mathlib.Core.Path.{_≡_};
 ghost use Prim.Native.Nat.{_≤_};
-ghost use mathlib.Core.Bool.{_&&_, _||_};
-ghost use lib.Dec.{eqb};
-ghost use Rattle.relocate.specs.Limits.{imageMost, framePointer, stackPointer, generalRegisters};
-ghost use Rattle.relocate.specs.Statepoint.{sizeRight, pointersIn, isFrameOrStack, isMemorySlot, isRegisterSlot, isSlot};
+ghost use Rattle.relocate.specs.Limits.{imageMost};
+ghost use Rattle.relocate.specs.Statepoint.{sizeRight, pointersIn, isMemorySlot, isSlot};
 ghost use Rattle.relocate.specs.Code.{locationOf, zeroSaid, spotOf, slotIn, positionIn, placeIn};
 use moves::POINTER_SIZE;
 use questions::LocationAnswer;
 use relocate::Cursor;
 use relocate::Machine;
 use relocate::Spot;
+// The machine's two pointers, for the callers too.
+pub use relocate_registers::frame_pointer;
+use relocate_registers::is_frame_or_stack;
+use relocate_registers::is_register_slot;
+pub use relocate_registers::stack_pointer;
 use stackmap::layout;
-
-// Frame pointer and stack pointer by their DWARF numbers: RBP and RSP on AMD64, x29 and sp on AArch64.
-const RBP: u16 = 6;
-
-const RSP: u16 = 7;
-
-const X29: u16 = 29;
-
-const SP: u16 = 31;
-
-// The registers that hold one pointer each are those below these numbers.
-const AMD64_REGISTERS: u16 = 16;
-
-const AARCH64_REGISTERS: u16 = 32;
 
 const KIND_REGISTER: u8 = 1;
 
@@ -87,44 +76,6 @@ pub fn pointers_in(old: bool, size: u16) -> usize
     (size / SLOT_SIZE) as usize
 }
 
-// Frame pointer and stack pointer by their DWARF numbers.
-pub fn frame_pointer(machine: Machine) -> u16
-    ensures { λ r. ⌜ r ≡ framePointer machine ⌝ }
-{
-    match machine {
-        Machine::Amd64 => RBP,
-        Machine::Aarch64 => X29,
-    }
-}
-
-pub fn stack_pointer(machine: Machine) -> u16
-    ensures { λ r. ⌜ r ≡ stackPointer machine ⌝ }
-{
-    match machine {
-        Machine::Amd64 => RSP,
-        Machine::Aarch64 => SP,
-    }
-}
-
-fn general_registers(machine: Machine) -> u16
-    ensures { λ r. ⌜ r ≡ generalRegisters machine ⌝ }
-{
-    match machine {
-        Machine::Amd64 => AMD64_REGISTERS,
-        Machine::Aarch64 => AARCH64_REGISTERS,
-    }
-}
-
-// Whether a register is the machine's frame pointer or stack pointer.
-fn is_frame_or_stack(machine: Machine, register: u16) -> bool
-    ensures { λ r. ⌜ r ≡ isFrameOrStack machine register ⌝ }
-{
-    if register == frame_pointer(machine) {
-        return true;
-    }
-    register == stack_pointer(machine)
-}
-
 // Whether a location is slots in memory: kind 3, the right size, and the machine's frame or stack pointer.
 fn is_memory_slot(machine: Machine, old: bool, l: LocationAnswer) -> bool
     ensures { λ r. ⌜ r ≡ isMemorySlot machine old (locationOf l) ⌝ }
@@ -134,39 +85,6 @@ fn is_memory_slot(machine: Machine, old: bool, l: LocationAnswer) -> bool
     }
     if size_right(old, l.size) {
         return is_frame_or_stack(machine, l.register);
-    }
-    false
-}
-
-// Whether a register may state this size: 8, and in version 1 also 0.
-fn register_size(old: bool, bytes: u16) -> bool
-    ensures { λ r. ⌜ r ≡ (eqb bytes 8 || (old && eqb bytes 0)) ⌝ }
-{
-    if bytes == SLOT_SIZE {
-        return true;
-    }
-    if old {
-        return bytes == 0;
-    }
-    false
-}
-
-// Whether a location is a register that is a slot: kind 1, the size of one pointer, offset 0, and one of the machine's registers but its frame and
-// its stack pointer.
-fn is_register_slot(machine: Machine, old: bool, l: LocationAnswer) -> bool
-    ensures { λ r. ⌜ r ≡ isRegisterSlot machine old (locationOf l) ⌝ }
-{
-    if l.kind != KIND_REGISTER {
-        return false;
-    }
-    if register_size(old, l.size) {
-        if l.offset != 0 {
-            return false;
-        }
-        if l.register >= general_registers(machine) {
-            return false;
-        }
-        return !is_frame_or_stack(machine, l.register);
     }
     false
 }

@@ -4,7 +4,7 @@ use mathlib.Core.List.{List}
 use Rattle.moves.specs.declared.Move.{Move}
 use Rattle.moves.specs.Settle.{refusedMove}
 use Rattle.explain.specs.Rows.{explainFrame, explainFrameList}
-use Rattle.explain_thread.specs.Rows.{explainThread, explainThreadList}
+use Rattle.explain_frames.specs.Rows.{explainThread, explainThreadList}
 use Rattle.restores.specs.Restores.{Request, byEdition, leftByEdition}
 use Rattle.restores.specs.Moves.{Numbered, stoppedOf}
 use Rattle.restores_thread.specs.Threads.{NumberedThread, threadBy}

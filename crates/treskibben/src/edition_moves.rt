@@ -10,7 +10,6 @@ ghost use Rattle.restores_explain.specs.Explain.{explainedUnder};
 ghost use Rattle.treskibben_answers.specs.Answer.{moveAnswer};
 ghost use Rattle.treskibben_reasons.specs.Answer.{reasonAnswer};
 use editions::Store;
-use explain::Asked;
 use treskibben_answers as answers;
 use treskibben_reasons::ReasonAnswer;
 
@@ -143,7 +142,7 @@ pub extern "C" fn treskibben_edition_explain_address(
         frame.address,
         frame.function,
         registers,
-        Asked::Address(address),
+        treskibben_reasons::at_address(address),
     ))
 }
 
@@ -176,6 +175,6 @@ pub extern "C" fn treskibben_edition_explain_register(
         frame.address,
         frame.function,
         registers,
-        Asked::Register(number),
+        treskibben_reasons::of_register(number),
     ))
 }

@@ -8,7 +8,6 @@ ghost use Rattle.explain.specs.Explain.{explained};
 ghost use Rattle.treskibben_answers.specs.Answer.{frameOf};
 ghost use Rattle.editions_settings.specs.Machine.{machineOf, ofMachine};
 ghost use Rattle.treskibben_reasons.specs.Answer.{reasonAnswer};
-use explain::Asked;
 use restores::LAST_MACHINE;
 use treskibben_answers as answers;
 use treskibben_reasons::ReasonAnswer;
@@ -45,7 +44,7 @@ pub extern "C" fn treskibben_explain_address(
         answers::frame_of(known, frame),
         registers,
         editions_settings::everything(known),
-        Asked::Address(address),
+        treskibben_reasons::at_address(address),
     ))
 }
 
@@ -81,6 +80,6 @@ pub extern "C" fn treskibben_explain_register(
         answers::frame_of(known, frame),
         registers,
         editions_settings::everything(known),
-        Asked::Register(number),
+        treskibben_reasons::of_register(number),
     ))
 }

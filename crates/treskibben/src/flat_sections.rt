@@ -2,7 +2,7 @@
 // refusal is 0.
 ghost use mathlib.Core.Path.{_≡_};
 ghost use Rattle.flat_check.specs.Check.{flatCheck};
-ghost use Rattle.flat_find.specs.Find.{byAddress};
+ghost use Rattle.flat_match.specs.Find.{byAddress};
 ghost use Rattle.flat_read.specs.Read.{constantAnswer, frameAnswer, registerAnswer, recordAnswer, locationAnswer, liveOutAnswer};
 ghost use Rattle.treskibben_flat.specs.Flat.{checked, matched, constantOf, frameOf, registerOf, recordOf, locationOf, liveOutOf};
 use treskibben_flat as answers;

@@ -14,6 +14,7 @@ ghost use Rattle.treskibben_answers.specs.Answer.{answer, converted, moveAnswer
 ghost use Rattle.treskibben_answers.specs.Version.{version};
 use restores::LAST_MACHINE;
 use treskibben_answers as answers;
+use treskibben_questions as asked;
 
 pub mod address_index;
 pub mod controllers;
@@ -55,7 +56,7 @@ pub extern "C" fn treskibben_check(section: &[u8]) -> answers::Answer
 pub extern "C" fn treskibben_find(section: &[u8], address: u64) -> answers::FindAnswer
     ensures { λ r. ⌜ r ≡ findAnswerOf (byAddress (now (section .entry)) address) ⌝ }
 {
-    answers::search_answer(questions_find::find::find(section, address))
+    asked::find(section, address)
 }
 
 // The question by function number and offset, of version 1: the section's refusal, 27 on version 3, 10 exactly if there is no such
@@ -68,7 +69,7 @@ pub extern "C" fn treskibben_find_in_function(
 ) -> answers::FindAnswer
     ensures { λ r. ⌜ r ≡ findAnswerOf (byFunction (now (section .entry)) function offset) ⌝ }
 {
-    answers::search_answer(questions_find::find::find_in_function(section, function, offset))
+    asked::find_in_function(section, function, offset)
 }
 
 // The question by record number: the section's refusal, 10 if there is no such record, or where it stands.
@@ -76,7 +77,7 @@ pub extern "C" fn treskibben_find_in_function(
 pub extern "C" fn treskibben_record(section: &[u8], record: u64) -> answers::RecordPlace
     ensures { λ r. ⌜ r ≡ recordPlaceOf (recordPlace (now (section .entry)) «record») ⌝ }
 {
-    answers::record_answer(questions_locate::locate(section, record))
+    asked::place(section, record)
 }
 
 // The question by record and location number: the section's refusal, 10, 11, or the location.
@@ -88,7 +89,7 @@ pub extern "C" fn treskibben_location(
 ) -> answers::Location
     ensures { λ r. ⌜ r ≡ locationOf (locationAnswer (now (section .entry)) «record» location) ⌝ }
 {
-    answers::location_answer(questions_read::read::location(section, record, location))
+    asked::location(section, record, location)
 }
 
 // The question by record and live-out number: the section's refusal, 10, 11, or the live-out.
@@ -100,7 +101,7 @@ pub extern "C" fn treskibben_live_out(
 ) -> answers::LiveOut
     ensures { λ r. ⌜ r ≡ liveOutOf (liveOutAnswer (now (section .entry)) «record» «live_out») ⌝ }
 {
-    answers::live_out_answer(questions_read::read::live_out(section, record, live_out))
+    asked::live_out(section, record, live_out)
 }
 
 // Section to listing: the section's refusal, 24, or the listing in the output and its length. A refusal writes nothing, and

@@ -1,6 +1,6 @@
 -- What crosses the C boundary: the definitions' own answers, field by field.
 use Prim.Native.Nat.{ℕ}
-use Rattle.flat_find.specs.declared.MatchAnswer.{MatchAnswer}
+use Rattle.flat_match.specs.declared.MatchAnswer.{MatchAnswer}
 use Rattle.flat_read.specs.declared.ConstantAnswer.{ConstantAnswer}
 use Rattle.flat_read.specs.declared.FrameAnswer.{FrameAnswer}
 use Rattle.flat_read.specs.declared.RegisterAnswer.{RegisterAnswer}

@@ -40,7 +40,7 @@ pub struct Match {
     pub index: u64,
 }
 
-pub fn match_answer(f: flat_find::MatchAnswer) -> Match
+pub fn match_answer(f: flat_match::MatchAnswer) -> Match
     ensures { λ r. ⌜ r ≡ matched f ⌝ }
 {
     Match {

@@ -1,6 +1,9 @@
 // What crosses the C boundary of the reasons: a reason as a struct of numbers.
 ghost use mathlib.Core.Path.{_≡_};
+ghost use Rattle.moves.specs.Slots.{memory, register};
+ghost use Rattle.explain.specs.Explain.{slotOf};
 ghost use Rattle.treskibben_reasons.specs.Answer.{reasonAnswer, unknownMachine};
+use explain::Asked;
 use explain::Reason;
 use stackmap::Verdict;
 
@@ -64,4 +67,18 @@ pub fn unknown_machine(v: Verdict) -> Reason
         Verdict::Valid(_) => Reason::Refused(33, 0),
         Verdict::Refused(number, place) => Reason::Refused(number, place),
     }
+}
+
+// What is asked about: the slot that begins at an address.
+pub fn at_address(address: u64) -> Asked
+    ensures { λ r. ⌜ slotOf r ≡ memory address ⌝ }
+{
+    Asked::Address(address)
+}
+
+// The same of a register, by its DWARF number.
+pub fn of_register(number: u64) -> Asked
+    ensures { λ r. ⌜ slotOf r ≡ register number ⌝ }
+{
+    Asked::Register(number)
 }

@@ -9,8 +9,8 @@ use Rattle.relocate.specs.Stopped.{stopped}
 use Rattle.relocate.specs.Relocation.{answer}
 use Rattle.relocate_judge.proofs.Leading.{judged-cursor}
 use Rattle.explain.specs.Rows.{rowsOf}
-use Rattle.explain_rows.proofs.Meets.{held-length}
-use Rattle.explain_rows.proofs.Answers.{rows-no, rows-24, rows-yes, list-kept, list-written}
+use Rattle.explain_outline.proofs.Meets.{held-length}
+use Rattle.explain_outline.proofs.Answers.{rows-no, rows-24, rows-yes, list-kept, list-written}
 use borrow.Author.Needs.{needs}
 use Rattle.explain_frame.proofs.explain.Statement.{statement}
 use Rattle.explain_frame.proofs.explain.Tie as tie

@@ -4,8 +4,9 @@ use lib.ListN.{getD}
 use Rattle.moves.specs.Slots.{state}
 use Rattle.moves.specs.Table.{lookUp}
 use Rattle.relocate.specs.Code.{recordOf, poolOf, pointersBy}
-use Rattle.explain_rows.specs.declared.Told.{Told}
-use Rattle.explain_rows.specs.Written.{numbersOf, slotBy}
+use Rattle.explain_numbers.specs.declared.Told.{Told}
+use Rattle.explain_numbers.specs.Numbers.{numbersOf}
+use Rattle.explain_rows.specs.Written.{slotBy}
 use Rattle.explain_rows.proofs.Writing.{slot-length, slots-null, slots-live, put-both, put-nulls}
 use borrow.Author.Needs.{needs}
 use Rattle.explain_rows.proofs.put_slots.Statement.{statement}

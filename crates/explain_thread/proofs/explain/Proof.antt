@@ -2,7 +2,7 @@ use mathlib.Core.Path.{sym, _∙_}
 use Rattle.relocate.specs.Restore.{restore}
 use Rattle.thread.specs.Thread.{threadOf, framesOf}
 use Rattle.thread_call.proofs.Whole.{valid-accepted, blank-holds, blank-counted}
-use Rattle.explain_thread.specs.Rows.{threadRows}
+use Rattle.explain_frames.specs.Rows.{threadRows}
 use Rattle.explain_thread.proofs.Accepted.{section-no, section-kept}
 use borrow.Author.Needs.{needs}
 use Rattle.explain_thread.proofs.explain.Statement.{statement}

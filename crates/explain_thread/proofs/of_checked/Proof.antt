@@ -9,8 +9,8 @@ use Rattle.moves.specs.Settle.{acceptedMove}
 use Rattle.relocate.specs.Restore.{restore}
 use Rattle.relocate.specs.Stopped.{Stopped}
 use Rattle.thread.specs.Thread.{threadOf, framesOf, threadAnswer}
-use Rattle.explain_rows.proofs.Answers.{rows-no, rows-24, rows-yes, list-kept, list-written}
-use Rattle.explain_thread.specs.Rows.{threadRows}
+use Rattle.explain_outline.proofs.Answers.{rows-no, rows-24, rows-yes, list-kept, list-written}
+use Rattle.explain_frames.specs.Rows.{threadRows}
 use Rattle.explain_thread.proofs.Accepted.{numbers-are, ready, frames-are, each-yes, pointers-are, count-few}
 use borrow.Author.Needs.{needs}
 use Rattle.explain_thread.proofs.of_checked.Statement.{statement}

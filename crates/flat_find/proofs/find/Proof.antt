@@ -1,7 +1,7 @@
 use borrow.Author.Needs.{needs}
 use mathlib.Core.Path.{sym, _∙_}
 use Rattle.flat_check.proofs.Chain.{ask-refused, ask-accepted}
-use Rattle.flat_find.specs.Find.{notFound, byAddress}
+use Rattle.flat_match.specs.Find.{notFound, byAddress}
 use Rattle.flat_find.proofs.find.Statement.{statement}
 use Rattle.flat_find.proofs.find.Tie as tie
 

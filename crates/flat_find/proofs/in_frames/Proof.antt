@@ -3,7 +3,7 @@ use native.Mathlib.Omega.{arith}
 use Prim.Native.Nat.{_-_}
 use Rattle.flat_check.proofs.Chain.{accepted-told}
 use Rattle.flat_check.proofs.Accept.{told-arranged}
-use Rattle.flat_find.proofs.Lookup.{Going, go-start, go-on, go-hit, go-end, range-fits, hit-is}
+use Rattle.flat_match.proofs.Lookup.{Going, go-start, go-on, go-hit, go-end, range-fits, hit-is}
 use Rattle.flat_find.proofs.in_frames.Statement.{statement}
 use Rattle.flat_find.proofs.in_frames.Tie as tie
 

@@ -7,7 +7,7 @@ use Rattle.stackmap.proofs.Verdicts.{chain-rest}
 use Rattle.stackmap.proofs.Within.{begin-held, section-parts}
 use Rattle.questions.specs.Kept.{searched}
 use Rattle.questions.proofs.Asked.{ask-refused, ask-begun}
-use Rattle.index_check.specs.Seen.{Following, Began}
+use Rattle.index_follow.specs.Seen.{Following, Began}
 use Rattle.index_check.proofs.Laws.{refused-invalid, told}
 use borrow.Author.Needs.{needs}
 use Rattle.index_check.proofs.check.Statement.{statement}

@@ -10,7 +10,7 @@ use Rattle.questions.specs.Kept.{noHits, noted}
 use Rattle.questions.proofs.Kept.{hits-answer}
 use Rattle.questions.proofs.Asked.{ask-stop, ask-after, ask-whole}
 use Rattle.index.specs.Numbered.{rowsOf}
-use Rattle.index_check.specs.Seen.{seen, Following}
+use Rattle.index_follow.specs.Seen.{seen, Following}
 use Rattle.wire.specs.Word.{Bytes}
 use Rattle.index_check.proofs.Laws.{address-fits, refused-invalid}
 use borrow.Author.Needs.{needs}

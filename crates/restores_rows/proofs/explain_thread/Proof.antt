@@ -1,6 +1,6 @@
 use Rattle.relocate.specs.declared.Machine.{Machine}
 use Rattle.thread.specs.Thread.{Thread, threadOf}
-use Rattle.explain_thread.specs.Rows.{explainThread, explainThreadList}
+use Rattle.explain_frames.specs.Rows.{explainThread, explainThreadList}
 use Rattle.restores.specs.Restores.{request}
 use Rattle.restores_rows.proofs.Rows.{told-passed, told-refused}
 use borrow.Author.Needs.{needs}

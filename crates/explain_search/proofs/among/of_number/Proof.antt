@@ -2,8 +2,8 @@ use mathlib.Core.Path.{sym, _∙_}
 use borrow.Author.Needs.{needs}
 use native.Mathlib.Omega.{arith}
 use Rattle.moves.specs.Slots.{state}
-use Rattle.explain_search.specs.Told.{movesAt}
-use Rattle.explain_search.proofs.Searching.{lowest-at, moves-live, told-moved, told-null, told-base, told-none}
+use Rattle.explain_pointers.specs.Told.{movesAt}
+use Rattle.explain_pointers.proofs.Searching.{lowest-at, moves-live, told-moved, told-null, told-base, told-none}
 use Rattle.explain_search.proofs.among.of_number.Statement.{statement}
 use Rattle.explain_search.proofs.among.of_number.Tie as tie
 

@@ -28,18 +28,22 @@ frame-of-requires c κs = search needs
 everything-requires : tie.Need-everything-requires
 everything-requires c κs = search needs
 
+at-address-requires : tie.Need-at-address-requires
+at-address-requires c κs = search needs
+
 explain-requires : tie.Need-explain-requires
-explain-requires c κs = c .everything .ensures .1
+explain-requires c κs = c .before .everything .ensures .1
 
 reason-answer-requires-2 : tie.Need-reason-answer-requires-2
 reason-answer-requires-2 c κs = search needs
 
 returns-2 : tie.Need-returns-2
 returns-2 c =
-    let e = c .before .before .everything .ensures .0 in
-    let g = c .before .before .before .frame-of .ensures in
-    let t = rw (e, g) at (c .before .explain .ensures) in
-    rw (le-leb _ _ (c .before .before .before .before .before .if1 .left), ← (c .before .before .before .before .machine-of .ensures))
+    let a = c .before .before .at-address .ensures in
+    let e = c .before .before .before .everything .ensures .0 in
+    let g = c .before .before .before .before .frame-of .ensures in
+    let t = rw (e, g, a) at (c .before .explain .ensures) in
+    rw (le-leb _ _ (c .before .before .before .before .before .before .if1 .left), ← (c .before .before .before .before .before .machine-of .ensures))
     (c .reason-answer2 .ensures ∙ ap reasonAnswer t)
 
 pub treskibben-explain-address-spec : {M : Type 1} → statement M
@@ -53,6 +57,7 @@ treskibben-explain-address-spec =
     machine-of-requires
     frame-of-requires
     everything-requires
+    at-address-requires
     explain-requires
     reason-answer-requires-2
     returns-2)

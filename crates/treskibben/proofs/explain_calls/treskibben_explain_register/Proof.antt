@@ -30,18 +30,22 @@ frame-of-requires c κs = search needs
 everything-requires : tie.Need-everything-requires
 everything-requires c κs = search needs
 
+of-register-requires : tie.Need-of-register-requires
+of-register-requires c κs = search needs
+
 explain-requires : tie.Need-explain-requires
-explain-requires c κs = c .everything .ensures .1
+explain-requires c κs = c .before .everything .ensures .1
 
 reason-answer-requires-2 : tie.Need-reason-answer-requires-2
 reason-answer-requires-2 c κs = search needs
 
 returns-2 : tie.Need-returns-2
 returns-2 c =
-    let e = c .before .before .everything .ensures .0 in
-    let g = c .before .before .before .frame-of .ensures in
-    let t = rw (e, g) at (c .before .explain .ensures) in
-    rw (le-leb _ _ (c .before .before .before .before .before .if1 .left), ← (c .before .before .before .before .machine-of .ensures))
+    let a = c .before .before .of-register .ensures in
+    let e = c .before .before .before .everything .ensures .0 in
+    let g = c .before .before .before .before .frame-of .ensures in
+    let t = rw (e, g, a) at (c .before .explain .ensures) in
+    rw (le-leb _ _ (c .before .before .before .before .before .before .if1 .left), ← (c .before .before .before .before .before .machine-of .ensures))
     (c .reason-answer2 .ensures ∙ ap reasonAnswer t)
 
 pub treskibben-explain-register-spec : {M : Type 1} → statement M
@@ -55,6 +59,7 @@ treskibben-explain-register-spec =
     machine-of-requires
     frame-of-requires
     everything-requires
+    of-register-requires
     explain-requires
     reason-answer-requires-2
     returns-2)
