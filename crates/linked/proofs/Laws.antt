@@ -59,18 +59,22 @@ one-map = record { accepted = cut-one; refused = cut-refused; found = λ s a o. 
 
 -- All maps.
 
-none-there : {n p : ℕ} {ms : List Map} {A : Type 0} → _≡_ {A = Cut} (refusal n p) (maps ms) → A
+pub none-there : {n p : ℕ} {ms : List Map} {A : Type 0} → _≡_ {A = Cut} (refusal n p) (maps ms) → A
 none-there h = absurd (let z : _≡_ {A = ℕ} 0 1 = cc in omega arith)
 
-before-maps : (m : Map) (c : Cut) (ms : List Map) → before m c ≡ maps ms → (ns : List Map) × (c ≡ maps ns) × (ms ≡ m ∷ ns)
+pub before-maps : (m : Map) (c : Cut) (ms : List Map) → before m c ≡ maps ms → (ns : List Map) × (c ≡ maps ns) × (ms ≡ m ∷ ns)
 before-maps m (maps ns) ms h = (ns, refl, cc)
 before-maps m (refusal n p) ms h = none-there h
+
+accepted-least : (s : List ℕ) → Accepted s → 16 ≤ length s
+accepted-least s k = let l = walked-least s (length s) (accepted-walked s k) in omega arith
 
 -- what cutting into maps tells of them: each is accepted, they stand one after the other, and are all bytes
 record Whole (at : ℕ) (s : List ℕ) (ms : List Map) : Type 0 where
   accepted : (m : Map) → List·Memᴰ m ms → Accepted (m .content)
   all : joined (contents ms) ≡ s
   stand : ms ≡ laid at (contents ms)
+  most : 16 * length ms ≤ length s
 
 whole-last : (at : ℕ) (s : List ℕ) → Accepted s → Whole at s (mapAt at s ∷ [])
 unfolding joined contents laid
@@ -79,16 +83,22 @@ whole-last at s k =
       accepted = λ m i. ⊎-elim (λ e. rw e k) (λ j. absurd (List·Memᴰ·not-nil j)) (List·Memᴰ·cases-cons i);
       all = append-nil s;
       stand = refl;
+      most = let l = accepted-least s k in omega arith;
     }
 
 whole-more : (at p : ℕ) (s : List ℕ) (ms : List Map) → sectionCheck s ≡ Refused 9 p → Whole (at + p) (drop p s) ms → Whole at s (mapAt at (take p s) ∷ ms)
 unfolding joined contents laid
 whole-more at p s ms e w =
     let f = prefix s p e in
+    let l = f .least in
+    let i = f .inside in
+    let n = w .most in
+    let z = length-drop p s in
     record {
       accepted = λ m i. ⊎-elim (λ q. rw q (f .accepted)) (λ j. w .accepted m j) (List·Memᴰ·cases-cons i);
       all = rw (w .all) (take-append-drop p s);
       stand = rw (f .long) (ap (λ (ns : List Map). mapAt at (take p s) ∷ ns) (w .stand));
+      most = omega arith;
     }
 
 whole : (b at : ℕ) (s : List ℕ) (ms : List Map) → cutFrom b at s ≡ maps ms → Whole at s ms
@@ -109,13 +119,14 @@ cut-whole : (s : List ℕ) (ms : List Map) → cut s ≡ maps ms → Whole 0 s m
 unfolding cut
 cut-whole s ms h = whole (suc (length s)) 0 s ms h
 
+-- no map has fewer than 16 bytes
+pub maps-most : (s : List ℕ) (ms : List Map) → cut s ≡ maps ms → 16 * length ms ≤ length s
+maps-most s ms h = cut-whole s ms h .most
+
 pub each-accepted : EachAccepted
 each-accepted s ms h = cut-whole s ms h .accepted
 
 -- Joined maps.
-
-accepted-least : (s : List ℕ) → Accepted s → 16 ≤ length s
-accepted-least s k = let l = walked-least s (length s) (accepted-walked s k) in omega arith
 
 cut-again : (b at : ℕ) (c : List ℕ) (cs : List (List ℕ)) → ((x : List ℕ) → List·Memᴰ x (c ∷ cs) → Accepted x) → length (joined (c ∷ cs)) ≤ 16777216 → length (joined (c ∷ cs)) < b
     → cutFrom b at (joined (c ∷ cs)) ≡ maps (laid at (c ∷ cs))

@@ -1,3 +1,4 @@
 pub mod Linked
 pub mod Find
+pub mod Answers
 pub mod Laws
