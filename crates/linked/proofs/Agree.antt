@@ -4,14 +4,13 @@ use mathlib.Core.Path.{_≡_, refl, ap}
 use mathlib.Core.Bool.{Bool, true, false}
 use mathlib.Core.List.{List}
 use native.Mathlib.Omega.{arith}
-use native.Mathlib.Nat.{add-assoc}
 use borrow.Author.Tests.{le-leb, leb-true}
 use lib.ListN.{length, getD, drop}
 use lib.Dec.{eqb, leb}
 use lib.Seq.{getD-drop}
 use Rattle.wire.specs.Word.{word}
 use Rattle.stackmap.specs.declared.Verdict.{Verdict}
-use Rattle.stackmap.specs.declared.Verdict.the-variants.{Valid, Refused}
+use Rattle.stackmap.specs.declared.Verdict.the-variants.{Valid}
 use Rattle.stackmap.specs.Layout.{functionSize, locationSize, locationOffsetAt}
 use Rattle.stackmap.specs.Verdict.{must, chain, pick}
 use Rattle.stackmap.specs.Fields.{many}

@@ -1,7 +1,6 @@
 -- One turn of cutting, by what the check says of the bytes that are left.
-use Prim.Native.Nat.{ℕ, zero, suc, _+_, _*_, _-_, _≤_, _<_}
+use Prim.Native.Nat.{ℕ, zero, suc, _+_, _-_, _<_}
 use mathlib.Core.Path.{_≡_, refl, sym, ap, _∙_}
-use mathlib.Core.Bool.{Bool, true, false}
 use mathlib.Core.List.{List, [], _∷_}
 use native.Mathlib.Omega.{arith}
 use native.Mathlib.Decide.{ℕ-discrete}
@@ -12,7 +11,7 @@ use Rattle.stackmap.specs.declared.Verdict.{Verdict}
 use Rattle.stackmap.specs.declared.Verdict.the-variants.{Valid, Refused}
 use Rattle.stackmap.specs.Check.{sectionCheck, Accepted}
 use Rattle.stackmap.proofs.Forth.{accepted-length}
-use Rattle.linked.specs.Linked.{Map, mapAt, Cut, maps, refusal, before, cutFrom, cut}
+use Rattle.linked.specs.Linked.{mapAt, Cut, maps, refusal, before, cutFrom, cut}
 use Rattle.linked.proofs.Prefix.{prefix}
 
 -- what is left is the last map, or begins with one that others follow, or is refused

@@ -2,4 +2,5 @@ pub mod Agree
 pub mod Prefix
 pub mod Places
 pub mod Cutting
-pub mod Laws
+pub mod Whole
+pub mod Found

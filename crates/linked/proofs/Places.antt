@@ -13,7 +13,7 @@ use Rattle.stackmap.specs.Verdict.{must, chain, bind}
 use Rattle.stackmap.specs.Section.{numConstants, isOld, recordsAt}
 use Rattle.stackmap.specs.Record.{zeros}
 use Rattle.stackmap.specs.Check.{firstOutside, headerCheck, tablesCheck, walkCheck, sectionCheck}
-use Rattle.stackmap.proofs.Within.{Within, endOf, walk-within, header-held, tables-held}
+use Rattle.stackmap.proofs.Within.{Within, walk-within, header-held, tables-held}
 use Rattle.stackmap.proofs.Turns.{allOwners}
 
 place-must : (m : ℕ) (b : Bool) (n p : ℕ) (k : Verdict) → p ≤ m → (b ≡ true → Within m k) → Within m (must b n p k)

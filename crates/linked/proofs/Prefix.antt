@@ -1,6 +1,6 @@
 -- The heart of it: what the check accepts up to p, it accepts up to p of any list that agrees below p. So the first p bytes of a list that
 -- gets 9 at p are a map, with the same entries; and a map with bytes after it gets 9 at its end.
-use Prim.Native.Nat.{ℕ, zero, suc, _+_, _*_, _-_, _≤_, _<_}
+use Prim.Native.Nat.{ℕ, _+_, _-_, _≤_, _<_}
 use mathlib.Core.Path.{_≡_, refl, sym, ap, _∙_}
 use mathlib.Core.Bool.{Bool, true, false}
 use mathlib.Core.List.{List, [], _∷_, _++_}
@@ -13,14 +13,14 @@ use Rattle.stackmap.specs.declared.Verdict.{Verdict}
 use Rattle.stackmap.specs.declared.Verdict.the-variants.{Valid, Refused}
 use Rattle.stackmap.specs.Layout.{functionSize}
 use Rattle.stackmap.specs.Verdict.{must, chain, bind, shift}
-use Rattle.stackmap.specs.Section.{numFunctions, numConstants, numRecords, isOld, constantsAt, recordsAt, recordLength, readFunction, readFunctions, readRecords, Owner, entriesFrom, entries, recordOwners}
+use Rattle.stackmap.specs.Section.{numFunctions, numConstants, numRecords, isOld, constantsAt, recordsAt, recordLength, readFunction, readFunctions, readRecords, Owner, entries}
 use Rattle.stackmap.specs.Record.{zeros, recordCheck}
 use Rattle.stackmap.specs.Check.{versionRight, headerCheck, countsRight, tablesCheck, recordsCheck, walkCheck, sectionCheck, Accepted}
 use Rattle.stackmap.proofs.Numbers.{Numbered, n-valid, n-must, n-shift}
 use Rattle.stackmap.proofs.Verdicts.{must-held, must-rest, chain-first, chain-rest, bind-first, shift-valid}
 use Rattle.stackmap.proofs.Within.{is-inside, walk-within}
 use Rattle.stackmap.proofs.Back.{owners-enough}
-use Rattle.stackmap.proofs.Forth.{ends, accepted-length}
+use Rattle.stackmap.proofs.Forth.{ends}
 use Rattle.stackmap.proofs.Turns.{allOwners}
 use Rattle.stackmap.proofs.Entries.{entries-are}
 use Rattle.linked.proofs.Agree.{Agree, agree-self, agree-drop, agree-word, agree-many, alike-zeros, function-same, length-same, record-same, alike-record, record-low}

@@ -1,12 +1,11 @@
 -- The walk that counts the maps: what is left tells what the whole tells.
-use Prim.Native.Nat.{ℕ, zero, suc, _+_, _*_, _-_, _≤_, _<_}
+use Prim.Native.Nat.{ℕ, suc, _+_, _*_, _-_, _≤_, _<_}
 use mathlib.Core.Path.{_≡_, refl, sym, ap, _∙_}
-use mathlib.Core.List.{List, [], _∷_}
+use mathlib.Core.List.{List}
 use native.Mathlib.Omega.{arith}
-use native.Mathlib.Nat.{add-assoc}
 use native.Mathlib.Numerals.{add-one}
 use native.Mathlib.Decide.{ℕ-discrete}
-use lib.ListN.{length, getD, take, drop, set, length-drop, length-set}
+use lib.ListN.{length, getD, drop, set, length-drop, length-set}
 use lib.Seq.{getD-set-same, getD-set-other}
 use Rattle.stackmap.specs.declared.Verdict.{Verdict}
 use Rattle.stackmap.specs.declared.Verdict.the-variants.{Valid, Refused}
@@ -14,10 +13,9 @@ use Rattle.stackmap.specs.Verdict.{shift}
 use Rattle.stackmap.specs.Check.{sectionCheck, Accepted}
 use Rattle.stackmap.proofs.Verdicts.{never, shift-valid}
 use Rattle.stackmap.proofs.Forth.{accepted-length}
-use Rattle.linked.specs.Linked.{Map, mapAt, Cut, maps, refusal, before, cut}
+use Rattle.linked.specs.Linked.{Map, Cut, maps, refusal, before, cut}
 use Rattle.linked.proofs.Prefix.{prefix}
 use Rattle.linked.proofs.Cutting.{cutRest, rest-start, rest-last, rest-more, rest-wrong}
-use Rattle.linked_maps.specs.declared.Counted.{Counted}
 use Rattle.linked_maps.specs.declared.Counted.the-variants as counts
 use Rattle.linked_maps.specs.Walk.{told, endAt, startOf, Kept}
 

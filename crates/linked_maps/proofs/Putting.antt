@@ -1,23 +1,21 @@
 -- The walk that writes the numbers of all maps; and what the call answers in each case.
-use Prim.Native.Nat.{ℕ, zero, suc, _+_, _*_, _-_, _≤_, _<_}
+use Prim.Native.Nat.{ℕ, suc, _+_, _*_, _-_, _≤_, _<_}
 use mathlib.Core.Path.{_≡_, refl, sym, ap, _∙_}
-use mathlib.Core.List.{List, [], _∷_, _++_}
+use mathlib.Core.List.{List, [], _∷_}
 use native.Mathlib.Omega.{arith}
 use native.Mathlib.Nat.{zero-add}
 use native.Mathlib.Numerals.{add-one}
 use borrow.Author.Tests.{le-leb, lt-leb}
 use lib.ListN.{length, getD, take, drop, set, length-drop, length-set}
 use lib.Seq.{sets, sets-eq}
-use Rattle.stackmap.specs.declared.Verdict.the-variants.{Valid, Refused}
+use Rattle.stackmap.specs.declared.Verdict.the-variants.{Refused}
 use Rattle.stackmap.specs.Verdict.{shift}
-use Rattle.stackmap.specs.Check.{sectionCheck, Accepted}
 use Rattle.linked.specs.declared.Maps.{Maps}
-use Rattle.linked.specs.Linked.{Map, mapAt, Cut, maps, refusal, before, cut, numbersOf, MapsListed, notListed, listMaps, mapsOf, askMaps}
+use Rattle.linked.specs.Linked.{Map, mapAt, Cut, maps, refusal, cut, numbersOf, MapsListed, notListed, listMaps, mapsOf, askMaps}
 use Rattle.linked.specs.Answers.{Answers}
 use Rattle.linked.proofs.Prefix.{prefix}
 use Rattle.linked.proofs.Cutting.{Looked, last, more, wrong, looked, cutRest, rest-start, rest-last, rest-more, rest-wrong}
-use Rattle.linked.proofs.Laws.{before-maps, none-there, maps-most}
-use Rattle.linked_maps.specs.declared.Counted.{Counted}
+use Rattle.linked.proofs.Whole.{before-maps, none-there, maps-most}
 use Rattle.linked_maps.specs.declared.Counted.the-variants as counts
 use Rattle.linked_maps.specs.Walk.{told, mapsIn, endAt, startOf, Kept}
 

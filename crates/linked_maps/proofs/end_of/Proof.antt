@@ -1,5 +1,4 @@
 -- The end that was kept, or that of a second look.
-use mathlib.Core.Path.{_∙_, sym}
 use native.Mathlib.Omega.{arith}
 use Rattle.linked_maps.specs.Walk.{endAt}
 use Rattle.linked_maps.proofs.Putting.{kept-end}

@@ -1,6 +1,5 @@
 -- The numbers of the maps so far are written, those of the maps ahead are left.
 use Prim.Native.Nat.{_-_}
-use mathlib.Core.Path.{_≡_, sym}
 use mathlib.Core.List.{List}
 use native.Mathlib.Omega.{arith}
 use borrow.Author.Needs.{needs}

@@ -1,63 +1,22 @@
--- The laws of linked sections.
-use Prim.Native.Nat.{ℕ, zero, suc, _+_, _*_, _-_, _≤_, _<_}
+-- What cutting into maps tells of them, and that joined maps are cut again.
+use Prim.Native.Nat.{ℕ, zero, suc, _+_, _*_, _≤_, _<_}
 use mathlib.Core.Path.{_≡_, refl, sym, ap, _∙_}
-use mathlib.Core.Bool.{Bool, true, false, cond, not}
-use mathlib.Core.List.{List, [], _∷_, _++_, append-nil, List·Memᴰ, List·Memᴰ·head, List·Memᴰ·tail, List·Memᴰ·not-nil, List·Memᴰ·cases-cons}
+use mathlib.Core.List.{List, [], _∷_, _++_, append-nil, append-assoc, List·Memᴰ, List·Memᴰ·head, List·Memᴰ·tail, List·Memᴰ·not-nil, List·Memᴰ·cases-cons}
 use mathlib.Core.Logic.{⊎-elim}
 use native.Mathlib.Omega.{arith}
-use native.Mathlib.Nat.{zero-add}
+use native.Mathlib.Nat.{add-zero, zero-add}
 use lib.ListN.{length, take, drop, length-drop, length-append, take-append-drop}
 use lib.Seq.{take-append-seam, drop-append-seam}
 use Rattle.stackmap.specs.declared.Verdict.the-variants.{Refused}
-use Rattle.stackmap.specs.Verdict.{need, numberOf}
-use Rattle.stackmap.specs.Section.{isOld, Entry, entries}
 use Rattle.stackmap.specs.Check.{sectionCheck, Accepted}
-use Rattle.questions.specs.Questions.{ask, withAddress, notFound, firstOf, byAddress}
 use Rattle.linked.specs.Linked.{Map, mapAt, Cut, maps, refusal, before, cutFrom, cut}
-use Rattle.linked.specs.Find.{noneOld, MapEntry, ofMap, allWithAddress, notFoundIn, firstOfAll, byAddressIn}
-use Rattle.linked.specs.Laws.{inFirstMap, OneMap, EachAccepted, joined, laid, contents, Joined, BoundSuffices}
+use Rattle.linked.specs.Laws.{EachAccepted, joined, laid, contents, Joined, BoundSuffices}
 use Rattle.linked.proofs.Prefix.{prefix, extension, walked-least, accepted-walked}
 use Rattle.linked.proofs.Cutting.{Looked, last, more, wrong, looked, cut-last, cut-more, cut-wrong, bounds-same}
 
 pub bound-suffices : BoundSuffices
 unfolding cut
 bound-suffices s bound h = bounds-same bound (suc (length s)) 0 s h (omega arith)
-
--- One map.
-
-cut-one : (s : List ℕ) → Accepted s → cut s ≡ maps (mapAt 0 s ∷ [])
-unfolding cut
-cut-one s h = cut-last (length s) 0 s h
-
-cut-refused : (s : List ℕ) (n p : ℕ) → sectionCheck s ≡ Refused n p → (n ≡ 9 → ⊥) → cut s ≡ refusal n p
-unfolding cut
-cut-refused s n p h o = rw (zero-add p) at (cut-wrong (length s) 0 s n p h o)
-
-length-of-map : (i : ℕ) (m : Map) (es : List Entry) → length (ofMap i m es ++ []) ≡ length es
-unfolding ofMap
-length-of-map i m [] = refl
-length-of-map i m (e ∷ es) = ap suc (length-of-map i m es)
-
-first-one : (s : List ℕ) (es : List Entry) → firstOfAll (ofMap 0 (mapAt 0 s) es ++ []) ≡ inFirstMap (firstOf es)
-unfolding ofMap
-first-one s [] = refl
-first-one s (e ∷ es) = rw (length-of-map 0 (mapAt 0 s) es, zero-add)
-
-found-one : (s : List ℕ) (a : ℕ) (old : Bool)
-    → need (not old) (notFoundIn 27 0) (firstOfAll (ofMap 0 (mapAt 0 s) (withAddress a (entries s)) ++ [])) ≡ inFirstMap (cond old (notFound 27 0) (firstOf (withAddress a (entries s))))
-found-one s a true = refl
-found-one s a false = first-one s (withAddress a (entries s))
-
-found-same : (s : List ℕ) (a : ℕ) → (numberOf (sectionCheck s) ≡ 9 → ⊥) → Looked s → byAddressIn s a ≡ inFirstMap (byAddress s a)
-unfolding byAddressIn byAddress ask noneOld allWithAddress
-found-same s a o (last k) = rw (cut-one s k, k) (found-one s a (isOld s))
-found-same s a o (more p e) = absurd (o (ap numberOf e))
-found-same s a o (wrong n p e w) = rw (cut-refused s n p e w, e)
-
-pub one-map : OneMap
-one-map = record { accepted = cut-one; refused = cut-refused; found = λ s a o. found-same s a o (looked s) }
-
--- All maps.
 
 pub none-there : {n p : ℕ} {ms : List Map} {A : Type 0} → _≡_ {A = Cut} (refusal n p) (maps ms) → A
 none-there h = absurd (let z : _≡_ {A = ℕ} 0 1 = cc in omega arith)
@@ -149,10 +108,36 @@ joined-cut : (c : List ℕ) (cs : List (List ℕ)) → ((x : List ℕ) → List�
 unfolding cut
 joined-cut c cs k l = cut-again (suc (length (joined (c ∷ cs)))) 0 c cs k l (omega arith)
 
+after : (b at : ℕ) (cs : List (List ℕ)) (r : List ℕ) (n p : ℕ) → ((x : List ℕ) → List·Memᴰ x cs → Accepted x) → 0 < length r → length (joined cs ++ r) ≤ 16777216
+    → length (joined cs ++ r) < b → sectionCheck r ≡ Refused n p → (n ≡ 9 → ⊥) → cutFrom b at (joined cs ++ r) ≡ refusal n (at + length (joined cs) + p)
+unfolding joined
+after zero at cs r n p k z l h e o = absurd (omega arith)
+after (suc b) at [] r n p k z l h e o = rw add-zero (cut-wrong b at r n p e o)
+after (suc b) at (c ∷ cs) r n p k z l h e o =
+    let a = k c (List·Memᴰ·head refl) in
+    let i = accepted-least c a in
+    let s = append-assoc c (joined cs) r in
+    let m = length-append c (joined cs ++ r) in
+    let q = length-append (joined cs) r in
+    let l₂ : length (c ++ (joined cs ++ r)) ≤ 16777216 = rw s at l in
+    let h₂ : length (c ++ (joined cs ++ r)) < suc b = rw s at h in
+    let x = extension c (joined cs ++ r) a (omega arith) l₂ in
+    let ih = after b (at + length c) cs r n p (λ y j. k y (List·Memᴰ·tail j)) z (omega arith) (omega arith) e o in
+    let w = length-append c (joined cs) in
+    let d : at + length c + length (joined cs) + p ≡ at + length (c ++ joined cs) + p = omega arith in
+    ap (cutFrom (suc b) at) s ∙ cut-more b at (c ++ (joined cs ++ r)) (length c) x
+    ∙ rw (drop-append-seam c (joined cs ++ r), ih) (ap (refusal n) d)
+
+after-all : (cs : List (List ℕ)) (r : List ℕ) (n p : ℕ) → ((x : List ℕ) → List·Memᴰ x cs → Accepted x) → 0 < length r → length (joined cs ++ r) ≤ 16777216
+    → sectionCheck r ≡ Refused n p → (n ≡ 9 → ⊥) → cut (joined cs ++ r) ≡ refusal n (length (joined cs) + p)
+unfolding cut
+after-all cs r n p k z l e o = rw zero-add at (after (suc (length (joined cs ++ r))) 0 cs r n p k z l (omega arith) e o)
+
 pub joined-whole : Joined
 joined-whole =
     record {
       whole = λ s ms h. cut-whole s ms h .all;
       placed = λ s ms h. cut-whole s ms h .stand;
       cut-again = joined-cut;
+      refused-after = after-all;
     }
