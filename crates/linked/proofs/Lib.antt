@@ -1,0 +1,6 @@
+pub mod Agree
+pub mod Prefix
+pub mod Places
+pub mod Cutting
+pub mod Whole
+pub mod Found
