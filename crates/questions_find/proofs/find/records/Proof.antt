@@ -1,5 +1,6 @@
 -- What the walk told, 9 where bytes follow, and 10 where nothing was found.
-use mathlib.Core.Path.{sym, _∙_}
+use mathlib.Core.Path.{_≡_, sym, _∙_}
+use native.Mathlib.Omega.{arith}
 use Rattle.stackmap.specs.Section.{entries}
 use Rattle.questions.specs.Kept.{searched}
 use Rattle.questions.specs.Questions.{ask}
@@ -42,8 +43,9 @@ returns-3 c =
     let a = c .before .before .before .before .before .before .before .before .before .before .args in
     let w = c .before .before .before .before .before .before .before .before .scan in
     let f = front-right (a .s .now) (a .address) (w .result) (w .ensures .0) (c .before .before .before .before .before .before .if1 .left) in
+    let z : w .result .hits .sharing ≡ 0 = omega arith in
     c .refused3 .ensures
-    ∙ rw (front-whole f (c .before .before .before .before .if2 .left)) (sym (found-none (a .address) (entries (a .s .now)) (w .result .hits) (f .kept) (c .before .if3 .taken)))
+    ∙ rw (front-whole f (c .before .before .before .before .if2 .left)) (sym (found-none (a .address) (entries (a .s .now)) (w .result .hits) (f .kept) z))
 
 returns-4 : tie.Need-returns-4
 unfolding searched ask
