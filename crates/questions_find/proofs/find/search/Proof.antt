@@ -44,7 +44,8 @@ returns : tie.Need-returns Inv-loop μ-loop
 returns c =
     let l = c .before .before .before .loop in
     let k = kept-on _ _ (c .before .pass .ensures) (l .inv .2) (l .inv .0) in
-    (all-right (c .before .before .before .before .before .before .before .before .before .args .address) (c .before .before .before .before .before .before .before .u32-at .ensures) k (c .if1 .taken), record { few = omega (arith, l .inv .1, l .inv .3); inside = l .inv .4 })
+    let a = all-right (c .before .before .before .before .before .before .before .before .before .args .address) (c .before .before .before .before .before .before .before .u32-at .ensures) k (c .if1 .taken) in
+    (a, record { few = omega (arith, l .inv .1, l .inv .3); inside = l .inv .4 })
 
 sub-record-at : tie.Need-sub-record-at Inv-loop μ-loop
 sub-record-at c = let b = c .before .pass .ensures .owned (omega arith) .begun in omega arith
