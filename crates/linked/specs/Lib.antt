@@ -1,0 +1,4 @@
+pub mod Linked
+pub mod Find
+pub mod Answers
+pub mod Laws
