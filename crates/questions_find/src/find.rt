@@ -4,14 +4,14 @@
 ghost use mathlib.Core.Path.{_≡_};
 ghost use Prim.Native.Nat.{_+_, _^_, _≤_, _<_};
 ghost use lib.ListN.{length};
-ghost use lib.Dec.{eqb};
 ghost use Rattle.stackmap.specs.Section.{numFunctions, isOld, recordsAt, entries};
-ghost use Rattle.stackmap.specs.Check.{walkCheck};
 ghost use Rattle.stackmap.specs.Walk.{ownerAt, entryAt, Walkable};
 ghost use Rattle.stackmap.specs.Layout.{headerSize};
-ghost use Rattle.questions.specs.Kept.{noted, searched, namedFound, ofSection};
-ghost use Rattle.questions.proofs.Kept.{hitsAnswer};
-ghost use Rattle.questions.specs.Questions.{ask, withAddress, notFound, firstOf, byAddress, byFunction};
+ghost use Rattle.stackmap.proofs.OneWalk.{fold};
+ghost use Rattle.questions.specs.Kept.{noHits, noted, searched, namedFound, ofSection};
+ghost use Rattle.questions.specs.Questions.{notFound, byAddress, byFunction};
+ghost use Rattle.questions_find.specs.Scan.{refusedAt, told, allRecords, scanned, Bounded};
+use crate::Scanned;
 use questions::Found;
 use questions::Hits;
 use stackmap::Turn;
@@ -76,30 +76,26 @@ pub fn note(
     }
 }
 
-// The answer of a walk that ended at `at`: 9 if that is not the section's end, 10 if nothing was kept, or what was.
-fn ended(s: &[u8], at: usize, hits: Hits) -> Found
-    ensures { λ r. ⌜ (at ≡ length (now (s .entry)) → r ≡ hitsAnswer (eqb (hits .sharing) 0) hits) × ((at ≡ length (now (s .entry)) → ⊥) → r ≡ notFound 9 at) ⌝ }
+// A refusal of what stands at the front, with nothing kept.
+fn stopped(number: u8, place: usize) -> Scanned
+    ensures { λ r. ⌜ r ≡ refusedAt number place ⌝ }
 {
-    if at != s.len() {
-        return refused(9, at);
-    }
-    if hits.sharing == 0 {
-        return refused(NOT_FOUND, 0);
-    }
-    Found {
-        number: 0,
-        place: 0,
-        index: hits.index,
-        function: hits.function,
-        sharing: hits.sharing,
-        first: hits.first,
+    Scanned {
+        number,
+        place,
+        hits: Hits {
+            index: 0,
+            function: 0,
+            sharing: 0,
+            first: 0,
+        },
     }
 }
 
-// The walk from the first record's byte: all records, with what the search keeps; then 9, then 10.
-fn search(s: &[u8], at: usize, address: u64) -> Found
+// The walk from the first record's byte: all records, with what the search keeps, and where the last one ends.
+fn search(s: &[u8], at: usize, address: u64) -> Scanned
     requires { ⌜ Walkable (now s) × (at ≡ recordsAt (now s)) × (at ≤ length (now s)) ⌝ }
-    ensures { λ r. ⌜ r ≡ ask notFound (firstOf (withAddress address (entries (now (s .entry))))) (walkCheck (now (s .entry))) ⌝ }
+    ensures { λ r. ⌜ (r ≡ told (fold (noted address) (entries (now (s .entry))) noHits) (allRecords (now (s .entry)))) × Bounded (length (now (s .entry))) (r .hits) ⌝ }
 {
     let constants = wire::u32_at(s, layout::NUM_CONSTANTS_AT);
     let count = wire::u32_at(s, layout::NUM_RECORDS_AT);
@@ -118,12 +114,16 @@ fn search(s: &[u8], at: usize, address: u64) -> Found
         let ahead = stop.remaining;
         let here = stop.at;
         if ahead == 0 {
-            return ended(s, here, hits);
+            return Scanned {
+                number: 0,
+                place: here,
+                hits,
+            };
         }
         let next = stop.next;
         let left = stop.left;
         match walk::record_at(s, old, constants, next - 1, here) {
-            Verdict::Refused(n, q) => return refused(n, q),
+            Verdict::Refused(n, q) => return stopped(n, q),
             Verdict::Valid(end) => {
                 let start = walk::owner_address(s, old, next - 1);
                 let index = (count - ahead) as usize;
@@ -137,16 +137,45 @@ fn search(s: &[u8], at: usize, address: u64) -> Found
         };
         remaining = ahead - 1;
     }
-    ended(s, p, hits)
+    Scanned {
+        number: 0,
+        place: p,
+        hits,
+    }
 }
 
-// The first record with the address, or at the offset in version 1; or 10 exactly if there is none.
+// A section that other bytes may follow: its refusal, or where its last record ends, and what has the address, or the offset in version 1.
+pub fn scan(s: &[u8], address: u64) -> Scanned
+    ensures { λ r. ⌜ (r ≡ scanned (now (s .entry)) address) × Bounded (length (now (s .entry))) (r .hits) ⌝ }
+{
+    match tables::begin(s) {
+        Verdict::Refused(n, p) => stopped(n, p),
+        Verdict::Valid(at) => search(s, at, address),
+    }
+}
+
+// The first record with the address, or at the offset in version 1; 9 if bytes follow the last record; 10 exactly if there is none.
 pub fn records(s: &[u8], address: u64) -> Found
     ensures { λ r. ⌜ r ≡ searched (now (s .entry)) address ⌝ }
 {
-    match tables::begin(s) {
-        Verdict::Refused(n, p) => refused(n, p),
-        Verdict::Valid(at) => search(s, at, address),
+    let front = scan(s, address);
+    if front.number != 0 {
+        return refused(front.number, front.place);
+    }
+    if front.place != s.len() {
+        return refused(9, front.place);
+    }
+    let hits = front.hits;
+    if hits.sharing == 0 {
+        return refused(NOT_FOUND, 0);
+    }
+    Found {
+        number: 0,
+        place: 0,
+        index: hits.index,
+        function: hits.function,
+        sharing: hits.sharing,
+        first: hits.first,
     }
 }
 

@@ -1,46 +1,69 @@
--- What comes before the records, then the search.
-use mathlib.Core.Path.{sym, _∙_}
+-- What the walk told, 9 where bytes follow, and 10 where nothing was found.
+use mathlib.Core.Path.{_≡_, sym, _∙_}
 use native.Mathlib.Omega.{arith}
-use Rattle.stackmap.proofs.Within.{begin-held}
+use Rattle.stackmap.specs.Section.{entries}
 use Rattle.questions.specs.Kept.{searched}
-use Rattle.questions.proofs.Asked.{ask-refused, ask-begun}
+use Rattle.questions.specs.Questions.{ask}
+use Rattle.questions.proofs.Kept.{found-none, found-some}
 use borrow.Author.Needs.{needs}
+use Rattle.questions_find.proofs.Ends.{front-refused, front-right, front-whole, front-after}
 use Rattle.questions_find.proofs.find.records.Statement.{statement}
 use Rattle.questions_find.proofs.find.records.Tie as tie
 
-begin-requires : tie.Need-begin-requires
-begin-requires c κs = search needs
-
-enum-known-n : tie.Need-enum-known-n
-enum-known-n c = search needs
+scan-requires : tie.Need-scan-requires
+scan-requires c κs = search needs
 
 refused-requires : tie.Need-refused-requires
 refused-requires c κs = search needs
 
-enum-known-at : tie.Need-enum-known-at
-enum-known-at c = search needs
-
-search-requires : tie.Need-search-requires
-search-requires c κs =
-    let t = begin-held _ _ (sym (c .before .before .before .begin .ensures) ∙ c .before .at .given .1) in
-    (t .walkable, t .begins, let b = t .begins in let i = t .inside in omega arith)
-
 returns : tie.Need-returns
-unfolding searched
-returns c = c .refused .ensures ∙ sym (ask-refused _ _ _ _ _ (sym (c .before .before .before .before .begin .ensures) ∙ c .before .before .n .given .1))
+unfolding searched ask
+returns c =
+    let a = c .before .before .before .before .before .args in
+    let w = c .before .before .before .scan in
+    c .refused .ensures ∙ rw (front-refused (a .s .now) (a .address) (w .result) (w .ensures .0) (c .before .if1 .taken))
+
+refused-requires-2 : tie.Need-refused-requires-2
+refused-requires-2 c κs = search needs
 
 returns-2 : tie.Need-returns-2
-unfolding searched
-returns-2 c = c .search .ensures ∙ sym (ask-begun _ _ _ _ (sym (c .before .before .before .before .begin .ensures) ∙ c .before .before .at .given .1))
+unfolding searched ask
+returns-2 c =
+    let a = c .before .before .before .before .before .before .before .args in
+    let w = c .before .before .before .before .before .scan in
+    let f = front-right (a .s .now) (a .address) (w .result) (w .ensures .0) (c .before .before .before .if1 .left) in
+    c .refused2 .ensures ∙ rw (front-after f (c .before .if2 .taken))
+
+refused-requires-3 : tie.Need-refused-requires-3
+refused-requires-3 c κs = search needs
+
+returns-3 : tie.Need-returns-3
+unfolding searched ask
+returns-3 c =
+    let a = c .before .before .before .before .before .before .before .before .before .before .args in
+    let w = c .before .before .before .before .before .before .before .before .scan in
+    let f = front-right (a .s .now) (a .address) (w .result) (w .ensures .0) (c .before .before .before .before .before .before .if1 .left) in
+    let z : w .result .hits .sharing ≡ 0 = omega arith in
+    c .refused3 .ensures
+    ∙ rw (front-whole f (c .before .before .before .before .if2 .left)) (sym (found-none (a .address) (entries (a .s .now)) (w .result .hits) (f .kept) z))
+
+returns-4 : tie.Need-returns-4
+unfolding searched ask
+returns-4 c =
+    let a = c .before .before .before .before .before .before .before .before .before .args in
+    let w = c .before .before .before .before .before .before .before .scan in
+    let f = front-right (a .s .now) (a .address) (w .result) (w .ensures .0) (c .before .before .before .before .before .if1 .left) in
+    rw (front-whole f (c .before .before .before .if2 .left)) (sym (found-some (a .address) (entries (a .s .now)) (w .result .hits) (f .kept) (c .if3 .left)))
 
 pub records-spec : {M : Type 1} → statement M
 records-spec =
     tie.close
     (tie.spec
-    begin-requires
-    enum-known-n
+    scan-requires
     refused-requires
-    enum-known-at
-    search-requires
     returns
-    returns-2)
+    refused-requires-2
+    returns-2
+    refused-requires-3
+    returns-3
+    returns-4)

@@ -2,18 +2,18 @@
 use Prim.Native.Nat.{_+_, _-_, _^_, _≤_, _<_}
 use mathlib.Core.Path.{_≡_, sym, _∙_}
 use native.Mathlib.Omega.{arith}
+use lib.ListN.{length}
 use Rattle.stackmap.proofs.OneWalk.{Folding, fold-start, fold-on}
 use Rattle.stackmap.proofs.Within.{here-inside}
 use Rattle.questions.specs.Kept.{noHits, noted}
-use Rattle.questions.proofs.Asked.{ask-stop}
 use borrow.Author.Needs.{needs}
-use Rattle.questions_find.proofs.Ends.{kept-on, answered}
+use Rattle.questions_find.proofs.Ends.{noted-first, kept-on, all-right, one-wrong}
 use Rattle.questions_find.proofs.find.search.Statement.{statement}
 use Rattle.questions_find.proofs.find.search.Tie as tie
 
 abbrev Inv-loop : tie.InvT-loop
 Inv-loop s at address constants count old remaining₀ turn₀ p₀ hits₀ remaining turn p hits =
-    Folding (noted address) s constants noHits (turn .next) (turn .left) remaining (count - remaining) p hits × (hits .sharing ≤ count - remaining) × (remaining ≤ count) × (count < 2 ^ 32)
+    Folding (noted address) s constants noHits (turn .next) (turn .left) remaining (count - remaining) p hits × (hits .sharing ≤ count - remaining) × (remaining ≤ count) × (count < 2 ^ 32) × (hits .first ≤ length s)
 
 abbrev μ-loop : tie.MeasureT-loop
 μ-loop s at address constants count old remaining₀ turn₀ p₀ hits₀ remaining turn p hits = remaining
@@ -35,20 +35,17 @@ loop-holds c =
     let q = c .before .before .before .before .before in
     let n = c .before .before .u32-at2 in
     let z : n .result - n .result ≡ 0 = omega arith in
-    (rw z (fold-start (noted (q .args .address)) noHits (q .pre .0) (c .start .ensures) (q .pre .1) (q .pre .2) (n .ensures)), omega arith, omega arith, omega arith)
+    (rw z (fold-start (noted (q .args .address)) noHits (q .pre .0) (c .start .ensures) (q .pre .1) (q .pre .2) (n .ensures)), omega arith, omega arith, omega arith, omega arith)
 
 pass-requires : tie.Need-pass-requires Inv-loop μ-loop
 pass-requires c κs = (c .before .before .before .is-old .ensures, c .before .before .before .before .before .before .before .pre .0 .inside, c .before .loop .inv .0 .walking)
 
-ended-requires : tie.Need-ended-requires Inv-loop μ-loop
-ended-requires c κs = search needs
-
 returns : tie.Need-returns Inv-loop μ-loop
 returns c =
-    let l = c .before .before .before .before .loop in
-    let e = c .ended .ensures in
-    let k = kept-on _ _ (c .before .before .pass .ensures) (l .inv .2) (l .inv .0) in
-    answered (c .before .before .before .before .before .before .before .before .before .before .args .address) (c .ended .result) (c .before .before .before .before .before .before .before .before .u32-at .ensures) k (c .before .if1 .taken) (e .0) (e .1)
+    let l = c .before .before .before .loop in
+    let k = kept-on _ _ (c .before .pass .ensures) (l .inv .2) (l .inv .0) in
+    let a = all-right (c .before .before .before .before .before .before .before .before .before .args .address) (c .before .before .before .before .before .before .before .u32-at .ensures) k (c .if1 .taken) in
+    (a, record { few = omega (arith, l .inv .1, l .inv .3); inside = l .inv .4 })
 
 sub-record-at : tie.Need-sub-record-at Inv-loop μ-loop
 sub-record-at c = let b = c .before .pass .ensures .owned (omega arith) .begun in omega arith
@@ -64,8 +61,8 @@ record-at-requires c κs =
 enum-known-n : tie.Need-enum-known-n Inv-loop μ-loop
 enum-known-n c = search needs
 
-refused-requires : tie.Need-refused-requires Inv-loop μ-loop
-refused-requires c κs = search needs
+stopped-requires : tie.Need-stopped-requires Inv-loop μ-loop
+stopped-requires c κs = search needs
 
 returns-2 : tie.Need-returns-2 Inv-loop μ-loop
 returns-2 c =
@@ -75,7 +72,7 @@ returns-2 c =
     let k = kept-on _ _ t (l .inv .2) (l .inv .0) in
     let n = c .before .before .before .before .before .before .before .before .before .before .before .before .u32-at .ensures in
     let v = sym (c .before .before .before .before .record-at .ensures) ∙ c .before .before .n .given .1 in
-    c .refused .ensures ∙ ask-stop _ _ n k (s .result .next) (s .result .left) (t .same) (t .owned (omega arith) .some) v
+    (c .stopped .ensures ∙ one-wrong _ n k (s .result .next) (s .result .left) (t .same) (t .owned (omega arith) .some) v, rw (c .stopped .ensures) (record { few = omega arith; inside = omega arith }))
 
 enum-known-end : tie.Need-enum-known-end Inv-loop μ-loop
 enum-known-end c = search needs
@@ -129,16 +126,13 @@ loop-again c =
     let k = kept-on a all t (l .inv .2) (l .inv .0) in
     let f = fold-on (noted a) (s .result .next) (s .result .left) k (t .same) (o .some) (o .begun) (o .most) (omega arith) v in
     let z : all - (s .result .remaining - 1) ≡ all - s .result .remaining + 1 = omega (arith, l .inv .2) in
-    (rw (c .note .ensures .0, z) f, omega (arith, c .note .ensures .1, z), omega (arith, l .inv .2), l .inv .3)
-
-ended-requires-2 : tie.Need-ended-requires-2 Inv-loop μ-loop
-ended-requires-2 c κs = search needs
+    (rw (c .note .ensures .0, z) f, omega (arith, c .note .ensures .1, z), omega (arith, l .inv .2), l .inv .3, rw (c .note .ensures .0) (noted-first a _ _ _ (k .walking .inside) (l .inv .4)))
 
 returns-3 : tie.Need-returns-3 Inv-loop μ-loop
 returns-3 c =
-    let e = c .ended2 .ensures in
-    let n = c .before .before .before .before .before .before .u32-at .ensures in
-    answered (c .before .before .before .before .before .before .before .before .args .address) (c .ended2 .result) n (c .before .before .loop .inv .0) (omega arith) (e .0) (e .1)
+    let n = c .before .before .before .before .before .u32-at .ensures in
+    let l = c .before .loop in
+    (all-right (c .before .before .before .before .before .before .before .args .address) n (l .inv .0) (omega arith), record { few = omega (arith, l .inv .1, l .inv .3); inside = l .inv .4 })
 
 pub search-spec : {M : Type 1} → statement M
 search-spec =
@@ -152,12 +146,11 @@ search-spec =
     start-requires
     loop-holds
     pass-requires
-    ended-requires
     returns
     sub-record-at
     record-at-requires
     enum-known-n
-    refused-requires
+    stopped-requires
     returns-2
     enum-known-end
     sub-owner-address
@@ -170,5 +163,4 @@ search-spec =
     sub-remaining
     loop-less
     loop-again
-    ended-requires-2
     returns-3)
