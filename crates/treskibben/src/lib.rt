@@ -24,6 +24,7 @@ pub mod explain_calls;
 pub mod explain_reports;
 pub mod flat_sections;
 pub mod index_lookups;
+pub mod linked_sections;
 pub mod replays;
 pub mod reports;
 
