@@ -265,6 +265,69 @@ treskibben_answer treskibben_find_all_by_index(const uint8_t *section, size_t le
                                                uint64_t *answers, size_t answers_length);
 
 /*
+ * Linked sections.
+ *
+ * A linker puts the stack maps of several objects one after the other into one section, which
+ * treskibben_check refuses by 9 where the second begins. A linked section is such maps: where the check gives
+ * 9 at p, the first p bytes are a map, and the rest is cut in the same way; where it accepts the rest, that is
+ * the last map. Maps are numbered from 0 in their order, and may be of either version each. A section that
+ * treskibben_check accepts is a linked one of one map.
+ *
+ * Any other refusal of a rest is that of the whole. Its place is counted from the first byte of the whole, and
+ * so is every other place below. 9 is never given: bytes after the last map that are none are refused as the
+ * map that they would begin, by 1 where they are fewer than 16. The whole has at most 16,777,216 bytes.
+ *
+ * `section` is lent as to treskibben_check, and a list that is written as an output to a conversion: no pointer
+ * may be NULL, the list must be aligned, and it shares no byte with the section.
+ */
+
+/*
+ * The maps of a linked section. `list` has room for `list_length` numbers; two are written for each map, in
+ * their order: its first byte in the section and its length. `value` is how many maps there are. Numbers beyond
+ * those are left untouched, and all are on a refusal. A list of length / 8 numbers is never too short. The
+ * answer is the first of these that holds, in this order:
+ *
+ *   number  when                                                     place
+ *   1       the whole has over 16,777,216 bytes                      0
+ *   1 to 8  the refusal that treskibben_check gives the rest from    the map's first byte plus the
+ *           a map on, of the first map where it is not 9             place that the check gives
+ *   24      list_length below two numbers a map                      0
+ *   0       the list is written                                      0
+ */
+treskibben_answer treskibben_linked_maps(const uint8_t *section, size_t length, uint64_t *list,
+                                         size_t list_length);
+
+/*
+ * What the question by address over all maps answers. All fields of a refused answer but number and place are 0.
+ *
+ * map:      the number of the first map that has a record with the address.
+ * index:    the number of the first such record in that map, counted in it alone.
+ * function: the number of that record's function in that map.
+ * sharing:  how many records of all maps have the address, the first one included.
+ */
+typedef struct treskibben_linked_answer {
+    uint64_t number;
+    uint64_t place;
+    uint64_t map;
+    uint64_t index;
+    uint64_t function;
+    uint64_t sharing;
+} treskibben_linked_answer;
+
+/*
+ * The first record with this address in the order of the maps, and of the records in each. Where there is one
+ * map, the fields are those of treskibben_find. The answer is the first of these that holds, in this order:
+ *
+ *   number  when                                                     place
+ *   1 to 8  the refusal that treskibben_linked_maps gives            as there
+ *   27      a map is of version 1                                    the first such map's first byte
+ *   10      no record of any map has the address                     0
+ *   0       the question is answered                                 0
+ */
+treskibben_linked_answer treskibben_linked_find(const uint8_t *section, size_t length,
+                                                uint64_t address);
+
+/*
  * Conversions between a section and its listing.
  *
  * A listing says what a section says, without header, counts of locations and live-outs, zeros and

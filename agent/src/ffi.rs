@@ -10,6 +10,7 @@ pub(crate) mod editions;
 pub(crate) mod explain;
 pub(crate) mod flat;
 pub(crate) mod index;
+pub(crate) mod linked;
 pub(crate) mod replay;
 pub(crate) mod report;
 pub(crate) mod restore;

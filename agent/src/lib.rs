@@ -15,7 +15,7 @@
 //! A section's first byte is its version. Version 1 doesn't say which function has a record: there
 //! [`find_in_function`] takes the place of [`find`], and a [`Frame`] tells its function. All else is
 //! asked of both versions alike. [`flat`] has the same kinds of calls for the flat proposal of a
-//! version 2.
+//! version 2. [`linked`] is for the maps of several objects in one section, as a linker leaves them.
 //!
 //! [`editions`] keeps what a site sets for its moves, in a store of 64 editions. A restore that names an
 //! [`Edition`](editions::Edition) is kept to it; such a restore is explained as a whole, a frame or a thread at
@@ -48,6 +48,7 @@ mod ffi;
 pub mod flat;
 mod index;
 mod join;
+pub mod linked;
 mod machine;
 mod questions;
 mod refusal;

@@ -11,7 +11,7 @@ use crate::numbers::count;
 use crate::registers::Machine;
 use crate::text::UNKNOWN;
 use crate::trouble::{say, Voice};
-use crate::{files, library, output};
+use crate::{files, library, linked, output};
 use std::collections::HashMap;
 use std::fs;
 use std::path::Path;
@@ -28,11 +28,7 @@ pub fn of_section(path: &Path, section: &[u8], refusal: Refusal) -> Option<Strin
         2 if section.first() == Some(&2) => Some(FLAT.to_string()),
         2 => Some(format!("its first byte is {}", section.first()?)),
         3 | 6 => Some(format!("it is {:#04x}", section.get(at)?)),
-        9 => {
-            let more = count(section.len().checked_sub(at)? as u64, "byte");
-            let way = "'treskibben cut' takes apart what a linker put one after the other";
-            Some(format!("{more} from there on: {way}"))
-        }
+        9 => linked::after_the_first(section, at),
         _ => None,
     }
 }

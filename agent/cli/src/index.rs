@@ -4,7 +4,8 @@
 //! little-endian, two a record, its address and its number.
 
 use crate::files::{self, INDEX};
-use crate::library::{Found, Index};
+use crate::library::{self, Index, Map};
+use crate::linked;
 use crate::numbers::count;
 use crate::trouble::Trouble;
 use std::path::Path;
@@ -56,20 +57,53 @@ pub fn nearest_records(index: &Index, addresses: &[u64]) -> Vec<String> {
     let near = near.unwrap_or_default();
     let found = index.find_all(&near).unwrap_or_default();
     let words = |nth: usize, address: &u64| match (near.get(nth), found.get(nth)) {
-        (Some(near), Some(Some(found))) => words(*near, *address, found),
-        _ => "the section has no records".to_string(),
+        (Some(near), Some(Some(found))) => words(*near, *address, &linked::record(found, None)),
+        _ => NO_RECORDS.to_string(),
     };
     let asked = addresses.iter().enumerate();
     asked.map(|(nth, address)| words(nth, address)).collect()
 }
 
-fn words(near: u64, address: u64, found: &Found) -> String {
-    let Found {
-        record, function, ..
-    } = found;
+/// What is said where nothing can be near.
+const NO_RECORDS: &str = "the section has no records";
+
+fn words(near: u64, address: u64, record: &str) -> String {
     let away = count(near.abs_diff(address), "byte");
     let side = if near < address { "below" } else { "above" };
-    format!("the nearest is record {record} of function {function} at {near:#x}, {away} {side}")
+    format!("the nearest is {record} at {near:#x}, {away} {side}")
+}
+
+/// The records of all maps of a linked section, by their addresses.
+pub struct Nearest<'a> {
+    section: &'a [u8],
+    /// The entries of the maps' indexes, ordered by address.
+    entries: Vec<[u64; 2]>,
+}
+
+impl<'a> Nearest<'a> {
+    pub fn of(section: &'a [u8], maps: &[Map]) -> Nearest<'a> {
+        let mut entries = Vec::new();
+        for map in maps {
+            let index = library::index_of(linked::bytes(section, *map));
+            let own = index.map(Index::into_entries).unwrap_or_default();
+            entries.extend_from_slice(own.as_chunks::<2>().0);
+        }
+        entries.sort_unstable();
+        Nearest { section, entries }
+    }
+
+    /// What lies nearest to an address, in words. The record is the library's answer.
+    pub fn to(&self, address: u64) -> String {
+        let near = nearest(self.entries.as_flattened(), address);
+        let found = near.and_then(|near| library::find_linked(self.section, near).ok());
+        match (near, found) {
+            (Some(near), Some(found)) => {
+                let own = library::found_in_map(found);
+                words(near, address, &linked::record(&own, Some(found.map)))
+            }
+            _ => NO_RECORDS.to_string(),
+        }
+    }
 }
 
 #[cfg(test)]

@@ -24,6 +24,9 @@ pub enum Answer<'a> {
         /// The profile that it was held against too.
         #[serde(skip_serializing_if = "Option::is_none")]
         profile: Option<&'static str>,
+        /// How many maps it has, where there are several.
+        #[serde(skip_serializing_if = "Option::is_none")]
+        maps: Option<u64>,
     },
     /// Any command: what was refused.
     Refused(Refusal<'a>),
@@ -45,6 +48,8 @@ pub enum Answer<'a> {
     Function(Function),
     Record(Record),
     Constant {
+        #[serde(skip_serializing_if = "Option::is_none")]
+        map: Option<u64>,
         constant: u64,
         value: Hex,
     },
@@ -52,6 +57,9 @@ pub enum Answer<'a> {
     Found {
         file: &'a str,
         asked: &'a str,
+        /// The map that it is found in, where there are several.
+        #[serde(skip_serializing_if = "Option::is_none")]
+        map: Option<u64>,
         sharing: u64,
         function: Function,
         record: Record,
@@ -61,6 +69,8 @@ pub enum Answer<'a> {
         file: &'a str,
         line: usize,
         asked: &'a str,
+        #[serde(skip_serializing_if = "Option::is_none")]
+        map: Option<u64>,
         record: u64,
         function: u64,
         sharing: u64,
@@ -108,6 +118,8 @@ pub struct Refusal<'a> {
     #[serde(skip_serializing_if = "Option::is_none")]
     part: Option<u64>,
     #[serde(skip_serializing_if = "Option::is_none")]
+    map: Option<u64>,
+    #[serde(skip_serializing_if = "Option::is_none")]
     first: Option<u64>,
     #[serde(skip_serializing_if = "Option::is_none")]
     number: Option<u64>,
@@ -121,6 +133,11 @@ pub struct Refusal<'a> {
 #[derive(Serialize)]
 pub struct Section<'a> {
     file: &'a str,
+    /// Which of several maps it is, and its first byte.
+    #[serde(skip_serializing_if = "Option::is_none")]
+    map: Option<u64>,
+    #[serde(skip_serializing_if = "Option::is_none")]
+    first: Option<u64>,
     version: u8,
     bytes: usize,
     functions: usize,
@@ -130,6 +147,8 @@ pub struct Section<'a> {
 
 #[derive(Serialize)]
 pub struct Function {
+    #[serde(skip_serializing_if = "Option::is_none")]
+    map: Option<u64>,
     function: u64,
     address: Hex,
     stack_size: Option<Hex>,
@@ -138,6 +157,8 @@ pub struct Function {
 
 #[derive(Serialize)]
 pub struct Record {
+    #[serde(skip_serializing_if = "Option::is_none")]
+    map: Option<u64>,
     record: u64,
     function: Option<u64>,
     address: Option<Hex>,
@@ -195,7 +216,8 @@ impl<'a> Answer<'a> {
             frame: refused.frame,
             pair: refused.pair,
             part: refused.part.map(|(part, _)| part),
-            first: refused.part.map(|(_, first)| first),
+            map: refused.map.map(|(map, _)| map),
+            first: refused.part.or(refused.map).map(|(_, first)| first),
             number: refused.answer.map(|(number, _)| number),
             place: refused.answer.map(|(_, place)| place),
             cause: &refused.cause,
@@ -218,16 +240,21 @@ impl<'a> Answer<'a> {
     }
 }
 
-/// Writes all that a section says: the section, its functions, its constants, its records.
+/// Writes all that a section says: the section, its functions, its constants, its records. Of several maps each is
+/// told so, with its number and its first byte.
 pub fn section(
     out: &mut dyn Write,
     file: &Path,
+    map: Option<(u64, u64)>,
     listing: &Listing,
     length: usize,
     machine: Machine,
 ) -> io::Result<()> {
+    let (map, first) = map.unzip();
     let head = Section {
         file: &name(file),
+        map,
+        first,
         version: if listing.version_1 { 1 } else { 3 },
         bytes: length,
         functions: listing.functions.len(),
@@ -236,23 +263,37 @@ pub fn section(
     };
     Answer::Section(head).write(out)?;
     for number in 0..listing.functions.len() {
-        Answer::Function(function(listing, number)).write(out)?;
+        Answer::Function(Function {
+            map,
+            ..function(listing, number)
+        })
+        .write(out)?;
     }
     for (constant, value) in (0..).zip(&listing.constants) {
         let value = Hex(*value);
-        Answer::Constant { constant, value }.write(out)?;
+        Answer::Constant {
+            map,
+            constant,
+            value,
+        }
+        .write(out)?;
     }
     for (index, (owner, body)) in (0..).zip(listing.records()) {
-        Answer::Record(record(listing, index, owner, &body, machine)).write(out)?;
+        Answer::Record(Record {
+            map,
+            ..record(listing, index, owner, &body, machine)
+        })
+        .write(out)?;
     }
     Ok(())
 }
 
-/// Writes a record that was found, and its function.
+/// Writes a record that was found, and its function; of several maps with the number of its own.
 pub fn found(
     out: &mut dyn Write,
     file: &Path,
     asked: &str,
+    map: Option<u64>,
     listing: &Listing,
     found: &Found,
     machine: Machine,
@@ -264,6 +305,7 @@ pub fn found(
     let answer = Answer::Found {
         file: &name(file),
         asked,
+        map,
         sharing: found.sharing,
         function: function(listing, at(found.function)),
         record: record(listing, found.record, owner, &body, machine),
@@ -275,6 +317,7 @@ fn function(listing: &Listing, number: usize) -> Function {
     let function = &listing.functions[number];
     let known = function.stack_size != UNKNOWN;
     Function {
+        map: None,
         function: number as u64,
         address: Hex(function.address),
         stack_size: known.then_some(Hex(function.stack_size)),
@@ -295,6 +338,7 @@ fn record(
     let role = |number| deopt.map(|deopt| role(number, deopt));
     let locations = record.locations.iter().enumerate();
     Record {
+        map: None,
         record: index,
         function: owner.map(|owner| owner as u64),
         address,

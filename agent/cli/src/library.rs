@@ -2,11 +2,13 @@
 //!
 //! Every answer on a section, a listing or a frame comes from the crate `treskibben`.
 
+mod linked;
 mod profiles;
 mod restore;
 mod traces;
 
 use crate::registers;
+pub use linked::{find_linked, found_in_map, map_at_fault, maps, LinkedFound, Map};
 pub use profiles::check_profile;
 pub use restore::Restore;
 pub use traces::{outcome, steps_of, trace_of, Difference, Recorded, Step};
@@ -49,11 +51,6 @@ pub const VERSION: &str = env!("CARGO_PKG_VERSION");
 /// The check of a section: refusals 1 to 9.
 pub fn check(section: &[u8]) -> Result<(), Refusal> {
     Ok(treskibben::check(section)?)
-}
-
-/// The question by address: 27 of a version 1 section, 10 where no record has it.
-pub fn find(section: &[u8], address: u64) -> Result<Found, Refusal> {
-    Ok(treskibben::find(section, address)?)
 }
 
 /// The question by function and offset: 27 of a version 3 section, 10 where there is no such function or

@@ -52,13 +52,16 @@ pub fn stack_size(section: &[u8], function: u64) -> Option<u64> {
     Some(u64::from_le_bytes(*size))
 }
 
-/// Whether a section of version 3 has functions, and all of them at address 0: so it is until a linker or a
+/// Whether sections of version 3 have functions, and all of them at address 0: so it is until a linker or a
 /// loader has put in where they are.
-pub fn all_at_zero(section: &[u8]) -> bool {
-    let mut functions = functions(section).map(|(address, _)| address).peekable();
-    section.first() == Some(&3)
-        && functions.peek().is_some()
-        && functions.all(|address| address == 0)
+pub fn all_at_zero<'a>(sections: impl IntoIterator<Item = &'a [u8]>) -> bool {
+    let mut addresses = sections
+        .into_iter()
+        .filter(|section| section.first() == Some(&3))
+        .flat_map(functions)
+        .map(|(address, _)| address)
+        .peekable();
+    addresses.peek().is_some() && addresses.all(|address| address == 0)
 }
 
 /// A listing: its tables read, its records still bytes.

@@ -19,6 +19,7 @@ mod index;
 mod inputs;
 mod json;
 mod library;
+mod linked;
 mod listing;
 mod lists;
 mod moves;

@@ -8,17 +8,18 @@ use std::io::{self, Write};
 /// The stack size that means not known.
 pub const UNKNOWN: u64 = u64::MAX;
 
-/// Writes all that a section says: its functions with their records, then its constants. Of version 1 all
-/// records come after the functions.
+/// Writes all that a section says, or a map, as it is called: its functions with their records, then its constants.
+/// Of version 1 all records come after the functions.
 pub fn section(
     out: &mut dyn Write,
+    called: &str,
     listing: &Listing,
     length: usize,
     machine: Machine,
 ) -> io::Result<()> {
     writeln!(
         out,
-        "section: {}{}, {}, {}, {}",
+        "{called}: {}{}, {}, {}, {}",
         if listing.version_1 { "version 1, " } else { "" },
         count(length as u64, "byte"),
         count(listing.functions.len() as u64, "function"),

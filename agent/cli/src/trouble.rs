@@ -52,6 +52,8 @@ pub struct Refused {
     pub pair: Option<u64>,
     /// The part of a file that is cut: its number and its first byte.
     pub part: Option<(u64, u64)>,
+    /// The map of a linked section, where it isn't the first: its number and its first byte.
+    pub map: Option<(u64, u64)>,
     /// The library's number and place; none where the command itself refuses.
     pub answer: Option<(u64, u64)>,
     pub cause: String,

@@ -100,6 +100,47 @@ fn a_refused_call_with_an_index_has_zeros_and_an_accepted_one_no_place() {
     }
 }
 
+/// Two or three sections, of which some are damaged, joined.
+#[test]
+fn a_refused_call_on_a_linked_section_has_zeros_and_an_accepted_one_no_place() {
+    let mut rng = Rng::new(1);
+    let mut counts = [0; 28];
+    for _ in 0..20_000 {
+        let sections: Vec<_> = (0..2 + rng.below(2))
+            .map(|_| {
+                let version = rng.pick(&[Version::One, Version::Three, Version::Three]);
+                crowded_in(&mut rng, version)
+            })
+            .collect();
+        let mut bytes = vec![];
+        for section in &sections {
+            match rng.one_in(3) {
+                true => bytes.extend(case_of(&mut rng, section).bytes),
+                false => bytes.extend(section.encode()),
+            }
+        }
+        let section = &sections[rng.below(sections.len())];
+        let it = linked::find(&bytes, address(&mut rng, section));
+        let zeros = (it.map, it.index, it.function, it.sharing) == (0, 0, 0, 0);
+        counts[it.verdict.number as usize] += 1;
+        match it.verdict.number {
+            0 => assert!(it.verdict.place == 0 && it.sharing != 0, "{bytes:?}"),
+            _ => assert!(zeros, "{bytes:?}"),
+        }
+        let mut list = vec![9; rng.below(10)];
+        let answer = linked::maps(&bytes, &mut list);
+        counts[answer.verdict.number as usize] += 1;
+        match answer.verdict.number {
+            0 => assert!(answer.verdict.place == 0 && answer.value != 0, "{bytes:?}"),
+            _ => assert_eq!(answer.value, 0, "{bytes:?}"),
+        }
+    }
+    assert_eq!(counts[9], 0, "{counts:?}");
+    for number in (0..9).chain([10, 24, 27]) {
+        assert!(counts[number] > 100, "{number}: {counts:?}");
+    }
+}
+
 #[test]
 fn a_refused_conversion_has_length_0_and_an_accepted_one_no_place() {
     let mut rng = Rng::new(1);

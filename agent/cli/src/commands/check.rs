@@ -3,10 +3,11 @@
 use crate::json;
 use crate::library::{self, Refusal};
 use crate::names::shown;
+use crate::numbers::count;
 use crate::profile::{self, Profile};
 use crate::progress::Progress;
 use crate::trouble::{Status, Trouble, Voice};
-use crate::{files, found, output};
+use crate::{files, found, linked, output};
 use std::path::{Path, PathBuf};
 
 /// Say of each file whether it is a whole section
@@ -15,8 +16,9 @@ use std::path::{Path, PathBuf};
 /// error 'FILE: refused NUMBER at PLACE: ..', with the cause in words and what was found. All files
 /// are looked at, whatever is found in the earlier ones, and the worst answer is the exit status.
 ///
-/// A linker puts the maps of several objects one after the other. Such a file is refused by 9 at the
-/// second map: 'treskibben cut' takes it apart.
+/// A linker puts the maps of several objects one after the other. Such a section is taken as it comes:
+/// 'FILE: accepted, 3 maps'. A refusal's place is in the whole; the map is named, counted from 0, and
+/// the place in it. A profile takes one map: there a linked section is refused by 9.
 #[derive(clap::Args)]
 pub struct Arguments {
     /// The sections
@@ -51,29 +53,38 @@ pub fn run(arguments: &Arguments, voice: Voice) -> Result<Status, Trouble> {
 
 fn check(file: &Path, profile: Option<Profile>, voice: Voice) -> Result<(), Trouble> {
     let section = files::read(file, files::SECTION)?;
-    let checked = match profile {
-        None => library::check(&section),
-        Some(Profile::Bench) => library::check_profile(&section),
+    let maps = match profile {
+        None => library::maps(&section)
+            .map(|maps| maps.len() as u64)
+            .map_err(|refusal| linked::refused(file, &section, refusal))?,
+        Some(Profile::Bench) => library::check_profile(&section)
+            .map(|()| 1)
+            .map_err(|refusal| outside(file, &section, refusal))?,
     };
-    checked.map_err(|refusal| {
-        let found = match refusal {
-            Refusal {
-                number: 50, place, ..
-            } => profile::of_section(&section, place),
-            _ => found::of_section(file, &section, refusal),
-        };
-        Trouble::refused(file, refusal, found)
-    })?;
     let profile = profile.map(Profile::name);
+    let maps = Some(maps).filter(|maps| *maps > 1);
     match voice {
         Voice::Text => {
             let held = profile.map(|name| format!(", profile {name}"));
-            let held = held.unwrap_or_default();
-            output::line(&format!("{}: accepted{held}", shown(file)))
+            let maps = maps.map(|maps| format!(", {}", count(maps, "map")));
+            let more = [held, maps].map(Option::unwrap_or_default).concat();
+            output::line(&format!("{}: accepted{more}", shown(file)))
         }
         Voice::Json => output::object(&json::Answer::Accepted {
             file: &json::name(file),
             profile,
+            maps,
         }),
     }
+}
+
+/// The refusal of a section that is held against a profile.
+fn outside(file: &Path, section: &[u8], refusal: Refusal) -> Trouble {
+    let found = match refusal {
+        Refusal {
+            number: 50, place, ..
+        } => profile::of_section(section, place),
+        _ => found::of_section(file, section, refusal),
+    };
+    Trouble::refused(file, refusal, found)
 }

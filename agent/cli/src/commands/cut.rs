@@ -3,7 +3,7 @@
 mod write;
 
 use crate::folder::Folder;
-use crate::library::{self, Refusal};
+use crate::library::{self, Map, Refusal};
 use crate::numbers::count;
 use crate::progress::Progress;
 use crate::trouble::{Refused, Status, Trouble, Voice};
@@ -13,10 +13,9 @@ use std::path::{Path, PathBuf};
 
 /// Take a file of several maps apart, as a linker leaves it
 ///
-/// A linker puts the maps of several objects one after the other. The file is cut where the check
-/// says 9, bytes after the last record, and each part is checked by itself. Writes a line for each
-/// part. A part that is refused ends the work; its refusal's place is counted from the part's first
-/// byte. The file may be of any length, a part at most 16,777,216 bytes.
+/// A linker puts the maps of several objects one after the other: each of them becomes a part. Writes a
+/// line for each part. A part that is refused ends the work; its refusal's place is counted from the
+/// part's first byte. The file may be of any length, a part at most 16,777,216 bytes.
 #[derive(clap::Args)]
 pub struct Arguments {
     /// The maps
@@ -76,15 +75,20 @@ fn parts(path: &Path, file: &mut File, voice: Voice, deaf: bool) -> Result<Vec<P
     loop {
         window.fill(path, file)?;
         let (number, first) = (parts.len() as u64, window.first);
-        let length = part_length(window.bytes())
+        let maps = whole_maps(window.bytes())
             .map_err(|refusal| refused(path, number, first, window.bytes(), refusal))?;
-        match tell(path, number, first, length, voice) {
-            Err(trouble) if !deaf && !matches!(trouble, Trouble::Closed) => return Err(trouble),
-            _ => {}
+        for map in maps {
+            let (number, first, length) = (parts.len() as u64, window.first, map.length as u64);
+            match tell(path, number, first, length, voice) {
+                Err(trouble) if !deaf && !matches!(trouble, Trouble::Closed) => {
+                    return Err(trouble)
+                }
+                _ => {}
+            }
+            parts.push(Part { first, length });
+            window.pass(length);
+            progress.tell(window.first, all);
         }
-        parts.push(Part { first, length });
-        window.pass(length);
-        progress.tell(window.first, all);
         if window.bytes().is_empty() {
             return Ok(parts);
         }
@@ -120,23 +124,16 @@ fn refused(path: &Path, number: u64, first: u64, bytes: &[u8], refusal: Refusal)
     }))
 }
 
-/// The length of the map that the bytes begin with. There may be one byte more than the longest
-/// section has, to tell that the file goes on.
-fn part_length(bytes: &[u8]) -> Result<u64, Refusal> {
+/// The maps that the bytes begin with: all of them, or those before one that is refused, of which the file may have
+/// more. There may be one byte more than the longest section has, to tell that the file goes on.
+fn whole_maps(bytes: &[u8]) -> Result<Vec<Map>, Refusal> {
     let inside = &bytes[..bytes.len().min(LONGEST)];
-    match library::check(inside) {
-        Ok(()) => Ok(inside.len() as u64),
-        Err(Refusal {
-            number: 9, place, ..
-        }) => {
-            let length = usize::try_from(place).unwrap_or(usize::MAX);
-            library::check(&inside[..length.min(inside.len())])?;
-            Ok(place)
-        }
+    library::maps(inside).or_else(|refusal| match library::map_at_fault(inside) {
         // What isn't inside the longest section belongs to a longer one, which is refused as such.
-        Err(refusal) if refusal.number == 4 => Err(library::check(bytes).err().unwrap_or(refusal)),
-        Err(refusal) => Err(refusal),
-    }
+        (0, _) if refusal.number == 4 => Err(library::check(bytes).err().unwrap_or(refusal)),
+        (0, _) => Err(refusal),
+        (_, first) => library::maps(&inside[..first]),
+    })
 }
 
 /// The part of the file that is in memory.

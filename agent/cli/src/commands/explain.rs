@@ -51,7 +51,7 @@ pub fn run(arguments: &Arguments, voice: Voice) -> Result<Status, Trouble> {
     let given = &arguments.given;
     let inputs = Inputs::read(given)?;
     let image = files::read(&given.image, files::IMAGE)?;
-    if listing::all_at_zero(&inputs.section) && library::check(&inputs.section).is_ok() {
+    if listing::all_at_zero([&inputs.section[..]]) && library::check(&inputs.section).is_ok() {
         found::warn_of_zeros(&given.section, voice);
     }
     let Some(frame) = arguments.frame else {

@@ -1,14 +1,15 @@
 //! `find`: the record at an address, or at an offset in a function; or those at many addresses.
 
 mod many;
+mod over_maps;
 
-use crate::library::{Found, Index, Refusal};
+use crate::library::{Found, Index, LinkedFound, Refusal};
 use crate::listing::Listing;
 use crate::numbers::{address, in_function};
 use crate::registers::Machine;
 use crate::text::{self, Title};
 use crate::trouble::{Status, Trouble, Voice};
-use crate::{files, found, index, json, library, output};
+use crate::{files, found, index, json, library, linked, output};
 use std::fmt;
 use std::io::{self, Write};
 use std::path::{Path, PathBuf};
@@ -26,6 +27,10 @@ use std::path::{Path, PathBuf};
 /// hexadecimal: 0+0x20. It doesn't say which function has a record, so that every function finds the
 /// same; 10 is said where there is no such function, or no record at the offset. 27 is said where
 /// the question is that of the other version.
+///
+/// A linker puts the maps of several objects one after the other. An address is looked for in all of
+/// them: the first record in their order is told, with its map, and how many of all maps have it. An
+/// index, and FUNCTION+OFFSET, are of one map.
 #[derive(clap::Args)]
 pub struct Arguments {
     /// The section
@@ -77,16 +82,50 @@ fn one(
             Trouble::refused(file, refusal, Some(none))
         }
         _ if index.is_some() => refused(file, kept.zip(index.as_ref()), &section, refusal),
-        _ => Trouble::refused(file, refusal, found::of_section(file, &section, refusal)),
+        _ => asked.refused(file, &section, refusal),
     };
-    let found = asked.find(&section, index.as_ref()).map_err(told)?;
-    let listing = library::listing_of(&section).map_err(told)?;
+    let there = asked.find(&section, index.as_ref()).map_err(told)?;
+    let listing = library::listing_of(there.bytes).map_err(told)?;
     let listing = Listing::read(&listing);
     output::to(None, |out| match voice {
-        Voice::Text => describe(out, &listing, asked, &found, machine),
-        Voice::Json => json::found(out, file, &asked.to_string(), &listing, &found, machine),
+        Voice::Text => describe(out, &listing, asked, &there, machine),
+        Voice::Json => {
+            let (asked, found) = (asked.to_string(), &there.found);
+            json::found(out, file, &asked, there.map, &listing, found, machine)
+        }
     })?;
     Ok(Status::Done)
+}
+
+/// Where a record is: in these bytes, which are a map of the section; of several with its number.
+struct There<'a> {
+    found: Found,
+    map: Option<u64>,
+    bytes: &'a [u8],
+}
+
+impl<'a> There<'a> {
+    /// In a section that is one map.
+    fn alone(section: &'a [u8], found: Found) -> There<'a> {
+        There {
+            found,
+            map: None,
+            bytes: section,
+        }
+    }
+
+    /// In one of the maps.
+    fn among(section: &'a [u8], found: LinkedFound) -> Result<There<'a>, Refusal> {
+        let maps = library::maps(section)?;
+        let own = usize::try_from(found.map)
+            .ok()
+            .and_then(|map| maps.get(map));
+        Ok(There {
+            found: library::found_in_map(found),
+            map: (maps.len() > 1).then_some(found.map),
+            bytes: own.map_or(section, |own| linked::bytes(section, *own)),
+        })
+    }
 }
 
 /// A file that holds an index, and what it holds.
@@ -141,12 +180,25 @@ impl Asked {
     }
 
     /// Asks the library, by the index where there is one.
-    fn find(&self, section: &[u8], index: Option<&Index>) -> Result<Found, Refusal> {
-        match (*self, index) {
-            (Asked::At(address), Some(index)) => library::find_by_index(index, address),
-            (Asked::At(address), None) => library::find(section, address),
+    fn find<'a>(&self, section: &'a [u8], index: Option<&Index>) -> Result<There<'a>, Refusal> {
+        let found = match (*self, index) {
+            (Asked::At(address), Some(index)) => library::find_by_index(index, address)?,
+            (Asked::At(address), None) => {
+                return There::among(section, library::find_linked(section, address)?)
+            }
             (Asked::In { function, offset }, _) => {
-                library::find_in_function(section, function, offset)
+                library::find_in_function(section, function, offset)?
+            }
+        };
+        Ok(There::alone(section, found))
+    }
+
+    /// The refusal of a section that is asked without an index: of all maps, or of the one.
+    fn refused(&self, file: &Path, section: &[u8], refusal: Refusal) -> Trouble {
+        match self {
+            Asked::At(_) => linked::refused(file, section, refusal),
+            Asked::In { .. } => {
+                Trouble::refused(file, refusal, found::of_section(file, section, refusal))
             }
         }
     }
@@ -164,35 +216,32 @@ impl Asked {
     }
 }
 
-/// Which record is found, in one line.
-fn first_line(asked: &Asked, found: &Found) -> String {
-    let (owner, place) = match asked {
-        Asked::At(_) => (format!(" of function {}", found.function), "address"),
-        Asked::In { .. } => (String::new(), "offset"),
+/// Which record is found, in one line; of several maps with its own.
+fn first_line(asked: &Asked, found: &Found, map: Option<u64>) -> String {
+    let (record, place) = match asked {
+        Asked::At(_) => (linked::record(found, map), "address"),
+        Asked::In { .. } => (format!("record {}", found.record), "offset"),
     };
     let which = match found.sharing {
         1 => "the only record".to_string(),
         sharing => format!("the first of {sharing} records"),
     };
-    format!(
-        "{asked}: record {}{owner}, {which} at this {place}",
-        found.record
-    )
+    format!("{asked}: {record}, {which} at this {place}")
 }
 
 fn describe(
     out: &mut dyn Write,
     listing: &Listing,
     asked: &Asked,
-    found: &Found,
+    there: &There,
     machine: Machine,
 ) -> io::Result<()> {
-    let (index, function) = (found.record, found.function);
+    let (index, function) = (there.found.record, there.found.function);
     let address = match *asked {
         Asked::At(address) => Some(address),
         Asked::In { .. } => None,
     };
-    writeln!(out, "{}", first_line(asked, found))?;
+    writeln!(out, "{}", first_line(asked, &there.found, there.map))?;
     let at = |number: u64| usize::try_from(number).unwrap_or(usize::MAX);
     let Some((_, record)) = listing.records().nth(at(index)) else {
         return Ok(());

@@ -119,6 +119,7 @@ fn check(file: &Path, voice: Voice) -> Result<(), Trouble> {
         Voice::Json => output::object(&json::Answer::Accepted {
             file: &json::name(file),
             profile: None,
+            maps: None,
         }),
     }
 }

@@ -1,16 +1,22 @@
 //! `list`: the listing of a section, raw, for people or for programs.
 
 use crate::json;
-use crate::listing::{self, Listing};
+use crate::library::{self, Map, Refusal};
+use crate::listing::Listing;
+use crate::numbers::count;
 use crate::registers::Machine;
 use crate::trouble::{Status, Trouble, Voice};
-use crate::{files, found, library, output, text};
+use crate::{files, found, linked, output, text};
+use std::io::{self, Write};
 use std::path::PathBuf;
 
 /// Write the listing of a section: raw, as text or as JSON
 ///
 /// Without --text or --json it is the raw bytes that 'treskibben build' makes the section from
 /// again.
+///
+/// A linker puts the maps of several objects one after the other. --text and --json tell each of them, with
+/// its number, its first byte and its length; the raw listing is of one map.
 #[derive(clap::Args)]
 #[command(group = clap::ArgGroup::new("readable").args(["text", "json"]))]
 pub struct Arguments {
@@ -44,21 +50,51 @@ pub fn run(arguments: &Arguments, voice: Voice) -> Result<Status, Trouble> {
         output::not_a_terminal(&arguments.output, instead)?;
     }
     let section = files::read(file, files::SECTION)?;
-    let listing = library::listing_of(&section).map_err(|refusal| {
-        let found = found::of_section(file, &section, refusal);
-        Trouble::refused(file, refusal, found)
-    })?;
-    if readable && listing::all_at_zero(&section) {
+    if !readable {
+        let listing = library::listing_of(&section).map_err(|refusal| {
+            let found = found::of_section(file, &section, refusal);
+            Trouble::refused(file, refusal, found)
+        })?;
+        output::to(output, |out| out.write_all(&listing))?;
+        return Ok(Status::Done);
+    }
+    let told = |refusal| linked::refused(file, &section, refusal);
+    let maps = library::maps(&section).map_err(told)?;
+    let listing_of = |map: &Map| library::listing_of(linked::bytes(&section, *map));
+    let listings: Result<Vec<Vec<u8>>, Refusal> = maps.iter().map(listing_of).collect();
+    let listings = listings.map_err(told)?;
+    if linked::all_at_zero(&section, &maps) {
         found::warn_of_zeros(file, voice);
     }
-    let machine = arguments.machine.unwrap_or_default();
     output::to(output, |out| {
-        let read = || Listing::read(&listing);
-        match (arguments.text, arguments.json) {
-            (true, _) => text::section(out, &read(), section.len(), machine),
-            (_, true) => json::section(out, file, &read(), section.len(), machine),
-            _ => out.write_all(&listing),
+        if maps.len() > 1 && voice == Voice::Text {
+            let bytes = count(section.len() as u64, "byte");
+            writeln!(out, "section: {bytes}, {}", count(maps.len() as u64, "map"))?;
         }
+        let mut all = (0..).zip(&maps).zip(&listings);
+        all.try_for_each(|((number, map), listing)| {
+            let own = (maps.len() > 1).then_some((number, map.first as u64));
+            arguments.map(out, own, &Listing::read(listing), map.length)
+        })
     })?;
     Ok(Status::Done)
+}
+
+impl Arguments {
+    /// Writes what a map says; of several with its number and its first byte.
+    fn map(
+        &self,
+        out: &mut dyn Write,
+        own: Option<(u64, u64)>,
+        listing: &Listing,
+        length: usize,
+    ) -> io::Result<()> {
+        let machine = self.machine.unwrap_or_default();
+        if self.json {
+            return json::section(out, &self.file, own, listing, length, machine);
+        }
+        let called = own.map(|(number, first)| linked::name(number, first));
+        let called = called.as_deref().unwrap_or("section");
+        text::section(out, called, listing, length, machine)
+    }
 }

@@ -15,6 +15,9 @@ use std::thread;
 /// unknown. A folder stands for all files in it and in the folders below. A file that cannot be read
 /// counts as refused, is named on standard error, and makes the exit status 2.
 ///
+/// A linker puts the maps of several objects one after the other: each map of such a file counts as one
+/// section. Where one is refused, the file counts as one refused section and adds nothing else.
+///
 /// Sums are exact. Where one would pass 2^64 - 1, 34 is said at that section's position, and no totals
 /// are written. The answer does not depend on the number of threads.
 #[derive(clap::Args)]

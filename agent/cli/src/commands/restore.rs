@@ -142,7 +142,7 @@ impl Call<'_> {
     fn move_frames(&self, before: Vec<u8>, voice: Voice) -> Result<Moved, Trouble> {
         self.not_twice(&before)?;
         let section = &self.inputs.section;
-        if listing::all_at_zero(section) && library::check(section).is_ok() {
+        if listing::all_at_zero([&section[..]]) && library::check(section).is_ok() {
             found::warn_of_zeros(&self.arguments.given.section, voice);
         }
         let moved = self.inputs.move_frames(before)?;

@@ -3,10 +3,13 @@
 use super::Inputs;
 use crate::found::{self, Sizes};
 use crate::frames::Line;
-use crate::library::Refusal;
+use crate::library::{self, Refusal};
 use crate::numbers::count;
 use crate::profile;
 use crate::trouble::{place, Refused, Trouble};
+
+/// How the frames of several maps are moved.
+const BY_MAPS: &str = "the frames of each map have a call of their own, a restore on the image of the one before with --again";
 
 impl Inputs<'_> {
     /// The refusal of a frame, by its position, or of what all frames share.
@@ -60,6 +63,10 @@ impl Inputs<'_> {
                     (&given.section, found)
                 }
             },
+            9 => {
+                let found = found::of_section(&given.section, &self.section, refusal);
+                (&given.section, found.map(|found| self.by_maps(found)))
+            }
             31 => return self.of_edition(Some(self.chosen.unknown())),
             33 => return self.of_edition(self.chosen.not_allowed(&self.section, self.machine)),
             _ => {
@@ -71,6 +78,14 @@ impl Inputs<'_> {
             file: file.clone(),
             found,
             ..Refused::default()
+        }
+    }
+
+    /// What was found of a linked section, and how its frames are moved.
+    fn by_maps(&self, found: String) -> String {
+        match library::maps(&self.section) {
+            Ok(_) => format!("{found}; {BY_MAPS}"),
+            Err(_) => found,
         }
     }
 

@@ -4,10 +4,10 @@
 
 use super::gather::Entry;
 use super::{passing, Report};
-use crate::library::{self, Refusal, Totals};
+use crate::library::{self, Map, Refusal, Totals};
 use crate::progress::Progress;
 use crate::trouble::{Status, Trouble, Voice};
-use crate::{files, found};
+use crate::{files, linked};
 use std::collections::VecDeque;
 use std::path::Path;
 use std::sync::atomic::{AtomicBool, AtomicUsize, Ordering};
@@ -24,8 +24,9 @@ pub struct Told {
 
 /// What came of one file.
 struct Counted {
-    /// What it adds; 34 where its own sums pass already.
-    adds: Result<Totals, Refusal>,
+    /// What each of its maps adds; 34 where its own sums pass already. A file of which a map is refused is one
+    /// refused section.
+    adds: Vec<Result<Totals, Refusal>>,
     /// What is said of it: that it cannot be read, or that it is refused.
     said: Option<Trouble>,
 }
@@ -107,7 +108,7 @@ impl Work<'_> {
     /// What a file adds. One that cannot be read counts as a section of no bytes, which is refused.
     fn count(&self, entry: &Entry, buffer: &mut Vec<u8>) -> Counted {
         let nothing = |said| Counted {
-            adds: library::totals_of(&[]),
+            adds: vec![library::totals_of(&[])],
             said,
         };
         if entry.trouble.is_some() {
@@ -120,13 +121,21 @@ impl Work<'_> {
     }
 
     fn section(&self, path: &Path, section: &[u8]) -> Counted {
-        let adds = library::totals_of(section);
-        let is_told = self.told.refused && adds.is_ok_and(|adds| adds.refused > 0);
-        let refusal = is_told.then(|| library::check(section).err()).flatten();
-        let said = refusal.map(|refusal| {
-            Trouble::refused(path, refusal, found::of_section(path, section, refusal))
-        });
-        Counted { adds, said }
+        match library::maps(section) {
+            Ok(maps) => {
+                let adds = |map: &Map| library::totals_of(linked::bytes(section, *map));
+                let adds = maps.iter().map(adds).collect();
+                Counted { adds, said: None }
+            }
+            Err(refusal) => {
+                let said = || linked::refused(path, section, refusal);
+                Counted {
+                    // The check refuses the whole as well, if only by 9.
+                    adds: vec![library::totals_of(section)],
+                    said: self.told.refused.then(said),
+                }
+            }
+        }
     }
 
     /// Keeps what came of a file, and adds all that is known without a gap.
@@ -157,17 +166,22 @@ impl Work<'_> {
 impl Sums<'_> {
     /// Adds the next file.
     fn add(&mut self, entry: &Entry, counted: Counted, told: Told) {
-        let before = self.report.totals();
-        let joined = |adds| self.report.add(entry.machine, adds);
-        if let Err(refusal) = counted.adds.and_then(joined) {
-            let place = before.sections;
-            let refusal = Refusal { place, ..refusal };
-            let alone = |_| Some(ALONE.to_string());
-            let found = counted
-                .adds
-                .map_or_else(alone, |adds| passing(before, adds));
-            self.refused = Some(Trouble::refused(&entry.path, refusal, found));
-            return;
+        for (number, adds) in counted.adds.iter().enumerate() {
+            let before = self.report.totals();
+            let joined = |adds| self.report.add(entry.machine, adds);
+            if let Err(refusal) = adds.and_then(joined) {
+                let place = before.sections;
+                let refusal = Refusal { place, ..refusal };
+                let alone = |_| Some(ALONE.to_string());
+                let found = adds.map_or_else(alone, |adds| passing(before, adds));
+                let several = counted.adds.len() > 1;
+                let found = found.map(|found| match several {
+                    true => format!("map {number}: {found}"),
+                    false => found,
+                });
+                self.refused = Some(Trouble::refused(&entry.path, refusal, found));
+                return;
+            }
         }
         self.done += 1;
         for trouble in [&entry.trouble, &counted.said].into_iter().flatten() {

@@ -16,7 +16,7 @@ fn each_sample_gets_its_answer() {
         ("c-empty", None),
         ("c-version-1", None),
         ("d-version-2", Some((2, 0, "version neither 1 nor 3"))),
-        ("e-byte-after", Some((9, 16, "bytes after the last record"))),
+        ("e-byte-after", Some((1, 16, NOT_THAT_LONG))),
         (
             "f-record-missing",
             Some((

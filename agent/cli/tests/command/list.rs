@@ -133,7 +133,7 @@ fn a_refused_section_leaves_the_output_alone() {
     for output in ["old", "new"] {
         let ran = folder.run(["list", "e", "--output", output]);
         let found = ran.refused(9, 16, "e: bytes after the last record");
-        assert!(found.contains("'treskibben cut'"), "{found}");
+        assert!(found.contains("'treskibben check'"), "{found}");
         assert_eq!(ran.out, b"");
     }
     assert_eq!(folder.get("old"), b"something else");

@@ -12,6 +12,7 @@ mod full;
 mod index;
 mod join;
 mod json;
+mod linked;
 mod list;
 mod profile;
 mod replay;

@@ -115,7 +115,7 @@ fn all_thirteen_totals() {
 fn refused_sections() {
     let folder = Folder::new();
     folder.put("h", row_h());
-    folder.put("long", row_h().repeat(2));
+    folder.put("long", [row_h(), vec![0; 3]].concat());
     folder.put("flat", with(row_h(), 0, 2));
     let files = ["report", "long", "h", "flat"];
     let totals = sum(&[OF_REFUSED, OF_H, OF_REFUSED]);
@@ -124,7 +124,7 @@ fn refused_sections() {
     assert_eq!((ran.status, ran.text()), (Some(0), &*lines(totals)));
     let told: Vec<&str> = ran.err.lines().collect();
     assert_eq!(told.len(), 2, "{}", ran.err);
-    assert!(told[0].starts_with("long: refused 9 at 152: bytes after the last record; 152 bytes"));
+    assert!(told[0].starts_with("long: refused 1 at 152: section under 16 or over "));
     assert!(told[1].starts_with("flat: refused 2 at 0: version neither 1 nor 3; its first byte"));
     let ran = folder.run(files.into_iter().chain(["--refused", "--json"]));
     assert_eq!((ran.status, ran.err.as_str()), (Some(0), ""));
@@ -133,7 +133,7 @@ fn refused_sections() {
         .lines()
         .map(|line| serde_json::from_str::<Value>(line).unwrap()["number"].clone())
         .collect();
-    assert_eq!(numbers, [json!(9), json!(2), Value::Null]);
+    assert_eq!(numbers, [json!(1), json!(2), Value::Null]);
     assert_eq!(last_object(&ran)["totals"], object(totals));
 }
 

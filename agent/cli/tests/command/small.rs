@@ -160,7 +160,6 @@ fn what_was_found() {
     folder.put("elf", [&b"\x7fELF"[..], &[0; 60]].concat());
     folder.put("cut", b"\x7fELF\x02");
     folder.put("kind", with(row_h(), 56, 9));
-    folder.put("two", [&C[..], &C[..]].concat());
     for (file, number, place, found) in [
         ("few", 1, 0, "it has 5 bytes"),
         ("elf", 2, 0, "it is an ELF file: \
@@ -168,8 +167,6 @@ fn what_was_found() {
         ("cut", 1, 0, "it is an ELF file: \
              'objcopy --dump-section .llvm_stackmaps=FILE cut /dev/null' writes its section to FILE"),
         ("kind", 6, 56, "it is 0x09"),
-        ("two", 9, 16, "16 bytes from there on: \
-             'treskibben cut' takes apart what a linker put one after the other"),
     ] {
         for command in ["check", "list"] {
             let ran = folder.run([command, file]);

@@ -1,14 +1,14 @@
 //! The records at the addresses of a list.
 
-use super::{first_line, refused, Asked};
+use super::{first_line, over_maps, refused, Asked};
 use crate::library::{Found, Index, Refusal};
 use crate::lists::{self, Entry, Numbers};
 use crate::trouble::{Refused, Status, Trouble, Voice};
-use crate::{files, index, json, library, output};
+use crate::{files, index, json, library, linked, output};
 use std::path::Path;
 
 /// An address of a list, and the line that it stands in.
-type Line = Entry<[u64; 1]>;
+pub type Line = Entry<[u64; 1]>;
 
 /// Looks all addresses of a list up in one call, and tells of each what is found, or what lies nearest.
 pub fn run(file: &Path, kept: Option<&Path>, list: &Path, voice: Voice) -> Result<Status, Trouble> {
@@ -18,6 +18,11 @@ pub fn run(file: &Path, kept: Option<&Path>, list: &Path, voice: Voice) -> Resul
     let index = match entries {
         Some(entries) => Index::from_entries(&section, entries),
         None => {
+            let told = |refusal| linked::refused(file, &section, refusal);
+            let maps = library::maps(&section).map_err(told)?;
+            if maps.len() > 1 {
+                return over_maps::run(file, &section, &maps, list, &lines, voice);
+            }
             library::index_of(&section).map_err(|refusal| refused(file, None, &section, refusal))?
         }
     };
@@ -29,7 +34,7 @@ pub fn run(file: &Path, kept: Option<&Path>, list: &Path, voice: Voice) -> Resul
     let mut worst = Status::Done;
     for (line, answer) in lines.iter().zip(answers) {
         let ended = match (answer, missing.refusal) {
-            (Some(found), _) => tell(file, line, &found, voice),
+            (Some(found), _) => tell(file, line, &found, None, voice),
             (None, Some(refusal)) => Err(not_there(list, line, refusal, near.next())),
             (None, None) => Ok(()),
         };
@@ -63,7 +68,8 @@ impl Missing {
     }
 }
 
-fn not_there(list: &Path, line: &Line, refusal: Refusal, near: Option<String>) -> Trouble {
+/// The refusal of an address that no record has, with what lies nearest.
+pub fn not_there(list: &Path, line: &Line, refusal: Refusal, near: Option<String>) -> Trouble {
     let asked = Asked::At(line.value[0]);
     let near = near.unwrap_or_default();
     Trouble::Refused(Box::new(Refused {
@@ -76,14 +82,22 @@ fn not_there(list: &Path, line: &Line, refusal: Refusal, near: Option<String>) -
     }))
 }
 
-fn tell(file: &Path, line: &Line, found: &Found, voice: Voice) -> Result<(), Trouble> {
+/// Tells what is found at an address; of several maps with its own.
+pub fn tell(
+    file: &Path,
+    line: &Line,
+    found: &Found,
+    map: Option<u64>,
+    voice: Voice,
+) -> Result<(), Trouble> {
     let asked = Asked::At(line.value[0]);
     match voice {
-        Voice::Text => output::line(&first_line(&asked, found)),
+        Voice::Text => output::line(&first_line(&asked, found, map)),
         Voice::Json => output::object(&json::Answer::Located {
             file: &json::name(file),
             line: line.line,
             asked: &asked.to_string(),
+            map,
             record: found.record,
             function: found.function,
             sharing: found.sharing,
