@@ -5,7 +5,8 @@
 //! frame, [`guests`] adds frames that share bytes with others, and [`plain`] says how a frame is
 //! answered and what becomes of the image and of the registers. [`thread`] makes lists of frames,
 //! [`reasons`] asks for slots, [`named`] makes editions that allow a move or don't, [`mod@bench`] makes
-//! frames of the bench controller's product, and [`twice`] frames that are moved twice.
+//! frames of the bench controller's product, [`twice`] frames that are moved twice, and [`split`] cuts the
+//! image into pieces.
 
 pub mod bench;
 mod building;
@@ -18,6 +19,7 @@ pub mod named;
 pub mod plain;
 mod pool;
 pub mod reasons;
+pub mod split;
 mod table;
 pub mod thread;
 pub mod twice;

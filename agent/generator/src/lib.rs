@@ -1,6 +1,7 @@
 //! Random stack map sections, listings and address indexes for tests and benchmarks, of versions 1 and
 //! 3, and flat sections: whole ones, and damaged ones. Also sequences of calls on a store of editions,
-//! reports over lists of sections, frames and threads to be moved, and traces of recorded moves.
+//! reports over lists of sections, frames and threads to be moved, traces of recorded moves, linked
+//! sections, and stacks in several pieces.
 //!
 //! Everything is made from a seed, so that a run can be had again. The encoder is this package's
 //! own: where it says what a section must be answered, that is one more opinion beside those of
@@ -17,6 +18,7 @@ pub mod frames;
 pub mod indexes;
 pub mod largest;
 pub mod layout;
+pub mod linked;
 pub mod listings;
 pub mod older;
 pub mod questions;

@@ -18,6 +18,7 @@ mod tests;
 mod tests_frames;
 
 use crate::machine::Machine;
+use crate::pieces::Stack;
 use crate::relocate::{moved, Cell, Frame, Plan, Shared, MAX_POINTERS};
 use crate::section::read;
 use crate::Refusal;
@@ -142,7 +143,7 @@ fn with_shared<T>(
         machine: Machine::of_number(machine)?,
         most_pointers: MAX_POINTERS,
         section: &section,
-        first,
+        stack: Stack::Whole(first),
         table,
     })
 }
@@ -170,7 +171,7 @@ impl Shared<'_> {
     ) -> Result<Vec<Explained>, Refusal> {
         let plan = self.judge_one(image, frame, registers)?;
         let of = |cell: &Cell| {
-            let slot = self.slot(&plan, cell);
+            let slot = Self::slot(&plan, cell);
             ExplainedSlot {
                 slot,
                 content: cell.content,
@@ -193,7 +194,7 @@ impl Shared<'_> {
 
     /// The reason of a slot of an accepted frame.
     fn reason(&self, plan: &Plan, slot: Slot) -> Reason {
-        let is = |cell: &Cell| self.slot(plan, cell) == slot;
+        let is = |cell: &Cell| Self::slot(plan, cell) == slot;
         let derived: Vec<(usize, u64)> = numbered(plan)
             .filter(|(_, [_, derived])| is(derived))
             .map(|(pair, [base, _])| (pair, base.content))
@@ -215,13 +216,10 @@ impl Shared<'_> {
     }
 
     /// A slot of an accepted frame as it is asked for.
-    fn slot(&self, plan: &Plan, cell: &Cell) -> Slot {
+    fn slot(plan: &Plan, cell: &Cell) -> Slot {
         match cell.slot {
             crate::relocate::Slot::Register(number) => Slot::Register(number as u64),
-            crate::relocate::Slot::Memory(at) => {
-                let start = self.first.wrapping_add(plan.stretch.start as u64);
-                Slot::Address(start.wrapping_add(at as u64))
-            }
+            crate::relocate::Slot::Memory(at) => Slot::Address(plan.start.wrapping_add(at as u64)),
         }
     }
 }

@@ -14,6 +14,8 @@
 //! A restore names an edition ([`restore`]); recorded ones are replayed
 //! ([`replay`]), and the bench controller takes those of one product
 //! ([`mod@bench`]). [`explain`] says why a slot of a frame is set or left as it is.
+//! [`linked`] takes the maps of several objects as a linker puts them into one
+//! section, and [`split`] a stack that stands in several pieces.
 //!
 //! Every function answers every input: with a result, or with a [`Refusal`]
 //! that has a fixed number and place. A refused call changes no byte of what
@@ -29,9 +31,11 @@ pub mod explain;
 pub mod flat;
 pub mod history;
 pub mod index;
+pub mod linked;
 pub mod listing;
 mod machine;
 pub mod moves;
+mod pieces;
 pub mod program;
 pub mod questions;
 pub mod relocate;
@@ -39,6 +43,7 @@ pub mod replay;
 pub mod report;
 pub mod restore;
 pub mod section;
+pub mod split;
 pub mod thread;
 
 #[cfg(test)]

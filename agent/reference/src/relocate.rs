@@ -38,6 +38,7 @@ mod tests_registers;
 mod tests_version_1;
 
 use crate::machine::Machine;
+use crate::pieces::Stack;
 use crate::section::{read, Function, Location, Record, Section, Version};
 use crate::Refusal;
 use pairs::{collision, count, forms, locate, new_contents};
@@ -90,7 +91,7 @@ pub fn relocate(
         machine: Machine::of_number(machine)?,
         most_pointers: MAX_POINTERS,
         section: &section,
-        first,
+        stack: Stack::Whole(first),
         table: [old_starts, new_starts],
     };
     let plan = shared.judge_one(image, frame, registers)?;
@@ -98,11 +99,12 @@ pub fn relocate(
     Ok(plan.pointers)
 }
 
-/// What all frames of a call share, beside the image: the section, the table,
-/// the machine, and how many pointers a frame may have.
+/// What all frames of a call share, beside the image: the section, where the
+/// image stands, the table, the machine, and how many pointers a frame may have.
+#[derive(Clone, Copy)]
 pub(crate) struct Shared<'a> {
     pub(crate) section: &'a Section,
-    pub(crate) first: u64,
+    pub(crate) stack: Stack<'a>,
     /// The old starts and the new ones.
     pub(crate) table: [&'a [u64]; 2],
     pub(crate) machine: Machine,
@@ -111,6 +113,8 @@ pub(crate) struct Shared<'a> {
 
 /// What is to be written for an accepted frame.
 pub(crate) struct Plan {
+    /// The address of the first byte of the frame's extent.
+    pub(crate) start: u64,
     /// The frame's own stretch of the image.
     pub(crate) stretch: Range<usize>,
     /// The number of pointers, null pairs counting one each.
@@ -146,7 +150,7 @@ impl Plan {
 impl Shared<'_> {
     /// Refusals 13 and 14.
     pub(crate) fn check(&self, image: &[u8]) -> Result<(), Refusal> {
-        check_image(image, self.first)?;
+        self.stack.check(image)?;
         check_table(self.table[0], self.table[1])
     }
 
@@ -175,7 +179,9 @@ impl Shared<'_> {
         let (record, function) = standing(self.section, frame)?;
         let entries = statepoint_pairs(record).ok_or(Refusal::at(12, 0))?;
         let start = registers[usize::from(self.machine.stack_pointer())];
-        let stretch = stretch(image, self.first, function, start).ok_or(Refusal::at(16, 0))?;
+        let extent = function_extent(function, start).ok_or(Refusal::at(16, 0))?;
+        let stretch = self.stack.stretch(image, extent.0, extent.1);
+        let stretch = stretch.ok_or(Refusal::at(16, 0))?;
         let bytes = image.get(stretch.clone()).ok_or(Refusal::at(16, 0))?;
         if self.section.version == Version::One && entries.len() > self.most_pointers {
             return Err(Refusal::at(17, 0));
@@ -190,6 +196,7 @@ impl Shared<'_> {
             return Err(Refusal::at(20, pair));
         }
         Ok(Plan {
+            start,
             stretch,
             pointers: pointers as u64,
             contents: new_contents(&pairs, self.table)?,
@@ -215,17 +222,8 @@ pub fn extent(
     function_extent(function, registers[usize::from(machine.stack_pointer())])
 }
 
-/// Refusal 13.
-fn check_image(image: &[u8], first: u64) -> Result<(), Refusal> {
-    let end = u128::from(first) + image.len() as u128;
-    if image.len() > MAX_IMAGE || end > u128::from(u64::MAX) {
-        return Err(Refusal::at(13, 0));
-    }
-    Ok(())
-}
-
 /// Refusal 14.
-fn check_table(old_starts: &[u64], new_starts: &[u64]) -> Result<(), Refusal> {
+pub(crate) fn check_table(old_starts: &[u64], new_starts: &[u64]) -> Result<(), Refusal> {
     let fits = old_starts.len() == new_starts.len() && old_starts.len() <= MAX_MOVES;
     let rises = old_starts.windows(2).all(|two| two[0] < two[1]);
     if !fits || !rises || old_starts.contains(&0) || new_starts.contains(&0) {
@@ -296,18 +294,4 @@ fn function_extent(function: &Function, stack_pointer: u64) -> Option<(u128, u12
     let size = function.stack_size;
     let start = u128::from(stack_pointer);
     (size != UNKNOWN).then_some((start, start + u128::from(size)))
-}
-
-/// The frame's own stretch of the image; none if its extent is unknown or
-/// isn't inside the image.
-fn stretch(
-    image: &[u8],
-    first: u64,
-    function: &Function,
-    stack_pointer: u64,
-) -> Option<Range<usize>> {
-    let (start, end) = function_extent(function, stack_pointer)?;
-    let from = usize::try_from(start.checked_sub(u128::from(first))?).ok()?;
-    let to = usize::try_from(end.checked_sub(u128::from(first))?).ok()?;
-    (to <= image.len()).then_some(from..to)
 }

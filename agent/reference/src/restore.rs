@@ -14,6 +14,7 @@ mod tests;
 use crate::editions::{Settings, Store};
 use crate::explain::{Explained, Reason, Slot};
 use crate::machine::Machine;
+use crate::pieces::Stack;
 use crate::relocate::{Frame, Shared};
 use crate::section::{read, Section, Version};
 use crate::Refusal;
@@ -108,6 +109,18 @@ impl Restore<'_> {
         profile: impl FnOnce(&Section, u64) -> Result<(), Refusal>,
         then: impl FnOnce(&Shared) -> Result<T, Refusal>,
     ) -> Result<T, Refusal> {
+        self.on_stack(Stack::Whole(self.first), machine, profile, then)
+    }
+
+    /// As [`under`](Restore::under), with the image where the stack says that it
+    /// stands, whatever the restore's first address is.
+    pub(crate) fn on_stack<T>(
+        &self,
+        stack: Stack,
+        machine: u64,
+        profile: impl FnOnce(&Section, u64) -> Result<(), Refusal>,
+        then: impl FnOnce(&Shared) -> Result<T, Refusal>,
+    ) -> Result<T, Refusal> {
         let settings = self.store.read(self.edition)?;
         let section = read(self.section)?;
         profile(&section, machine)?;
@@ -115,19 +128,23 @@ impl Restore<'_> {
             machine: allowed(&settings, section.version, machine)?,
             most_pointers: settings.largest_count as usize,
             section: &section,
-            first: self.first,
+            stack,
             table: [self.old_starts, self.new_starts],
         })
     }
 }
 
 /// Every section and machine passes.
-fn no_profile(_: &Section, _: u64) -> Result<(), Refusal> {
+pub(crate) fn no_profile(_: &Section, _: u64) -> Result<(), Refusal> {
     Ok(())
 }
 
 /// The machine, or refusal 33 where the edition doesn't allow it or the version.
-fn allowed(settings: &Settings, version: Version, machine: u64) -> Result<Machine, Refusal> {
+pub(crate) fn allowed(
+    settings: &Settings,
+    version: Version,
+    machine: u64,
+) -> Result<Machine, Refusal> {
     let version = match version {
         Version::One => settings.version_1,
         Version::Three => settings.version_3,

@@ -15,6 +15,7 @@ mod tests_version_1;
 
 use crate::index::check_index;
 use crate::machine::Machine;
+use crate::pieces::Stack;
 use crate::relocate::{Frame, Plan, Shared, MAX_POINTERS, REGISTERS};
 use crate::section::read;
 use crate::Refusal;
@@ -48,7 +49,7 @@ pub fn thread(
         machine: Machine::of_number(machine)?,
         most_pointers: MAX_POINTERS,
         section: &section,
-        first,
+        stack: Stack::Whole(first),
         table: [old_starts, new_starts],
     };
     shared.move_all(image, list, registers, None)
@@ -77,7 +78,7 @@ pub fn thread_by_index(
         machine: Machine::of_number(machine)?,
         most_pointers: MAX_POINTERS,
         section: &section,
-        first,
+        stack: Stack::Whole(first),
         table: [old_starts, new_starts],
     };
     shared.move_all(image, list, registers, Some(index))
@@ -97,25 +98,38 @@ impl Shared<'_> {
         if let Some(index) = index {
             check_index(self.section, index)?;
         }
-        let (frames, odd) = list.as_chunks::<2>();
-        let fits = odd.is_empty() && frames.len() <= MAX_FRAMES;
-        if !fits || registers.len() != REGISTERS * frames.len() {
-            return Err(Refusal::at(25, 0));
-        }
-        let (lists, _) = registers.as_chunks_mut::<REGISTERS>();
-        let mut plans = Vec::new();
-        for (position, (&[address, function], own)) in frames.iter().zip(&*lists).enumerate() {
-            let plan = self.judge(image, Frame { address, function }, own);
-            plans.push(plan.map_err(|refusal| Refusal::at(refusal.number, position))?);
-        }
-        if let Some(position) = first_overlap(&plans) {
-            return Err(Refusal::at(26, position));
-        }
-        for (plan, own) in plans.iter().zip(lists) {
-            plan.write(image, own);
-        }
-        Ok(plans.iter().map(|plan| plan.pointers).sum())
+        move_frames(image, list, registers, |image, frame, own| {
+            self.judge(image, frame, own)
+        })
     }
+}
+
+/// Relocates the frames of a list, each as it is judged by itself: 25, the
+/// frames' own, 26.
+pub(crate) fn move_frames(
+    image: &mut [u8],
+    list: &[u64],
+    registers: &mut [u64],
+    judge: impl Fn(&[u8], Frame, &[u64; REGISTERS]) -> Result<Plan, Refusal>,
+) -> Result<u64, Refusal> {
+    let (frames, odd) = list.as_chunks::<2>();
+    let fits = odd.is_empty() && frames.len() <= MAX_FRAMES;
+    if !fits || registers.len() != REGISTERS * frames.len() {
+        return Err(Refusal::at(25, 0));
+    }
+    let (lists, _) = registers.as_chunks_mut::<REGISTERS>();
+    let mut plans = Vec::new();
+    for (position, (&[address, function], own)) in frames.iter().zip(&*lists).enumerate() {
+        let plan = judge(image, Frame { address, function }, own);
+        plans.push(plan.map_err(|refusal| Refusal::at(refusal.number, position))?);
+    }
+    if let Some(position) = first_overlap(&plans) {
+        return Err(Refusal::at(26, position));
+    }
+    for (plan, own) in plans.iter().zip(lists) {
+        plan.write(image, own);
+    }
+    Ok(plans.iter().map(|plan| plan.pointers).sum())
 }
 
 /// The first frame whose extent shares a byte with an earlier one's.

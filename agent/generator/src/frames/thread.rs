@@ -94,7 +94,7 @@ impl Thread {
     }
 
     /// Whether the lengths of the two lists are right.
-    fn fits(&self) -> bool {
+    pub(super) fn fits(&self) -> bool {
         let (numbers, registers) = (self.list().len(), self.registers().len());
         let frames = numbers / 2;
         numbers.is_multiple_of(2) && frames <= MOST_FRAMES && registers == REGISTERS * frames
@@ -126,7 +126,7 @@ impl Thread {
 
     /// The position of the first frame that has a byte which an earlier one has. All frames are inside
     /// the image, whose bytes are marked one by one.
-    fn first_shared(&self) -> Option<usize> {
+    pub(super) fn first_shared(&self) -> Option<usize> {
         let mut taken = vec![false; self.scene.image.len()];
         self.order.iter().position(|stop| {
             let start = self.scene.start(*stop) as usize;
