@@ -19,11 +19,15 @@ use Rattle.relocate.specs.Limits.{registerCount}
 use Rattle.relocate.specs.Restore.{Restore}
 use Rattle.relocate.specs.Stopped.{Stopped}
 use Rattle.relocate.specs.Plan.{imageRight}
-use Rattle.linked.specs.Linked.{Map}
+use Rattle.linked.specs.Linked.{Map, cut, askMaps}
 use Rattle.linked.specs.Find.{MapEntry, allWithAddress}
 use Rattle.thread.specs.Thread.{Thread, framesMost, frameNumbers, stoppedAt, apart}
 use Rattle.thread.specs.Code.{Gathered, hitsAt, Sited}
 use Rattle.linked_moves.specs.Thread.{recordsOver, allowedNew, answerOver, movedOver, movedRegistersOver, extentOver, judgedOver, pointersOver, finalOver, finalRegistersOver, threadOver, threadImageOver, threadRegistersOver}
+
+-- the maps of a section, none where it is refused
+unfoldable pub mapsIn : List ℕ → List Map
+mapsIn s = askMaps (λ n p. []) (λ ms. ms) (cut s)
 
 -- Of each record that is found first, its map: two numbers a place, the map's first byte and its length.
 abbrev pub siteNumbers : ℕ
