@@ -1,0 +1,4 @@
+pub mod Agree
+pub mod Prefix
+pub mod Cutting
+pub mod Laws
