@@ -69,7 +69,7 @@ module _ (a : ℕ) {s : List ℕ} {c next left remaining number p : ℕ} {h : Hi
 
 -- What a walk tells, said of the check of the section.
 
-front-parts : (s : List ℕ) → sectionCheck s ≡ bind (frontCheck s) (λ p. must (eqb p (length s)) 9 p (Valid p))
+pub front-parts : (s : List ℕ) → sectionCheck s ≡ bind (frontCheck s) (λ p. must (eqb p (length s)) 9 p (Valid p))
 unfolding frontCheck allRecords walkCheck
 front-parts s = section-parts s ∙ go (chain (headerCheck s) (tablesCheck s)) _ _
   where

@@ -1,19 +1,21 @@
 -- The records of many addresses, noted one by one.
 use Prim.Native.Nat.{ℕ, _+_, _*_, _≤_, _<_}
-use mathlib.Core.Path.{_≡_, sym, ap, _∙_}
+use mathlib.Core.Path.{_≡_, refl, sym, ap, _∙_}
 use mathlib.Core.List.{List}
 use native.Mathlib.Omega.{arith}
 use native.Mathlib.Decide.{decLt}
-use borrow.Author.Tests.{ne-eqb}
+use borrow.Author.Tests.{eq-eqb, ne-eqb}
 use lib.ListN.{length, getD, set, length-set}
 use lib.Seq.{getD-set-same, getD-set-other}
 use Rattle.stackmap.specs.Section.{Entry, address}
+use Rattle.stackmap.specs.Walk.{entryAt}
 use Rattle.questions.specs.declared.Hits.{Hits}
-use Rattle.questions.specs.Kept.{noted}
-use Rattle.questions.proofs.Kept.{passed}
+use Rattle.questions.specs.Kept.{noHits, noted}
+use Rattle.questions.proofs.Kept.{passed, fresh, fresh-at}
 use Rattle.sorted.specs.Sorted.{LowerBound}
 use Rattle.sorted.proofs.Laws.{lower-bound-one}
 use Rattle.thread.specs.Code.{hitsAt, Stored, Holding, Counted, notedAll}
+use Rattle.thread_marks.specs.From.{hitBy, entryFrom, Grown}
 
 -- Four stores write one place.
 
@@ -101,19 +103,53 @@ module _ (keys : List ℕ) (n : ℕ) (e : Entry) (i : ℕ) (b : LowerBound keys 
             (λ q. let z = lower-bound-one (rw q at c) b in none (rw z at m) (rw z at q)));
       }
 
+-- what is found of an entry is said by its numbers
+pub hit-noted : (e : Entry) (i f p : ℕ) (h : Hits) → e .number ≡ i → e .owner .number ≡ f → e .first ≡ p → noted (address e) e h ≡ hitBy i f p h
+unfolding noted
+hit-noted e i f p h a b d = rw (eq-eqb (address e) (address e) refl, a, b, d)
+
+-- where x was found there, and y is stored
+pub hit-stored : {before after : List ℕ} {i : ℕ} (e : Entry) (n f p : ℕ) (x y : Hits) → x ≡ hitsAt before i → y ≡ hitBy n f p x → e .number ≡ n → e .owner .number ≡ f → e .first ≡ p
+    → Stored before after i y → Stored before after i (noted (address e) e (hitsAt before i))
+hit-stored e n f p x y q r a b d t = rw (← q, hit-noted e n f p x a b d, ← r) t
+
+pub owner-is : (s : List ℕ) (index function at : ℕ) → entryAt s index function at .owner .number ≡ function
+owner-is s index function at =
+    let e = entryAt s index function at in
+    let q = eq-eqb (address e) (address e) refl in
+    ap (λ (h : Hits). h .function) (sym (fresh (address e) e noHits q refl) ∙ fresh-at (address e) s index function at noHits q refl)
+
+-- the first byte is counted from elsewhere, and the address is the same
+pub address-from : (base : ℕ) (e : Entry) → address (entryFrom base e) ≡ address e
+unfolding address
+address-from base e = refl
+
 pub counted-more : (hits : List ℕ) (m n : ℕ) → m ≤ n → Counted hits m → Counted hits n
 counted-more hits m n l c = record { most = λ i. omega (arith, c .most i) }
 
-pub counted-stored : (before after : List ℕ) (i m : ℕ) (h : Hits) → Stored before after i h → h .sharing ≤ m + 1 → Counted before m → Counted after (m + 1)
-counted-stored before after i m h t l c = record { most = λ j. go j (decLt j i) (decLt i j) }
-  where
-    other : (j : ℕ) → (j ≡ i → ⊥) → hitsAt after j .sharing ≤ m + 1
-    other j d = let q = ap (λ (x : Hits). x .sharing) (t .others j d) in omega (arith, c .most j)
+pub counted-grown : {before after : List ℕ} (k m n : ℕ) → m + k ≤ n → Grown before after k → Counted before m → Counted after n
+counted-grown k m n l g c = record { most = λ i. omega (arith, g .each i, c .most i) }
 
-    go : (j : ℕ) → Dec (j < i) → Dec (i < j) → hitsAt after j .sharing ≤ m + 1
+pub grown-none : (hits : List ℕ) (k : ℕ) → Grown hits hits k
+grown-none hits k = record { each = λ i. omega arith }
+
+pub grown-more : {a b : List ℕ} (k n : ℕ) → k ≤ n → Grown a b k → Grown a b n
+grown-more k n l g = record { each = λ i. omega (arith, g .each i) }
+
+pub grown-on : {a b d : List ℕ} (k m n : ℕ) → k + m ≤ n → Grown a b k → Grown b d m → Grown a d n
+grown-on k m n l g h = record { each = λ i. omega (arith, g .each i, h .each i) }
+
+pub grown-stored : (before after : List ℕ) (i : ℕ) (x h : Hits) → x ≡ hitsAt before i → Stored before after i h → h .sharing ≤ x .sharing + 1 → Grown before after 1
+grown-stored before after i x h e t l = record { each = λ j. go j (decLt j i) (decLt i j) }
+  where
+    other : (j : ℕ) → (j ≡ i → ⊥) → hitsAt after j .sharing ≤ hitsAt before j .sharing + 1
+    other j d = let q = ap (λ (x : Hits). x .sharing) (t .others j d) in omega arith
+
+    go : (j : ℕ) → Dec (j < i) → Dec (i < j) → hitsAt after j .sharing ≤ hitsAt before j .sharing + 1
     go j (yes d) f = other j (λ q. omega arith)
     go j (no d) (yes f) = other j (λ q. omega arith)
     go j (no d) (no f) =
         let z : j ≡ i = omega arith in
         let q = ap (λ (x : Hits). x .sharing) (t .here) in
+        let p = ap (λ (x : Hits). x .sharing) e in
         rw z (omega arith)

@@ -4,7 +4,8 @@ use mathlib.Core.Path.{_≡_, refl, sym, ap, _∙_}
 use mathlib.Core.Bool.{Bool, true, false, cond}
 use mathlib.Core.List.{List, [], _∷_}
 use native.Mathlib.Omega.{arith}
-use native.Mathlib.Decide.{decLt}
+use native.Mathlib.Decide.{decLt, ℕ-discrete}
+use native.Mathlib.Nat.{zero-add}
 use borrow.Author.Tests.{eq-eqb, ne-eqb, leb-true}
 use lib.ListN.{length, getD, drop}
 use lib.Dec.{eqb}
@@ -12,22 +13,24 @@ use Rattle.wire.specs.Word.{Bytes, word}
 use Rattle.wire.proofs.Laws.{word-bound, word-drop}
 use Rattle.stackmap.specs.declared.Verdict.{Verdict}
 use Rattle.stackmap.specs.declared.Verdict.the-variants.{Valid, Refused}
-use Rattle.stackmap.specs.Verdict.{must, chain, bind, shift}
+use Rattle.stackmap.specs.Verdict.{chain, bind, shift}
 use Rattle.stackmap.specs.Section.{numConstants, numRecords, isOld, recordsAt, readFunctions, recordOwners, Entry, address, readRecord, entries}
 use Rattle.stackmap.specs.Record.{recordCheck}
-use Rattle.stackmap.specs.Check.{headerCheck, tablesCheck, recordsCheck, walkCheck, sectionCheck}
+use Rattle.stackmap.specs.Check.{headerCheck, tablesCheck, recordsCheck, sectionCheck}
 use Rattle.stackmap.specs.Walk.{ownerAt, entryAt}
 use Rattle.stackmap.proofs.Verdicts.{never, must-held, chain-rest, shift-valid}
 use Rattle.stackmap.proofs.Addresses.{same-test, owner-zero}
 use Rattle.stackmap.proofs.OneWalk.{fold}
-use Rattle.stackmap.proofs.Within.{section-parts}
 use Rattle.questions.specs.declared.Hits.{Hits}
 use Rattle.questions.specs.declared.Found.{Found}
 use Rattle.questions.specs.Questions.{withAddress, notFound, firstOf}
 use Rattle.sorted.specs.Sorted.{Sorted, LowerBound, EntryOf}
 use Rattle.questions.specs.Kept.{noHits, noted}
 use Rattle.questions.proofs.Kept.{hitsAnswer, hits-answer}
-use Rattle.thread.specs.Code.{hitsAt, Holding, notedAll, foundBy, Sought}
+use Rattle.questions_find.specs.Scan.{allRecords, frontCheck}
+use Rattle.questions_find.proofs.Ends.{front-parts, Fronted, front-whole, front-after}
+use Rattle.thread.specs.Code.{hitsAt, Holding, foundBy, Sought}
+use Rattle.thread_marks.specs.From.{notedOne, NotedAll}
 
 -- a valid record's address fits: refusal 8, and in version 1 it is an offset of 32 bits
 pub address-fits : (s : List ℕ) (c number function p q : ℕ) → Bytes s → shift p (recordCheck (isOld s) (drop p s) c (ownerAt s function .function .address)) ≡ Valid q
@@ -42,9 +45,10 @@ address-fits s c number function p q w v =
 
 -- The whole walk.
 
-fold-all : (es : List Entry) (h : ℕ → Hits) (a : ℕ) → fold notedAll es h a ≡ fold (noted a) es (h a)
-fold-all [] h a = refl
-fold-all (e ∷ es) h a = fold-all es (notedAll e h) a
+-- counted from the section's own first byte
+fold-own : (es : List Entry) (a : ℕ) (h : Hits) → fold (notedOne 0 a) es h ≡ fold (noted a) es h
+fold-own [] a h = refl
+fold-own (e ∷ es) a h = rw (zero-add (e .first)) (fold-own es a (noted a e h))
 
 answer-is : (h : Hits) → foundBy h ≡ hitsAnswer (eqb (h .sharing) 0) h
 unfolding foundBy
@@ -54,14 +58,13 @@ answer-is h = go (eqb (h .sharing) 0)
     go true = refl
     go false = refl
 
-pub sought : (s keys : List ℕ) (n : ℕ) (hits : List ℕ) (h : ℕ → Hits) → fold notedAll (entries s) (λ a. noHits) ≡ h → Holding keys n hits h → Sought s keys n hits
-sought s keys n hits h e r =
+pub sought : (s keys : List ℕ) (n : ℕ) (before hits : List ℕ) → Holding keys n before (λ a. noHits) → NotedAll keys n before hits 0 (entries s) → Sought s keys n hits
+sought s keys n before hits e r =
     record {
       at =
           λ i l b.
           let a = getD keys i 0 in
-          let k : hitsAt hits i ≡ fold (noted a) (entries s) noHits =
-          r .at i l b ∙ ap (λ (g : ℕ → Hits). g a) (sym e) ∙ fold-all (entries s) (λ x. noHits) a in
+          let k : hitsAt hits i ≡ fold (noted a) (entries s) noHits = r .at i l b ∙ fold-own (entries s) a (hitsAt before i) ∙ ap (fold (noted a) (entries s)) (e .at i l b) in
           rw k (answer-is (fold (noted a) (entries s) noHits) ∙ hits-answer a (entries s));
     }
 
@@ -94,30 +97,37 @@ pub found-0 : (g h : Hits) → g ≡ h → (g .sharing ≡ 0 → ⊥) → hitsAn
 unfolding foundBy
 found-0 g h e z = rw (← e, ne-eqb (g .sharing) 0 z)
 
--- The walk's verdict, where c is the number of constants.
+-- The walk's verdict, and the section's.
 
 pub never-valid : {n p e : ℕ} {A : Type 0} → _≡_ {A = Verdict} (Refused n p) (Valid e) → A
 never-valid h = never h
 
-module _ (s : List ℕ) (c : ℕ) (e : c ≡ numConstants s) where
-  pub walk-refused : (n q : ℕ) → recordsCheck (isOld s) (recordOwners (isOld s) (numRecords s) (readFunctions s)) s c (recordsAt s) ≡ Refused n q → Refused n q ≡ walkCheck s
-  unfolding walkCheck bind
-  walk-refused n q h = rw (rw e at h)
+-- where c is the number of constants
+pub all-are : (s : List ℕ) (c : ℕ) → c ≡ numConstants s → (v : Verdict)
+    → recordsCheck (isOld s) (recordOwners (isOld s) (numRecords s) (readFunctions s)) s c (recordsAt s) ≡ v → v ≡ allRecords s
+unfolding allRecords
+all-are s c e v h = sym (rw e at h)
 
-  pub walk-after : (p : ℕ) → recordsCheck (isOld s) (recordOwners (isOld s) (numRecords s) (readFunctions s)) s c (recordsAt s) ≡ Valid p → (p ≡ length s → ⊥) → Refused 9 p ≡ walkCheck s
-  unfolding walkCheck bind must
-  walk-after p h n = rw (rw e at h, ne-eqb _ _ n)
+module _ (s : List ℕ) where
+  pub front-stop : (n p : ℕ) → chain (headerCheck s) (tablesCheck s) ≡ Refused n p → Refused n p ≡ frontCheck s
+  unfolding frontCheck chain
+  front-stop n p h = rw h
 
-  pub walk-whole : (p : ℕ) → recordsCheck (isOld s) (recordOwners (isOld s) (numRecords s) (readFunctions s)) s c (recordsAt s) ≡ Valid p → p ≡ length s → Valid p ≡ walkCheck s
-  unfolding walkCheck bind must
-  walk-whole p h n = rw (rw e at h, eq-eqb _ _ n)
+  pub front-on : (e : ℕ) → chain (headerCheck s) (tablesCheck s) ≡ Valid e → allRecords s ≡ frontCheck s
+  unfolding frontCheck chain
+  front-on e h = rw h
 
--- What comes before the records.
+  pub section-stop : (n p : ℕ) → frontCheck s ≡ Refused n p → Refused n p ≡ sectionCheck s
+  unfolding bind
+  section-stop n p h = sym (front-parts s ∙ rw h)
 
-pub section-stop : (s : List ℕ) (n p : ℕ) → chain (headerCheck s) (tablesCheck s) ≡ Refused n p → Refused n p ≡ sectionCheck s
-unfolding chain
-section-stop s n p h = rw (section-parts, h)
+  -- 9 where bytes follow the last record
+  pub section-end : (p : ℕ) (v : Verdict) → frontCheck s ≡ Valid p → (p ≡ length s → v ≡ Valid p) → ((p ≡ length s → ⊥) → v ≡ Refused 9 p) → v ≡ sectionCheck s
+  section-end p v h whole after = go (ℕ-discrete p (length s))
+    where
+      f : Fronted s 0 p (fold (noted 0) (entries s) noHits)
+      f = record { front = h; kept = refl }
 
-pub section-on : (s : List ℕ) (e : ℕ) → chain (headerCheck s) (tablesCheck s) ≡ Valid e → walkCheck s ≡ sectionCheck s
-unfolding chain
-section-on s e h = rw (section-parts, h)
+      go : Dec (p ≡ length s) → v ≡ sectionCheck s
+      go (yes q) = whole q ∙ ap Valid q ∙ sym (front-whole f q)
+      go (no q) = after q ∙ sym (front-after f q)

@@ -2,19 +2,21 @@
 // first stands for all.
 // No entry point: it requires addresses in order, as `addresses::gather` leaves them.
 ghost use mathlib.Core.Path.{_≡_};
-ghost use Prim.Native.Nat.{ℕ, _≤_};
+ghost use Prim.Native.Nat.{ℕ, _+_, _^_, _≤_, _<_};
 ghost use mathlib.Core.List.{List};
 ghost use lib.ListN.{length};
 ghost use Rattle.stackmap.specs.declared.Verdict.the-variants.{Valid};
 ghost use Rattle.stackmap.specs.Section.{recordsAt, entries};
-ghost use Rattle.stackmap.specs.Check.{walkCheck, sectionCheck, Accepted};
+ghost use Rattle.stackmap.specs.Check.{sectionCheck, Accepted};
 ghost use Rattle.stackmap.specs.Walk.{Walkable};
 ghost use Rattle.questions.specs.Kept.{noHits};
 ghost use Rattle.questions.specs.Questions.{withAddress, firstOf};
+ghost use Rattle.questions_find.specs.Scan.{allRecords, frontCheck};
 ghost use Rattle.sorted.specs.Sorted.{Sorted, EntryOf};
 ghost use Rattle.relocate.specs.Plan.{recordsOf};
 ghost use Rattle.thread.specs.Thread.{framesMost};
 ghost use Rattle.thread.specs.Code.{Holding, Counted, Sought};
+ghost use Rattle.thread_marks.specs.From.{countedMost, Scans};
 use questions::Found;
 use questions_find::find;
 use relocate::Frame;
@@ -28,17 +30,18 @@ use thread::FRAMES_MOST;
 
 pub const HITS_LENGTH: usize = thread_marks::HITS_LENGTH;
 
-// The walk from the first record's byte: all records, with what the search keeps; then 9.
+// The walk from the first record's byte: all records, with what the search keeps, and where the last one ends.
 fn walk_all(
     s: &[u8],
     at: usize,
     keys: &[u64; FRAMES_MOST],
     count: usize,
     hits: &mut [usize; HITS_LENGTH],
+    base: usize,
 ) -> Verdict
     requires { ⌜ Walkable (now s) × (at ≡ recordsAt (now s)) × (at ≤ length (now s)) × (count ≤ framesMost) × Sorted (now keys) count
-        × Holding (now keys) count (now hits) (λ a. noHits) × Counted (now hits) 0 ⌝ }
-    ensures { λ r. ⌜ (r ≡ walkCheck (now (s .entry))) × ((e : ℕ) → r ≡ Valid e → Sought (now (s .entry)) (now (keys .entry)) count (now (hits .exit))) ⌝ }
+        × Counted (now hits) countedMost × (base + length (now s) < 2 ^ 64) ⌝ }
+    ensures { λ r. ⌜ (r ≡ allRecords (now (s .entry))) × Scans (now (keys .entry)) count (now (hits .entry)) (now (hits .exit)) base (entries (now (s .entry))) r ⌝ }
 {
     let constants = wire::u32_at(s, layout::NUM_CONSTANTS_AT);
     let total = wire::u32_at(s, layout::NUM_RECORDS_AT);
@@ -65,7 +68,7 @@ fn walk_all(
         let ahead = stop.remaining;
         let here = stop.at;
         if ahead == 0 {
-            return thread_pass::ended(s, here);
+            return Verdict::Valid(here);
         }
         let next = stop.next;
         let left = stop.left;
@@ -74,7 +77,18 @@ fn walk_all(
             Verdict::Valid(end) => {
                 let start = walk::owner_address(s, old, next - 1);
                 let index = (total - ahead) as usize;
-                gap = thread_marks::mark(s, start, index, next - 1, here, keys, count, hits, gap);
+                gap = thread_marks::mark(
+                    s,
+                    start,
+                    index,
+                    next - 1,
+                    here,
+                    keys,
+                    count,
+                    hits,
+                    gap,
+                    base,
+                );
                 p = end;
             }
         }
@@ -84,7 +98,25 @@ fn walk_all(
         };
         remaining = ahead - 1;
     }
-    thread_pass::ended(s, p)
+    Verdict::Valid(p)
+}
+
+// A section that other bytes may follow, `base` bytes into a longer one: its refusal, or where its last record ends, and what it has of the
+// addresses is noted beside what was found before.
+pub fn scan_all(
+    s: &[u8],
+    keys: &[u64; FRAMES_MOST],
+    count: usize,
+    hits: &mut [usize; HITS_LENGTH],
+    base: usize,
+) -> Verdict
+    requires { ⌜ (count ≤ framesMost) × Sorted (now keys) count × Counted (now hits) countedMost × (base + length (now s) < 2 ^ 64) ⌝ }
+    ensures { λ r. ⌜ (r ≡ frontCheck (now (s .entry))) × Scans (now (keys .entry)) count (now (hits .entry)) (now (hits .exit)) base (entries (now (s .entry))) r ⌝ }
+{
+    match tables::begin(s) {
+        Verdict::Refused(n, p) => Verdict::Refused(n, p),
+        Verdict::Valid(at) => walk_all(s, at, keys, count, hits, base),
+    }
 }
 
 // The check of the section, and what it has of the addresses.
@@ -97,9 +129,9 @@ pub fn find_all(
     requires { ⌜ (count ≤ framesMost) × Sorted (now keys) count × Holding (now keys) count (now hits) (λ a. noHits) × Counted (now hits) 0 ⌝ }
     ensures { λ r. ⌜ (r ≡ sectionCheck (now (s .entry))) × ((e : ℕ) → r ≡ Valid e → Sought (now (s .entry)) (now (keys .entry)) count (now (hits .exit))) ⌝ }
 {
-    match tables::begin(s) {
+    match scan_all(s, keys, count, hits, 0) {
         Verdict::Refused(n, p) => Verdict::Refused(n, p),
-        Verdict::Valid(at) => walk_all(s, at, keys, count, hits),
+        Verdict::Valid(end) => thread_pass::ended(s, end),
     }
 }
 

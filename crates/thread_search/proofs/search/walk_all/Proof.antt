@@ -4,27 +4,26 @@ use mathlib.Core.Path.{_≡_, sym, _∙_}
 use native.Mathlib.Omega.{arith}
 use Rattle.wire.specs.Word.{Bytes}
 use Rattle.stackmap.specs.Walk.{entryAt}
-use Rattle.stackmap.proofs.Turns.{walk-stop}
+use Rattle.stackmap.proofs.Turns.{walk-stop, walk-end}
 use Rattle.stackmap.proofs.OneWalk.{fold-start, fold-on}
 use Rattle.stackmap.proofs.Within.{here-inside}
-use Rattle.questions.specs.Kept.{noHits}
 use Rattle.sorted_numbers.specs.Numbers.{Between}
 use Rattle.sorted_numbers.proofs.Gaps.{between-start}
-use Rattle.thread.specs.Code.{Counted, notedAll}
-use Rattle.thread_marks.proofs.Marks.{counted-more}
-use Rattle.thread_search.proofs.Walked.{address-fits, walk-refused, never-valid}
-use Rattle.thread_search.proofs.Passing.{Keeping, stop-kept, ended-all}
+use Rattle.thread_marks.specs.From.{notedFrom, Grown}
+use Rattle.thread_marks.proofs.Marks.{counted-grown, grown-none, grown-more, grown-on}
+use Rattle.thread_search.proofs.Walked.{address-fits, all-are, never-valid}
+use Rattle.thread_search.proofs.Passing.{found, found-holds, Keeping, stop-kept, all-noted}
 use borrow.Author.Needs.{needs}
 use Rattle.thread_search.proofs.search.walk_all.Statement.{statement}
 use Rattle.thread_search.proofs.search.walk_all.Tie as tie
 
 abbrev Inv-loop : tie.InvT-loop
-Inv-loop s at keys count hits₀ constants total old remaining₀ turn₀ p₀ gap₀ hits remaining turn p gap =
-    Keeping keys hits count s constants (λ a. noHits) (turn .next) (turn .left) remaining (total - remaining) p × Counted hits (total - remaining)
+Inv-loop s at keys count hits₀ base constants total old remaining₀ turn₀ p₀ gap₀ hits remaining turn p gap =
+    Keeping keys hits count s constants base (found keys count hits₀) (turn .next) (turn .left) remaining (total - remaining) p × Grown hits₀ hits (total - remaining)
     × (remaining ≤ total) × (total < 2 ^ 32) × Between keys count (gap .below) (gap .above) (gap .place)
 
 abbrev μ-loop : tie.MeasureT-loop
-μ-loop s at keys count hits₀ constants total old remaining₀ turn₀ p₀ gap₀ hits remaining turn p gap = remaining
+μ-loop s at keys count hits₀ base constants total old remaining₀ turn₀ p₀ gap₀ hits remaining turn p gap = remaining
 
 u32-at-requires : tie.Need-u32-at-requires Inv-loop μ-loop
 u32-at-requires c κs = let w = c .before .pre .0 .inside in omega arith
@@ -43,8 +42,8 @@ loop-holds c =
     let q = c .before .before .before .before .before in
     let n = c .before .before .u32-at2 in
     let z : n .result - n .result ≡ 0 = omega arith in (
-      rw z (record { kept = λ a. noHits; folding = fold-start notedAll (λ a. noHits) (q .pre .0) (c .start .ensures) (q .pre .1) (q .pre .2) (n .ensures); holding = q .pre .5 }),
-      rw z (q .pre .6),
+      rw z (record { kept = found (q .args .keys .now) (q .args .count) (q .args .hits .now); folding = fold-start (notedFrom (q .args .base)) _ (q .pre .0) (c .start .ensures) (q .pre .1) (q .pre .2) (n .ensures); holding = found-holds (q .args .keys .now) (q .args .count) (q .args .hits .now) (q .pre .4) }),
+      grown-none _ _,
       omega arith,
       omega arith,
       between-start _ _,
@@ -53,15 +52,14 @@ loop-holds c =
 between-requires : tie.Need-between-requires Inv-loop μ-loop
 between-requires c κs = (c .before .before .before .is-old .ensures, c .before .before .before .before .before .before .before .pre .0 .inside, c .before .loop .inv .0 .folding .walking)
 
-ended-requires : tie.Need-ended-requires Inv-loop μ-loop
-ended-requires c κs = search needs
-
 returns : tie.Need-returns Inv-loop μ-loop
 returns c =
-    let l = c .before .before .before .before .loop in
-    let e = c .ended .ensures in
-    let t = c .before .before .between .ensures .0 in
-    ended-all (c .ended .result) (c .before .before .before .before .before .before .before .before .u32-at .ensures) (stop-kept (l .inv .4) _ t (l .inv .2) (l .inv .0)) (c .before .if1 .taken) (e .0) (e .1)
+    let l = c .before .before .before .loop in
+    let q = c .before .before .before .before .before .before .before .before .before in
+    let k = stop-kept (l .inv .4) _ (c .before .between .ensures .0) (l .inv .2) (l .inv .0) in (
+      all-are _ _ (c .before .before .before .before .before .before .before .u32-at .ensures) _ (walk-end (k .folding .walking) (c .if1 .taken)),
+      record { noted-all = λ e h. all-noted (q .pre .4) k (c .if1 .taken); grown = grown-more _ _ (omega (arith, l .inv .3)) (l .inv .1) },
+    )
 
 sub-verdict : tie.Need-sub-verdict Inv-loop μ-loop
 sub-verdict c = let b = c .before .between .ensures .0 .owned (omega arith) .begun in omega arith
@@ -86,7 +84,7 @@ returns-2 c =
     let v = sym (c .before .before .before .verdict .ensures) ∙ c .before .n .given .1 in
     let n = c .before .before .before .before .before .before .before .before .before .before .before .u32-at .ensures in
     let w = walk-stop (s .result .next) (s .result .left) (k .folding .walking) (t .same) (t .owned (omega arith) .some) v in
-    (walk-refused _ _ n _ _ w, λ e z. never-valid z)
+    (all-are _ _ n _ w, record { noted-all = λ e z. never-valid z; grown = grown-more _ _ (omega (arith, l .inv .3)) (l .inv .1) })
 
 enum-known-end : tie.Need-enum-known-end Inv-loop μ-loop
 enum-known-end c = search needs
@@ -122,10 +120,10 @@ mark-requires c κs =
     let v = sym (c .before .before .before .before .before .verdict .ensures) ∙ c .before .before .before .end .given .1 in
     let i = here-inside _ _ _ _ _ _ (k .folding .walking .inside) v in
     let b : Bytes (q .args .s .now) = record { below = λ j. omega (arith, c .before .before .before .before .before .before .before .before .before .before .before .before .before .before .shared-slice-known .given j) } in
-    (c .before .owner-address .ensures, i, omega (arith, l .inv .3), address-fits (q .args .s .now) _ _ _ _ _ b v, q .pre .3, q .pre .4, counted-more _ _ _ (omega (arith, n, l .inv .2)) (l .inv .1), l .inv .4)
+    (c .before .owner-address .ensures, i, q .pre .6, address-fits (q .args .s .now) _ _ _ _ _ b v, q .pre .3, q .pre .4, counted-grown _ _ _ (omega (arith, l .inv .3)) (l .inv .1) (q .pre .5), l .inv .4)
 
-sub-t29 : tie.Need-sub-t29 Inv-loop μ-loop
-sub-t29 c = let b = c .before .before .before .before .before .before .before .before .between .ensures .0 .owned (omega arith) .some in omega arith
+sub-t30 : tie.Need-sub-t30 Inv-loop μ-loop
+sub-t30 c = let b = c .before .before .before .before .before .before .before .before .between .ensures .0 .owned (omega arith) .some in omega arith
 
 sub-remaining : tie.Need-sub-remaining Inv-loop μ-loop
 sub-remaining c = search needs
@@ -143,22 +141,22 @@ loop-again c =
     let all = c .before .before .before .before .before .before .before .before .before .before .before .before .before .u32-at2 .result in
     let v = sym (c .before .before .before .before .before .before .verdict .ensures) ∙ c .before .before .before .before .end .given .1 in
     let k = stop-kept (l .inv .4) all t (l .inv .2) (l .inv .0) in
-    let f = fold-on notedAll (s .result .next) (s .result .left) (k .folding) (t .same) (o .some) (o .begun) (o .most) (omega arith) v in
+    let f = fold-on (notedFrom _) (s .result .next) (s .result .left) (k .folding) (t .same) (o .some) (o .begun) (o .most) (omega arith) v in
     let z : all - (s .result .remaining - 1) ≡ all - s .result .remaining + 1 = omega (arith, n, l .inv .2) in (
       rw z (record { kept = _; folding = f; holding = c .mark .ensures .0 (k .kept) (k .holding) }),
-      rw z (c .mark .ensures .1),
+      rw z (grown-on _ 1 _ (omega (arith, n)) (l .inv .1) (c .mark .ensures .1)),
       omega (arith, n, l .inv .2),
       l .inv .3,
       c .mark .ensures .2,
     )
 
-ended-requires-2 : tie.Need-ended-requires-2 Inv-loop μ-loop
-ended-requires-2 c κs = search needs
-
 returns-3 : tie.Need-returns-3 Inv-loop μ-loop
 returns-3 c =
-    let e = c .ended2 .ensures in
-    ended-all (c .ended2 .result) (c .before .before .before .before .before .before .u32-at .ensures) (c .before .before .loop .inv .0) (omega arith) (e .0) (e .1)
+    let l = c .before .loop in
+    let q = c .before .before .before .before .before .before .before in (
+      all-are _ _ (c .before .before .before .before .before .u32-at .ensures) _ (walk-end (l .inv .0 .folding .walking) (omega arith)),
+      record { noted-all = λ e h. all-noted (q .pre .4) (l .inv .0) (omega arith); grown = grown-more _ _ (omega (arith, l .inv .3)) (l .inv .1) },
+    )
 
 pub walk-all-spec : {M : Type 1} → statement M
 walk-all-spec =
@@ -172,7 +170,6 @@ walk-all-spec =
     start-requires
     loop-holds
     between-requires
-    ended-requires
     returns
     sub-verdict
     verdict-requires
@@ -185,9 +182,8 @@ walk-all-spec =
     cast-index
     sub-mark
     mark-requires
-    sub-t29
+    sub-t30
     sub-remaining
     loop-less
     loop-again
-    ended-requires-2
     returns-3)

@@ -1,0 +1,3 @@
+pub mod Thread
+pub mod Laws
+pub mod Code
