@@ -4,8 +4,11 @@
 use super::*;
 use crate::layout::Version;
 
-/// The answer of the second implementation, and the buffer and the registers after it.
-fn moved(thread: &Thread, split: &Split) -> (Result<u64, (u64, u64)>, Vec<u8>, Vec<u64>) {
+/// An answer, and the buffer and the registers after it.
+type Outcome = (Result<u64, (u64, u64)>, Vec<u8>, Vec<u64>);
+
+/// The second implementation's outcome.
+fn moved(thread: &Thread, split: &Split) -> Outcome {
     let scene = &thread.scene;
     let (mut buffer, mut registers) = (split.buffer(&scene.image), thread.registers());
     let answer = reference::split::thread(
