@@ -1,29 +1,12 @@
-//! The library's calls on linked sections, as plain numbers. This is the one place that names them. Lists that
-//! are too short can only be lent to the call as C has it.
+//! The library's calls on linked sections, as plain numbers. This is the one place that names them.
 
-use treskibben::linked;
+use treskibben::{linked, Refusal};
 
 /// Number and place of a refusal.
 pub type Refused = (u64, u64);
 
-fn refused(refusal: treskibben::Refusal) -> Refused {
+fn refused(refusal: Refusal) -> Refused {
     (refusal.number(), refusal.place())
-}
-
-#[repr(C)]
-struct Answer {
-    number: u64,
-    place: u64,
-    value: u64,
-}
-
-extern "C" {
-    fn treskibben_linked_maps(
-        section: *const u8,
-        length: usize,
-        list: *mut u64,
-        list_length: usize,
-    ) -> Answer;
 }
 
 /// The first byte and the length of each map.
@@ -40,9 +23,8 @@ pub fn find(section: &[u8], address: u64) -> Result<[u64; 4], Refused> {
 
 /// Number, place and value of the call that writes the maps to a list.
 pub fn fill(section: &[u8], list: &mut [u64]) -> [u64; 3] {
-    let (to, room) = (list.as_mut_ptr(), list.len());
-    // SAFETY: each pointer and length are those of one slice, borrowed for the whole call, the list's alone for
-    // writing; the declaration is that of `treskibben.h`.
-    let answer = unsafe { treskibben_linked_maps(section.as_ptr(), section.len(), to, room) };
-    [answer.number, answer.place, answer.value]
+    match linked::maps_into(section, list) {
+        Ok(count) => [0, 0, count as u64],
+        Err(refusal) => [refusal.number(), refusal.place(), 0],
+    }
 }
