@@ -2,7 +2,7 @@
 // stands at `at`, and a pair is given by its base's location number j; the first pair's is `start`. `old` is true for version 1.
 // No entry point: it requires a statepoint that stands there.
 ghost use mathlib.Core.Path.{_≡_};
-ghost use mathlib.Core.Bool.{not, _||_};
+ghost use mathlib.Core.Bool.{true, not, _||_};
 ghost use Prim.Native.Nat.{_+_, _≤_, _<_};
 ghost use lib.Dec.{eqb};
 ghost use lib.ListN.{drop};
@@ -76,6 +76,36 @@ fn pointers_of(old: bool, s: &[u8], at: usize, j: usize) -> usize
     slots::pointers_in(old, base.size)
 }
 
+// Whether a pair has the right form, and how many pointers it is then.
+pub struct Form {
+    pub pointers: usize,
+    pub right: bool,
+}
+
+// A quick look first: it answers for nearly every pair of version 3.
+fn form_of(machine: Machine, old: bool, s: &[u8], at: usize, j: usize) -> Form
+    requires { ⌜ RecordInside (now s) at × (j + 1 < numLocations (drop at (now s))) ⌝ }
+    ensures { λ r. ⌜ (r .right ≡ rightForm machine old (poolOf (now (s .entry))) (pairFrom (recordOf (now (s .entry)) at) j))
+        × (r .right ≡ true → r .pointers ≡ countOf old (poolOf (now (s .entry))) (pairFrom (recordOf (now (s .entry)) at) j)) × (r .pointers ≤ 8192) ⌝ }
+{
+    if relocate_glance::plain(machine, s, at, j) {
+        return Form {
+            pointers: 1,
+            right: true,
+        };
+    }
+    if right_form(machine, old, s, at, j) {
+        return Form {
+            pointers: pointers_of(old, s, at, j),
+            right: true,
+        };
+    }
+    Form {
+        pointers: 0,
+        right: false,
+    }
+}
+
 // The lowest pair of wrong form, or how many pairs there are; and how many pointers the pairs before it are.
 pub struct Forms {
     pub wrong: usize,
@@ -97,9 +127,9 @@ pub fn check_forms(
     let mut pointers: usize = 0;
     let mut p: usize = 0;
     while p < count {
-        let j = start + 2 * p;
-        if right_form(machine, old, s, at, j) {
-            pointers += pointers_of(old, s, at, j);
+        let found = form_of(machine, old, s, at, start + 2 * p);
+        if found.right {
+            pointers += found.pointers;
         } else {
             return Forms { wrong: p, pointers };
         }

@@ -21,33 +21,29 @@ abbrev μ-loop : tie.MeasureT-loop
 loop-holds : tie.Need-loop-holds Inv-loop μ-loop
 loop-holds c = (look-start _ _ _, count-start _ _)
 
-mul-j : tie.Need-mul-j Inv-loop μ-loop
-mul-j c = omega (arith, pair-inside (c .before .before .before .pre) (c .before .loop .p) (omega arith))
+mul-form-of : tie.Need-mul-form-of Inv-loop μ-loop
+mul-form-of c = omega (arith, pair-inside (c .before .before .before .pre) (c .before .loop .p) (omega arith))
 
-add-j : tie.Need-add-j Inv-loop μ-loop
-add-j c = omega (arith, pair-inside (c .before .before .before .pre) (c .before .loop .p) (omega arith))
+add-form-of : tie.Need-add-form-of Inv-loop μ-loop
+add-form-of c = omega (arith, pair-inside (c .before .before .before .pre) (c .before .loop .p) (omega arith))
 
-right-form-requires : tie.Need-right-form-requires Inv-loop μ-loop
-right-form-requires c κs =
+form-of-requires : tie.Need-form-of-requires Inv-loop μ-loop
+form-of-requires c κs =
     let s = c .before .before .before in
-    (s .pre .stands, omega (arith, s .pre .room))
-
-pointers-of-requires : tie.Need-pointers-of-requires Inv-loop μ-loop
-pointers-of-requires c κs =
-    let s = c .before .before .before .before .before in
     (s .pre .stands, omega (arith, s .pre .room))
 
 add-pointers : tie.Need-add-pointers Inv-loop μ-loop
 add-pointers c =
-    let l = c .before .before .before .before in
+    let f = c .before .before in
+    let l = f .before .before in
     let s = l .before .before in
     let w : Bytes (s .args .s .now) = record { below = λ i. omega (arith, l .before .shared-slice-known .given i) } in
-    omega (arith, c .pointers-of .ensures .1, l .loop .inv .1 .few, s .pre .room, locations-most (s .args .s .now) (s .args .at) w)
+    omega (arith, f .form-of .ensures .2, l .loop .inv .1 .few, s .pre .room, locations-most (s .args .s .now) (s .args .at) w)
 
 returns : tie.Need-returns Inv-loop μ-loop
 returns c =
     let l = c .before .before .before in
-    (look-hit (l .loop .inv .0) (l .before .before .pre .starts) (omega arith) (sym (c .before .right-form .ensures) ∙ c .if1 .left), λ h. absurd (omega arith))
+    (look-hit (l .loop .inv .0) (l .before .before .pre .starts) (omega arith) (sym (c .before .form-of .ensures .0) ∙ c .if1 .left), λ h. absurd (omega arith))
 
 add-p : tie.Need-add-p Inv-loop μ-loop
 add-p c = search needs
@@ -57,11 +53,14 @@ loop-less c = search needs
 
 loop-again : tie.Need-loop-again Inv-loop μ-loop
 loop-again c =
-    let l = c .before .before .before .before in
+    let f = c .before .before in
+    let l = f .before .before in
     let s = l .before .before in
-    let e = pair-from (recordOf (s .args .s .now) (s .args .at)) (s .args .start) (l .loop .p) (s .pre .starts) in (
-      look-on (l .loop .inv .0) (s .pre .starts) (omega arith) (sym (c .before .before .right-form .ensures) ∙ c .before .if1 .taken),
-      count-on _ _ _ _ _ (l .loop .inv .1) (omega (arith, s .pre .counted)) (c .pointers-of .ensures .0 ∙ ap (countOf (s .args .old) (poolOf (s .args .s .now))) e) (c .pointers-of .ensures .1),
+    let e = pair-from (recordOf (s .args .s .now) (s .args .at)) (s .args .start) (l .loop .p) (s .pre .starts) in
+    let right = c .before .if1 .taken in
+    let k = f .form-of .ensures in (
+      look-on (l .loop .inv .0) (s .pre .starts) (omega arith) (sym (k .0) ∙ right),
+      count-on _ _ _ _ _ (l .loop .inv .1) (omega (arith, s .pre .counted)) (k .1 right ∙ ap (countOf (s .args .old) (poolOf (s .args .s .now))) e) (k .2),
     )
 
 returns-2 : tie.Need-returns-2 Inv-loop μ-loop
@@ -76,10 +75,9 @@ check-forms-spec =
     Inv-loop
     μ-loop
     loop-holds
-    mul-j
-    add-j
-    right-form-requires
-    pointers-of-requires
+    mul-form-of
+    add-form-of
+    form-of-requires
     add-pointers
     returns
     add-p
