@@ -16,6 +16,8 @@ use Rattle.restores.proofs.Editions
 use Rattle.thread.proofs.OneInstant
 use Rattle.controller.proofs.Laws as controlled
 use Rattle.report.proofs.Reports
+use Rattle.linked.proofs.Whole
+use Rattle.linked.proofs.Found
 use Rattle.replay.proofs.Bound as Traces
 use Rattle.replay.proofs.Laws as Replays
 use Rattle.replay.proofs.Written
@@ -45,6 +47,11 @@ promises =
       controller = controlled.controller-laws;
       index-ordered = Ordered.index-ordered;
       index-answers = Same.index-answers;
+      linked-one-map = Found.one-map;
+      linked-each-accepted = Whole.each-accepted;
+      linked-joined = Whole.joined-whole;
+      linked-bound = Whole.bound-suffices;
+      linked-each-map = Found.each-map;
       report-sums = Reports.sums;
       report-stops = Reports.report-stops;
       report-order-free = Reports.order-free;

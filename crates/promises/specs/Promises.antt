@@ -15,6 +15,7 @@ use Rattle.thread.specs.Theorems.{OneInstant}
 use Rattle.replay.specs.Laws.{BrokenFirst, TraceBound, TraceBack, ReplaysRecorded, ReplaysApart}
 use Rattle.controller.specs.Laws.{ControllerLaws}
 use Rattle.report.specs.Laws as Report
+use Rattle.linked.specs.Laws as Linked
 use Rattle.promises.specs.Worked.{WorkedTable}
 
 pub record Promises : Type 0 where
@@ -44,6 +45,13 @@ pub record Promises : Type 0 where
   -- an address index is the one order of a section's rows, and with it a lookup gives what the plain walk gives
   pub index-ordered : IndexOrdered
   pub index-answers : IndexAnswers
+  -- a linked section is one map, as the base has it, or maps that are accepted each by itself and are its bytes one after the other; the question by
+  -- address over all maps is put together from their own answers
+  pub linked-one-map : Linked.OneMap
+  pub linked-each-accepted : Linked.EachAccepted
+  pub linked-joined : Linked.Joined
+  pub linked-bound : Linked.BoundSuffices
+  pub linked-each-map : Linked.EachMap
   -- a report's totals are sums, or 34 at the first section that passes; order doesn't count, and halves add up
   pub report-sums : Report.Sums
   pub report-stops : Report.Stops
