@@ -3,6 +3,8 @@ use Rattle.stackmap.proofs.WellFormed
 use Rattle.stackmap.proofs.Numbers
 use Rattle.index.proofs.Ordered
 use Rattle.index.proofs.Same
+use Rattle.linked.proofs.Whole
+use Rattle.linked.proofs.Found
 use Rattle.listing.proofs.Bound
 use Rattle.listing.proofs.RoundTrip
 use Rattle.relocate.proofs.Demand
@@ -49,9 +51,9 @@ promises =
       index-answers = Same.index-answers;
       linked-one-map = Found.one-map;
       linked-each-accepted = Whole.each-accepted;
-      linked-joined = Whole.joined-whole;
-      linked-bound = Whole.bound-suffices;
       linked-each-map = Found.each-map;
+      linked-joined = Whole.joined-whole;
+      linked-bound-suffices = Whole.bound-suffices;
       report-sums = Reports.sums;
       report-stops = Reports.report-stops;
       report-order-free = Reports.order-free;

@@ -1,6 +1,7 @@
 -- All that is shown of the definitions, in the order of the demands.
 use Rattle.stackmap.specs.Laws.{OneToOne, BuiltRefusal, AcceptedIsZero, SignedOffsets}
 use Rattle.index.specs.Laws.{IndexOrdered, IndexAnswers}
+use Rattle.linked.specs.Laws as Linked
 use Rattle.listing.specs.Bound.{BoundSuffices}
 use Rattle.listing.specs.RoundTrip.{ListingOneToOne, RoundTrips, OutputKept}
 use Rattle.relocate.specs.Lists.{Demand3, OrderFree}
@@ -45,13 +46,13 @@ pub record Promises : Type 0 where
   -- an address index is the one order of a section's rows, and with it a lookup gives what the plain walk gives
   pub index-ordered : IndexOrdered
   pub index-answers : IndexAnswers
-  -- a linked section is one map, as the base has it, or maps that are accepted each by itself and are its bytes one after the other; the question by
-  -- address over all maps is put together from their own answers
+  -- a linked section: one map is the section itself, each map is accepted, joined they are the section and are cut again; the question by
+  -- address is what the maps answer
   pub linked-one-map : Linked.OneMap
   pub linked-each-accepted : Linked.EachAccepted
-  pub linked-joined : Linked.Joined
-  pub linked-bound : Linked.BoundSuffices
   pub linked-each-map : Linked.EachMap
+  pub linked-joined : Linked.Joined
+  pub linked-bound-suffices : Linked.BoundSuffices
   -- a report's totals are sums, or 34 at the first section that passes; order doesn't count, and halves add up
   pub report-sums : Report.Sums
   pub report-stops : Report.Stops

@@ -34,7 +34,7 @@ returns : tie.Need-returns
 returns c =
     let t = sym (c .before .before .before .count .given .1) ∙ c .before .before .before .before .before .before .count-maps .ensures .0 in
     let r = c .refused2 .ensures in
-    answers (rw (r .0, r .1, r .2) (maps-short _ _ _ t (c .before .if1 .taken)))
+    answers (rw (r .0, r .1, r .2) (maps-short _ _ _ t (omega arith)))
 
 slice-aggregate-put-maps : tie.Need-slice-aggregate-put-maps
 slice-aggregate-put-maps c = search needs
