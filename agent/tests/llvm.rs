@@ -23,6 +23,7 @@ use compare::compare;
 use planned::{Seen, Sort, Target};
 use reference::section::{self, Section};
 use sections::{Built, LEVELS, REGISTERS, TARGETS};
+use treskibben::{linked, Index};
 
 /// The section as the second implementation reads it; it must accept it.
 fn read(name: &str, bytes: &[u8]) -> Section {
@@ -246,6 +247,45 @@ fn two_linked_maps_are_refused_at_the_second_header() {
             same_but_for_addresses(&two.name, after, &second.bytes);
         }
     }
+}
+
+/// Both maps are had by one call, and each record is found over both where the first map has it that does.
+#[test]
+fn two_linked_maps_are_cut_and_searched() {
+    let mut asked = 0;
+    for target in TARGETS {
+        for level in LEVELS {
+            let two = sections::named("two", target, level);
+            let first = sections::named("constants", target, level).bytes.len();
+            let (before, after) = two.bytes.split_at(first);
+            let maps = [before, after];
+            assert_eq!(linked::cut(&two.bytes), Ok(maps.to_vec()), "{}", two.name);
+            let indexes = maps.map(|map| Index::of(map).expect("a map of version 3"));
+            let entries = indexes.iter().flat_map(|index| index.entries().chunks(2));
+            for address in entries.map(|entry| entry[0]) {
+                let alone = maps.map(|map| treskibben::find(map, address).ok());
+                let map = usize::from(alone[0].is_none());
+                let own = alone[map].expect("the map's own record");
+                let sharing = alone.iter().flatten().map(|found| found.sharing).sum();
+                let expected = linked::Found {
+                    map: map as u64,
+                    record: own.record,
+                    function: own.function,
+                    sharing,
+                };
+                assert_eq!(
+                    linked::find(&two.bytes, address),
+                    Ok(expected),
+                    "{}",
+                    two.name
+                );
+                asked += 1;
+            }
+            let none = linked::find(&two.bytes, 1).map_err(|refusal| refusal.number());
+            assert_eq!(none, Err(10), "{}", two.name);
+        }
+    }
+    assert!(asked > 20, "{asked} addresses");
 }
 
 /// The second map is the one of its object alone, but that the linker moved the functions.

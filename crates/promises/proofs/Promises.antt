@@ -18,8 +18,6 @@ use Rattle.restores.proofs.Editions
 use Rattle.thread.proofs.OneInstant
 use Rattle.controller.proofs.Laws as controlled
 use Rattle.report.proofs.Reports
-use Rattle.linked.proofs.Whole
-use Rattle.linked.proofs.Found
 use Rattle.replay.proofs.Bound as Traces
 use Rattle.replay.proofs.Laws as Replays
 use Rattle.replay.proofs.Written

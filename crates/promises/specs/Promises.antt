@@ -16,7 +16,6 @@ use Rattle.thread.specs.Theorems.{OneInstant}
 use Rattle.replay.specs.Laws.{BrokenFirst, TraceBound, TraceBack, ReplaysRecorded, ReplaysApart}
 use Rattle.controller.specs.Laws.{ControllerLaws}
 use Rattle.report.specs.Laws as Report
-use Rattle.linked.specs.Laws as Linked
 use Rattle.promises.specs.Worked.{WorkedTable}
 
 pub record Promises : Type 0 where

@@ -197,7 +197,7 @@ fn a_full_disk_under_standard_output_is_a_fault() {
 #[test]
 fn standard_error_may_be_closed_or_full() {
     let folder = Folder::new();
-    folder.put("bad", row_h().repeat(2));
+    folder.put("bad", [row_h(), vec![0]].concat());
     for line in ["$0 check bad 2>&-", "$0 check bad 2>/dev/full"] {
         assert_eq!(shell(&folder, line).status, Some(1), "{line}");
     }

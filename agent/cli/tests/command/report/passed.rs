@@ -93,7 +93,11 @@ fn the_number_of_threads_does_not_count() {
         let folder = Folder::new();
         std::fs::create_dir(folder.at("m")).unwrap();
         for (nth, part) in report.parts.iter().enumerate() {
-            folder.put(&format!("m/{nth:04}"), &part.bytes);
+            // What is refused by 9 alone may be several maps, which count each: no bytes are refused as well.
+            let is_refused = part.adds.is_some_and(|adds| adds[1] == 1);
+            let several = is_refused && treskibben::linked::maps(&part.bytes).is_ok();
+            let bytes: &[u8] = if several { &[] } else { &part.bytes };
+            folder.put(&format!("m/{nth:04}"), bytes);
         }
         let one = folder.run(["report", "m", "--refused", "--threads", "1"]);
         let known = report.answer().expect("known");
