@@ -138,12 +138,12 @@ fn move_frame(
     if site.number != 0 {
         return;
     }
-    let from = site.from;
-    let to = site.to;
+    let begin = site.from;
+    let end = site.to;
     let frame = list::frame_at(machine, frames, k);
     let p = REGISTERS * k;
     map::relocate(
-        &s[from..to],
+        &s[begin..end],
         site.found,
         image,
         &mut registers[p..p + REGISTERS],
