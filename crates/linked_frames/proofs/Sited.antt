@@ -18,11 +18,11 @@ use Rattle.linked_frames.specs.declared.Site.{Site}
 use Rattle.linked_frames.specs.Sites.{Here, SiteBy, SiteOf}
 
 -- the only record over all maps is the only one of its own map, which is one of them
-record Own (a : ℕ) (ms : List Map) (x : MapEntry) : Type 0 where
-  member : List·Memᴰ (x .map) ms
-  only : withAddress a (entries (x .map .content)) ≡ x .entry ∷ []
+pub record Own (a : ℕ) (ms : List Map) (x : MapEntry) : Type 0 where
+  pub member : List·Memᴰ (x .map) ms
+  pub only : withAddress a (entries (x .map .content)) ≡ x .entry ∷ []
 
-own-map : (a i : ℕ) (ms : List Map) (x : MapEntry) → allWithAddress a i ms ≡ x ∷ [] → Own a ms x
+pub own-map : (a i : ℕ) (ms : List Map) (x : MapEntry) → allWithAddress a i ms ≡ x ∷ [] → Own a ms x
 unfolding allWithAddress ofMap
 own-map a i [] x h = absurd (let z : _≡_ {A = ℕ} 0 1 = ap (λ (l : List MapEntry). length l) h in omega arith)
 own-map a i (m ∷ ms) x h = go (own-map a (suc i) ms x) (withAddress a (entries (m .content))) refl h
