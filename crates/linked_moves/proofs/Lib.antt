@@ -1,1 +1,2 @@
 pub mod OneMap
+pub mod Judged

@@ -1,12 +1,10 @@
 -- On a section that is one map the call is the thread's call; and a refused call changes nothing.
 use Prim.Native.Nat.{ℕ, zero, suc, _+_, _/_, _≤_, _<_}
-use mathlib.Core.Path.{_≡_, refl, sym, ap, _∙_}
+use mathlib.Core.Path.{_≡_, refl, sym}
 use mathlib.Core.Bool.{Bool, true, false, cond}
-use mathlib.Core.Option.{Option}
-use mathlib.Core.List.{List, [], _∷_, _++_, map, flatten}
+use mathlib.Core.List.{List, [], _∷_, _++_, map}
 use native.Mathlib.Omega.{arith}
 use borrow.Author.Tests.{ne-eqb, eq-eqb}
-use lib.Dec.{eqb}
 use lib.ListN.{length}
 use Rattle.stackmap.specs.declared.Verdict.{Verdict}
 use Rattle.stackmap.specs.declared.Verdict.the-variants.{Valid, Refused}
@@ -15,22 +13,21 @@ use Rattle.stackmap.specs.Section.{Entry, isOld, entries}
 use Rattle.stackmap.specs.Check.{sectionCheck, Accepted}
 use Rattle.questions.specs.Questions.{ask, sought, withAddress}
 use Rattle.moves.specs.declared.Move.{Move}
-use Rattle.moves.specs.Table.{tableRight, lookUp}
-use Rattle.moves.specs.Plan.{Plan, refuse, window, says, leaves, leavesRegisters}
+use Rattle.moves.specs.Table.{tableRight}
+use Rattle.moves.specs.Plan.{Plan, refuse}
 use Rattle.moves.specs.Settle.{refusedMove, acceptedMove}
-use Rattle.relocate.specs.declared.Machine.{Machine}
 use Rattle.relocate.specs.Restore.{Restore, allowed}
 use Rattle.relocate.specs.Stopped.{Stopped, registersRight, cursor}
 use Rattle.relocate.specs.Plan.{imageRight, recordsOf, only, stackSize, planRecord, plan}
-use Rattle.relocate.specs.Relocation.{answer, moved, movedRegisters, Extent, extentBy, extentOf}
+use Rattle.relocate.specs.Relocation.{answer, moved, movedRegisters, Extent, extentOf}
 use Rattle.relocate.specs.Lists.{final, finalRegisters}
 use Rattle.relocate.specs.Reorder.{withSection}
 use Rattle.linked.specs.Linked.{Map, mapAt, Cut, maps, refusal, cutFrom, cut}
 use Rattle.linked.specs.Find.{MapEntry, ofMap, allWithAddress, noneOld}
-use Rattle.thread.specs.Thread.{Thread, listRight, frameAt, stoppedAt, framesFrom, framesOf, passes, apart, judged, pointersIn, threadAnswer, threadImage, threadRegisters}
+use Rattle.thread.specs.Thread.{Thread, listRight, frameAt, stoppedAt, framesFrom, framesOf, apart, judged, pointersIn, threadAnswer, threadImage, threadRegisters}
 use Rattle.thread.proofs.Parts.{right-tells, own-registers}
 use Rattle.linked_moves.specs.Thread.{recordsOver, byMap, noExtent, extentOver, allowedNew, answerOver, movedOver, movedRegistersOver, finalOver, finalRegistersOver, judgedOver, pointersOver, threadOver, threadImageOver, threadRegistersOver, linkedAnswer, linkedImage, linkedRegisters}
-use Rattle.linked_moves.specs.Laws.{SameCall, OneMap, OrNone}
+use Rattle.linked_moves.specs.Laws.{OneMap, OrNone}
 
 -- a section that is accepted is one map
 cut-one : (s : List ℕ) → Accepted s → cut s ≡ maps (mapAt 0 s ∷ [])

@@ -2,7 +2,7 @@
 -- What the search over all maps leaves, and what a frame's move relies on.
 use Prim.Native.Nat.{ℕ, _+_, _*_, _≤_, _<_}
 use mathlib.Core.Path.{_≡_}
-use mathlib.Core.Bool.{Bool, true, false, cond}
+use mathlib.Core.Bool.{true, false, cond}
 use mathlib.Core.List.{List, [], _∷_, map, flatten, List·Memᴰ}
 use lib.Dec.{eqb}
 use lib.ListN.{length, getD}
@@ -23,7 +23,7 @@ use Rattle.linked.specs.Linked.{Map, cut, askMaps}
 use Rattle.linked.specs.Find.{MapEntry, allWithAddress}
 use Rattle.thread.specs.Thread.{Thread, framesMost, frameNumbers, stoppedAt, apart}
 use Rattle.thread.specs.Code.{Gathered, hitsAt, Sited}
-use Rattle.linked_moves.specs.Thread.{recordsOver, allowedNew, answerOver, movedOver, movedRegistersOver, extentOver, judgedOver, pointersOver, finalOver, finalRegistersOver, threadOver, threadImageOver, threadRegistersOver}
+use Rattle.linked_moves.specs.Thread.{recordsOver, allowedNew, movedRegistersOver, extentOver, judgedOver, pointersOver, finalOver, finalRegistersOver, threadOver, threadImageOver, threadRegistersOver}
 
 -- the maps of a section, none where it is refused
 unfoldable pub mapsIn : List ℕ → List Map
@@ -84,14 +84,9 @@ pub record SitedIn (ms : List Map) (f : Stopped) : Type 0 where
 pub record EachSitedIn (ms : List Map) (t : Thread) (count : ℕ) : Type 0 where
   pub at : (k : ℕ) → k < count → SitedIn ms (stoppedAt t k)
 
--- the image and the thread's registers after the frame at the position k is moved, or is only judged
-abbrev pub movedIfOver : Bool → Restore → List Map → List ℕ → Thread → ℕ → List ℕ
-movedIfOver true R ms im t k = movedOver R ms im (stoppedAt t k)
-movedIfOver false R ms im t k = im
-
-abbrev pub registersIfOver : Bool → Restore → List Map → List ℕ → Thread → ℕ → List ℕ
-registersIfOver true R ms im t k = splice (t .registers) (registerCount * k) registerCount (movedRegistersOver R ms im (stoppedAt t k))
-registersIfOver false R ms im t k = t .registers
+-- the thread's registers after the frame at the position k is moved
+abbrev pub registersAfter : Restore → List Map → List ℕ → Thread → ℕ → List ℕ
+registersAfter R ms im t k = splice (t .registers) (registerCount * k) registerCount (movedRegistersOver R ms im (stoppedAt t k))
 
 -- what is left to do once the list is right: the frames, then 26
 unfoldable pub framesAnswerOver : Restore → List Map → List ℕ → List Stopped → Move

@@ -44,20 +44,20 @@ module _ (s : List ℕ) (f : Stopped) (t : Sited s f) where
     unfolding recordsOf
     sited-size = rw here (sym (size-is s (f .frame .function) (f .frame .address) k w (t .entry) (t .one)))
 
--- The extents that were kept.
+-- The extents that were kept, whatever says what a frame's extent is.
 
-module _ (s : List ℕ) (ns : Thread) where
+module _ (ext : Stopped → Extent) (ns : Thread) where
   -- those of the first k frames, the last one first
   abbrev earlierOf : ℕ → List Extent
   earlierOf zero = []
-  earlierOf (suc k) = extentOf s (stoppedAt ns k) ∷ earlierOf k
+  earlierOf (suc k) = ext (stoppedAt ns k) ∷ earlierOf k
 
   module _ (n : ℕ) where
     abbrev from : ℕ → Move → Move
-    from k m = apart k (earlierOf k) (map (extentOf s) (framesFrom ns (n - k) k)) m
+    from k m = apart k (earlierOf k) (map ext (framesFrom ns (n - k) k)) m
 
     abbrev pub whole : Move → Move
-    whole m = apart 0 [] (map (extentOf s) (framesFrom ns n 0)) m
+    whole m = apart 0 [] (map ext (framesFrom ns n 0)) m
 
     -- the first k frames share no byte, and `kept` of them are not empty
     pub record Keeping (k kept : ℕ) (starts ends : List ℕ) : Type 0 where
@@ -79,8 +79,8 @@ module _ (s : List ℕ) (ns : Thread) where
 
     -- the next frame's extent
     module _ {k kept : ℕ} {starts ends : List ℕ} (g : Keeping k kept starts ends) (l : k < n) (a b : ℕ)
-        (ea : a ≡ extentOf s (stoppedAt ns k) .start) (eb : b ≡ extentOf s (stoppedAt ns k) .end) where
-      shared-is : sharesOne (extentOf s (stoppedAt ns k)) (earlierOf k) ≡ sharesAny starts ends kept a b
+        (ea : a ≡ ext (stoppedAt ns k) .start) (eb : b ≡ ext (stoppedAt ns k) .end) where
+      shared-is : sharesOne (ext (stoppedAt ns k)) (earlierOf k) ≡ sharesAny starts ends kept a b
       shared-is = sym (g .shares a b ∙ rw (ea, eb))
 
       pub keeping-stop : sharesAny starts ends kept a b ≡ true → (m : Move) → whole m ≡ cond (ltb k n) (refusedMove 26 k) m
@@ -119,8 +119,8 @@ module _ (s : List ℕ) (ns : Thread) where
     keeping-end {k} g l m = g .same m ∙ rw (frames-end ns n k l, le-ltb k n l)
 
     -- Where no two share a byte, none is refused.
-    module _ (c : AllApart (λ j. extentOf s (stoppedAt ns j) .start) (λ j. extentOf s (stoppedAt ns j) .end) n) where
-      none-earlier : (k j : ℕ) → k < n → j ≤ k → sharesOne (extentOf s (stoppedAt ns k)) (earlierOf j) ≡ false
+    module _ (c : AllApart (λ j. ext (stoppedAt ns j) .start) (λ j. ext (stoppedAt ns j) .end) n) where
+      none-earlier : (k j : ℕ) → k < n → j ≤ k → sharesOne (ext (stoppedAt ns k)) (earlierOf j) ≡ false
       none-earlier k zero l m = refl
       none-earlier k (suc j) l m = rw (c .apart k j l (omega arith) (λ z. omega arith)) (none-earlier k j l (omega arith))
 

@@ -1,5 +1,6 @@
 use native.Mathlib.Omega.{arith}
 use Rattle.thread_extents.proofs.Earlier.{none-shared}
+use Rattle.relocate.specs.Relocation.{extentOf}
 use Rattle.thread.specs.Thread.{threadOf}
 use borrow.Author.Needs.{needs}
 use Rattle.thread_extents.proofs.first_shared.Statement.{statement}
@@ -11,7 +12,7 @@ all-apart-requires c κs = search needs
 returns : tie.Need-returns
 returns c =
     let a = c .before .before .before .before .before .args in
-    (omega arith, none-shared (a .s .now) (threadOf (a .machine) (a .frames .now) (a .registers .now)) (a .count) (c .before .all-apart .ensures (c .if1 .taken)))
+    (omega arith, none-shared (extentOf (a .s .now)) (threadOf (a .machine) (a .frames .now) (a .registers .now)) (a .count) (c .before .all-apart .ensures (c .if1 .taken)))
 
 first-of-requires : tie.Need-first-of-requires
 first-of-requires c κs = search needs
