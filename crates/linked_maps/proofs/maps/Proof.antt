@@ -6,6 +6,23 @@ use borrow.Author.Needs.{needs}
 use Rattle.linked_maps.proofs.maps.Statement.{statement}
 use Rattle.linked_maps.proofs.maps.Tie as tie
 
+returns : tie.Need-returns
+returns c =
+    let t = sym (c .before .before .before .count .given .1) ∙ c .before .before .before .before .before .before .count-maps .ensures .0 in
+    let r = c .refused2 .ensures in
+    answers (rw (r .0, r .1, r .2) (maps-short _ _ _ t (omega arith)))
+
+returns-2 : tie.Need-returns-2
+returns-2 c =
+    let t = sym (c .before .before .number .given .1) ∙ c .before .before .before .before .before .count-maps .ensures .0 in
+    let r = c .refused .ensures in
+    answers (rw (r .0, r .1, r .2) (maps-refused _ _ _ _ t))
+
+returns-3 : tie.Need-returns-3
+returns-3 c =
+    let t = sym (c .before .before .before .before .before .before .before .count .given .1) ∙ c .before .before .before .before .before .before .before .before .before .before .count-maps .ensures .0 in
+    answers (maps-all _ _ _ t _ (omega arith) (c .before .before .put-maps .ensures))
+
 slice-aggregate-count-maps : tie.Need-slice-aggregate-count-maps
 slice-aggregate-count-maps c = search needs
 
@@ -30,12 +47,6 @@ mul-numbers c =
 refused-requires-2 : tie.Need-refused-requires-2
 refused-requires-2 c κs = search needs
 
-returns : tie.Need-returns
-returns c =
-    let t = sym (c .before .before .before .count .given .1) ∙ c .before .before .before .before .before .before .count-maps .ensures .0 in
-    let r = c .refused2 .ensures in
-    answers (rw (r .0, r .1, r .2) (maps-short _ _ _ t (omega arith)))
-
 slice-aggregate-put-maps : tie.Need-slice-aggregate-put-maps
 slice-aggregate-put-maps c = search needs
 
@@ -45,19 +56,8 @@ put-maps-requires c κs =
     let k = c .before .before .before .before .before .before .before .count-maps .ensures .1 in
     (t, rw (c .before .before .before .before .count .given .1) at k, omega arith)
 
-returns-2 : tie.Need-returns-2
-returns-2 c =
-    let t = sym (c .before .before .number .given .1) ∙ c .before .before .before .before .before .count-maps .ensures .0 in
-    let r = c .refused .ensures in
-    answers (rw (r .0, r .1, r .2) (maps-refused _ _ _ _ t))
-
 same-length : tie.Need-same-length
 same-length c = search needs
-
-returns-3 : tie.Need-returns-3
-returns-3 c =
-    let t = sym (c .before .before .before .before .before .before .before .count .given .1) ∙ c .before .before .before .before .before .before .before .before .before .before .count-maps .ensures .0 in
-    answers (maps-all _ _ _ t _ (omega arith) (c .before .before .put-maps .ensures))
 
 pub maps-spec : {M : Type 1} → statement M
 maps-spec =
