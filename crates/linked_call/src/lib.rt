@@ -17,6 +17,16 @@ use thread_search::addresses;
 use thread_search::list;
 use thread_search::search::HITS_LENGTH;
 
+// The verdict on a linked section: its maps' refusal, or 27 at the first byte of a map of version 1.
+pub fn check(section: &[u8]) -> Verdict
+    ensures { λ r. ⌜ r ≡ linkedCheck (now (section .entry)) ⌝ }
+{
+    let keys = [0u64; FRAMES_MOST];
+    let mut hits = [0usize; HITS_LENGTH];
+    let mut sites = [0usize; SITES_LENGTH];
+    linked_search::find_all(section, &keys, 0, &mut hits, &mut sites)
+}
+
 // Relocates the frames of a list as `thread_call::relocate_thread` does, in a section that holds several maps: 10 and 15 count over all maps, and
 // all else is as in the frame's own map. A map's refusal stands at its place in the whole; 27 is at the first byte of a map of version 1.
 // No entry point: it requires settings that the crates above have read or made.

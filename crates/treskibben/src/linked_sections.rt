@@ -2,7 +2,12 @@
 ghost use mathlib.Core.Path.{_≡_};
 ghost use Rattle.linked.specs.Linked.{mapsOf};
 ghost use Rattle.linked.specs.Find.{byAddressIn};
+ghost use Rattle.restores.specs.Restores.{request};
+ghost use Rattle.restores_thread.specs.Threads.{numberedThread};
+ghost use Rattle.restores_linked.specs.Linked.{linkedAnswerUnder, linkedImageUnder, linkedRegistersUnder};
+ghost use Rattle.treskibben_answers.specs.Answer.{moveAnswer};
 ghost use Rattle.treskibben_linked.specs.Answer.{mapsAnswer, foundAnswer};
+use editions::Store;
 use treskibben_answers::Answer;
 use treskibben_linked::LinkedAnswer;
 
@@ -23,4 +28,37 @@ pub extern "C" fn treskibben_linked_find(section: &[u8], address: u64) -> Linked
     ensures { λ r. ⌜ r ≡ foundAnswer (byAddressIn (now (section .entry)) address) ⌝ }
 {
     treskibben_linked::find_answer(linked_find::find(section, address))
+}
+
+// The move of a whole thread over a linked section under an edition, as `treskibben_edition_thread`: 10 and 15 count over all maps, and all else is as
+// in the frame's own map. After 31 come the maps' refusals, at their places in the whole, and 27 at the first byte of a map of version 1.
+#[no_mangle]
+pub extern "C" fn treskibben_edition_linked_thread(
+    store: Store,
+    edition: u64,
+    section: &[u8],
+    image: &mut [u8],
+    first: u64,
+    olds: &[u64],
+    news: &[u64],
+    machine: u64,
+    frames: &[u64],
+    registers: &mut [u64],
+) -> Answer
+    ensures { λ r. ⌜ (r ≡ moveAnswer (linkedAnswerUnder (request store edition (now (section .entry)) (now (olds .entry)) (now (news .entry)) first) (now (image .entry)) (numberedThread machine (now (frames .entry)) (now (registers .entry)))))
+        × (now (image .exit) ≡ linkedImageUnder (request store edition (now (section .entry)) (now (olds .entry)) (now (news .entry)) first) (now (image .entry)) (numberedThread machine (now (frames .entry)) (now (registers .entry))))
+        × (now (registers .exit) ≡ linkedRegistersUnder (request store edition (now (section .entry)) (now (olds .entry)) (now (news .entry)) first) (now (image .entry)) (numberedThread machine (now (frames .entry)) (now (registers .entry)))) ⌝ }
+{
+    treskibben_answers::move_answer(restores_linked::relocate_linked(
+        store,
+        edition,
+        section,
+        image,
+        first,
+        olds,
+        news,
+        machine,
+        frames,
+        registers,
+    ))
 }
