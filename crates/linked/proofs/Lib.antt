@@ -1,4 +1,5 @@
 pub mod Agree
 pub mod Prefix
+pub mod Places
 pub mod Cutting
 pub mod Laws
