@@ -49,7 +49,7 @@ unfolding bind
 bind-low (Valid e) k h w = w e
 bind-low (Refused n p) k h w = h
 
-walk-low : (old : Bool) (os : List Owner) (s : List ℕ) (c at : ℕ) → Numbered 8 (recordsCheck old os s c at)
+pub walk-low : (old : Bool) (os : List Owner) (s : List ℕ) (c at : ℕ) → Numbered 8 (recordsCheck old os s c at)
 unfolding recordsCheck
 walk-low old [] s c at = n-valid at
 walk-low old (o ∷ os) s c at = bind-low _ _ (n-shift at _ (record-low old (drop at s) c (o .function .address))) (λ e. walk-low old os s c e)
@@ -108,12 +108,12 @@ walked-check s p w h l =
     let k : recordsAt s ≤ length s = omega arith in
     rw (le-leb 16 (length s) i, le-leb (length s) 16777216 l, w .version, w .reserved .1, le-leb (constantsAt s) (length s) f, le-leb (recordsAt s) (length s) k, w .counts, w .records)
 
-header-low : (s : List ℕ) → Numbered 8 (headerCheck s)
+pub header-low : (s : List ℕ) → Numbered 8 (headerCheck s)
 unfolding headerCheck
 header-low s =
     n-must _ 0 0 _ (omega arith) (n-must _ 0 0 _ (omega arith) (n-must _ 1 0 _ (omega arith) (alike-zeros 4 s s (agree-self 4 s) 3 1 (omega arith) .low)))
 
-tables-low : (s : List ℕ) → Numbered 8 (tablesCheck s)
+pub tables-low : (s : List ℕ) → Numbered 8 (tablesCheck s)
 unfolding tablesCheck
 tables-low s = n-must _ 3 _ _ (omega arith) (n-must _ 3 _ _ (omega arith) (n-must _ 4 _ _ (omega arith) (n-valid _)))
 

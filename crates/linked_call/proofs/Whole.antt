@@ -16,7 +16,7 @@ use Rattle.linked.specs.Linked.{Map, Cut, maps, refusal, cut, askMaps}
 use Rattle.linked.specs.Find.{noneOld}
 use Rattle.linked_moves.specs.Thread.{threadOver, threadImageOver, threadRegistersOver, linkedAnswer, linkedImage, linkedRegisters}
 use Rattle.linked_moves.specs.Code.{mapsIn, ThreadsOver}
-use Rattle.linked_search.specs.Found.{linkedCheck}
+use Rattle.linked_search.specs.Check.{linkedCheck}
 use Rattle.linked_call.specs.Code.{LinkedThreads}
 
 isValid : Verdict → Bool

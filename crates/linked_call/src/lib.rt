@@ -4,7 +4,7 @@ ghost use Prim.Native.Nat.{_≤_};
 ghost use Rattle.moves.specs.Limits.{pairsMost};
 ghost use Rattle.relocate.specs.Restore.{restore};
 ghost use Rattle.thread.specs.Thread.{threadOf};
-ghost use Rattle.linked_search.specs.Found.{linkedCheck};
+ghost use Rattle.linked_search.specs.Check.{linkedCheck};
 ghost use Rattle.linked_call.specs.Code.{LinkedThreads};
 use linked_moves::SITES_LENGTH;
 use moves::Move;

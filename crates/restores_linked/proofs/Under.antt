@@ -10,7 +10,7 @@ use Rattle.moves.specs.Settle.{refusedMove}
 use Rattle.relocate.specs.declared.Machine.{Machine}
 use Rattle.relocate.specs.declared.Settings.{Settings}
 use Rattle.thread.specs.Thread.{threadOf}
-use Rattle.linked.specs.Find.{linkedCheck}
+use Rattle.linked_search.specs.Check.{linkedCheck}
 use Rattle.linked_moves.specs.Thread.{linkedAnswer, linkedImage, linkedRegisters}
 use Rattle.linked_call.specs.Code.{LinkedThreads}
 use Rattle.editions_settings.specs.declared.NamedSettings.{NamedSettings}

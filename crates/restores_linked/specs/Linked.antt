@@ -5,7 +5,7 @@ use mathlib.Core.List.{List}
 use Rattle.questions.specs.Questions.{ask}
 use Rattle.moves.specs.declared.Move.{Move}
 use Rattle.moves.specs.Settle.{refusedMove}
-use Rattle.linked.specs.Find.{linkedCheck}
+use Rattle.linked_search.specs.Check.{linkedCheck}
 use Rattle.linked_moves.specs.Thread.{linkedAnswer, linkedImage, linkedRegisters}
 use Rattle.editions_settings.specs.Under.{under}
 use Rattle.editions_settings.specs.Machine.{machineKnown}

@@ -29,8 +29,8 @@ returns c =
     let b = c .before .before .before .hits-at .ensures in
     let h = c .before .before .hit .ensures in (
       (λ e n o p x.
-      let l : LowerBound (a .keys .now) (a .count) (address e) (a .i) = rw x (s .pre .2) in
-      marked (a .keys .now) (a .count) e _ l _ _ (c .before .before .before .before .before .before .before .if1 .taken) (c .before .before .before .before .before .if2 .taken ∙ sym x)
+          let l : LowerBound (a .keys .now) (a .count) (address e) (a .i) = rw x (s .pre .2) in
+          marked (a .keys .now) (a .count) e _ l _ _ (c .before .before .before .before .before .before .before .if1 .taken) (c .before .before .before .before .before .if2 .taken ∙ sym x)
           (hit-stored e _ _ _ _ _ b (h .0) n o p (c .store .ensures))),
       grown-stored _ _ _ _ _ b (c .store .ensures) (h .1),
     )
@@ -40,8 +40,8 @@ returns-2 c =
     let s = c .before .before .before in
     let a = s .args in (
       (λ e n o p x.
-      let l : LowerBound (a .keys .now) (a .count) (address e) (a .i) = rw x (s .pre .2) in
-      unmarked (a .keys .now) (a .count) e _ l _ (λ m q. c .if2 .left (q ∙ x))),
+          let l : LowerBound (a .keys .now) (a .count) (address e) (a .i) = rw x (s .pre .2) in
+          unmarked (a .keys .now) (a .count) e _ l _ (λ m q. c .if2 .left (q ∙ x))),
       grown-none _ _,
     )
 
@@ -50,8 +50,8 @@ returns-3 c =
     let s = c .before in
     let a = s .args in (
       (λ e n o p x.
-      let l : LowerBound (a .keys .now) (a .count) (address e) (a .i) = rw x (s .pre .2) in
-      unmarked (a .keys .now) (a .count) e _ l _ (λ m q. omega (arith, c .if1 .left))),
+          let l : LowerBound (a .keys .now) (a .count) (address e) (a .i) = rw x (s .pre .2) in
+          unmarked (a .keys .now) (a .count) e _ l _ (λ m q. omega (arith, c .if1 .left))),
       grown-none _ _,
     )
 
