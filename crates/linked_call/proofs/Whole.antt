@@ -35,17 +35,6 @@ old-told (m ∷ ms) e n p h = go (old-told ms e n p) (isOld (m .content)) refl h
     go rest true q g = (sym (ap numberOf g), λ k. ap (λ (v : Verdict). refusedMove (numberOf v) (placeOf v)) g)
     go rest false q g = rest g
 
--- none is of version 1
-none-told : (ms : List Map) (e x : ℕ) → noneOld Refused ms (Valid e) ≡ Valid x → (k : Move) → noneOld refusedMove ms k ≡ k
-unfolding noneOld isValid
-none-told [] e x h k = refl
-none-told (m ∷ ms) e x h k = go (λ g. none-told ms e x g k) (isOld (m .content)) refl h
-  where
-    go : (noneOld Refused ms (Valid e) ≡ Valid x → noneOld refusedMove ms k ≡ k) → (b : Bool) → isOld (m .content) ≡ b
-        → need (not b) (Refused 27 (m .first)) (noneOld Refused ms (Valid e)) ≡ Valid x → need (not b) (refusedMove 27 (m .first)) (noneOld refusedMove ms k) ≡ k
-    go rest true q g = absurd (true≢false (sym (ap isValid g)))
-    go rest false q g = rest g
-
 module _ (R : Restore) (im : List ℕ) (t : Thread) where
   refused-by : (c : Cut) → cut (R .section) ≡ c → (n p : ℕ) → askMaps Refused (λ ms. noneOld Refused ms (Valid (length (R .section)))) c ≡ Refused n p
       → LinkedThreads R im t (refusedMove n p) im (t .registers)
