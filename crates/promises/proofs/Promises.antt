@@ -5,6 +5,8 @@ use Rattle.index.proofs.Ordered
 use Rattle.index.proofs.Same
 use Rattle.linked.proofs.Whole
 use Rattle.linked.proofs.Found
+use Rattle.linked_moves.proofs.OneMap
+use Rattle.linked_laws.proofs.ByFrames
 use Rattle.listing.proofs.Bound
 use Rattle.listing.proofs.RoundTrip
 use Rattle.relocate.proofs.Demand
@@ -52,6 +54,9 @@ promises =
       linked-each-map = Found.each-map;
       linked-joined = Whole.joined-whole;
       linked-bound-suffices = Whole.bound-suffices;
+      linked-thread-one-map = OneMap.one-map;
+      linked-thread-or-none = OneMap.or-none;
+      linked-thread-by-frames = ByFrames.frame-by-frame;
       report-sums = Reports.sums;
       report-stops = Reports.report-stops;
       report-order-free = Reports.order-free;

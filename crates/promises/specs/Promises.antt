@@ -2,6 +2,8 @@
 use Rattle.stackmap.specs.Laws.{OneToOne, BuiltRefusal, AcceptedIsZero, SignedOffsets}
 use Rattle.index.specs.Laws.{IndexOrdered, IndexAnswers}
 use Rattle.linked.specs.Laws as Linked
+use Rattle.linked_moves.specs.Laws as LinkedThread
+use Rattle.linked_laws.specs.Laws.{FrameByFrame}
 use Rattle.listing.specs.Bound.{BoundSuffices}
 use Rattle.listing.specs.RoundTrip.{ListingOneToOne, RoundTrips, OutputKept}
 use Rattle.relocate.specs.Lists.{Demand3, OrderFree}
@@ -52,6 +54,11 @@ pub record Promises : Type 0 where
   pub linked-each-map : Linked.EachMap
   pub linked-joined : Linked.Joined
   pub linked-bound-suffices : Linked.BoundSuffices
+  -- a whole thread over a linked section: on one map it is the thread's call, a refused call changes nothing, and an accepted one is the plain moves of
+  -- its frames, each by its own map, in any order
+  pub linked-thread-one-map : LinkedThread.OneMap
+  pub linked-thread-or-none : LinkedThread.OrNone
+  pub linked-thread-by-frames : FrameByFrame
   -- a report's totals are sums, or 34 at the first section that passes; order doesn't count, and halves add up
   pub report-sums : Report.Sums
   pub report-stops : Report.Stops
