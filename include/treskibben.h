@@ -279,6 +279,8 @@ treskibben_answer treskibben_find_all_by_index(const uint8_t *section, size_t le
  *
  * `section` is lent as to treskibben_check, and a list that is written as an output to a conversion: no pointer
  * may be NULL, the list must be aligned, and it shares no byte with the section.
+ *
+ * The frames of a thread are moved over a linked section by treskibben_edition_linked_thread, below.
  */
 
 /*
@@ -966,6 +968,34 @@ treskibben_answer treskibben_edition_thread_by_index(
     size_t old_count, const uint64_t *new_starts, size_t new_count, uint64_t machine,
     const uint64_t *frames, size_t frames_length, uint64_t *registers, size_t registers_length,
     const uint64_t *index, size_t index_length);
+
+/*
+ * Moves the pointers of a whole thread as treskibben_edition_thread does, over a linked section: each frame by
+ * the map that has its record, all of them or none. On a section that is one map of version 3 it is
+ * treskibben_edition_thread. The answer is the first of these that holds, in this order; a refusal leaves all of
+ * the image and all registers untouched:
+ *
+ *   number  when                                                     place
+ *   31      the store has no edition of that number                  0
+ *   1 to 8  the refusal that treskibben_linked_maps gives            as there
+ *   27      a map is of version 1                                    the first such map's first byte
+ *   33      the edition doesn't allow version 3, or is of another    0
+ *           machine, which every number but 0 and 1 is
+ *   13, 14, as of treskibben_edition_thread                          0
+ *   25
+ *   10, 12, the first frame of the list that is refused by itself,   its position
+ *   15 to   on the image as lent: 10 where no record of any map has
+ *   21      its address, 15 where several records of all maps have
+ *           it; the rest as in the map of its record
+ *   26      as of treskibben_edition_thread                          the frame's position
+ *   0       the frames are moved; `value` is the sum of their        0
+ *           pointers
+ */
+treskibben_answer treskibben_edition_linked_thread(
+    treskibben_editions store, uint64_t edition, const uint8_t *section, size_t length,
+    uint8_t *image, size_t image_length, uint64_t first, const uint64_t *old_starts,
+    size_t old_count, const uint64_t *new_starts, size_t new_count, uint64_t machine,
+    const uint64_t *frames, size_t frames_length, uint64_t *registers, size_t registers_length);
 
 /*
  * The reason of the slot that begins at this address, as treskibben_explain_address tells it. A refused frame

@@ -8,6 +8,9 @@
 //! Maps are numbered from 0 in their order, and may be of either version each. The whole has at most
 //! 16,777,216 bytes.
 //!
+//! The frames of a thread are moved over such a section by
+//! [`Edition::relocate_linked_thread`](crate::editions::Edition::relocate_linked_thread).
+//!
 //! ```
 //! use treskibben::linked;
 //! # fn main() -> Result<(), Box<dyn std::error::Error>> {

@@ -2,6 +2,7 @@
 //! answered.
 
 pub mod dealt;
+pub mod threads;
 
 use crate::layout::{Function, Record, Section, Version, HEADER};
 use crate::questions::{self, addresses};

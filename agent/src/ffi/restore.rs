@@ -44,7 +44,7 @@ type MoveFrame = unsafe extern "C" fn(
     registers_length: usize,
 ) -> Answer;
 
-/// The move of a thread, by either of the two.
+/// The move of a thread, by either of the two, or over a linked section.
 type MoveThread = unsafe extern "C" fn(
     store: Store,
     edition: u64,
@@ -119,6 +119,24 @@ extern "C" {
         registers_length: usize,
         index: *const u64,
         index_length: usize,
+    ) -> Answer;
+    fn treskibben_edition_linked_thread(
+        store: Store,
+        edition: u64,
+        section: *const u8,
+        length: usize,
+        image: *mut u8,
+        image_length: usize,
+        first: u64,
+        olds: *const u64,
+        old_count: usize,
+        news: *const u64,
+        new_count: usize,
+        machine: u64,
+        frames: *const u64,
+        frames_length: usize,
+        registers: *mut u64,
+        registers_length: usize,
     ) -> Answer;
     fn treskibben_edition_explain_address(
         store: Store,
@@ -242,27 +260,49 @@ impl Mover {
             Mover::Plain => treskibben_edition_thread,
             Mover::Controller => treskibben_controller_thread,
         };
-        // SAFETY: as in `super::thread`, and of the store as in `relocate`.
-        unsafe {
-            call(
-                restore.store.clone(),
-                restore.edition,
-                restore.section.as_ptr(),
-                restore.section.len(),
-                image.as_mut_ptr(),
-                image.len(),
-                restore.first,
-                restore.olds.as_ptr(),
-                restore.olds.len(),
-                restore.news.as_ptr(),
-                restore.news.len(),
-                restore.machine,
-                frames.as_ptr(),
-                frames.len(),
-                registers.as_mut_ptr(),
-                registers.len(),
-            )
-        }
+        move_thread(call, restore, image, frames, registers)
+    }
+}
+
+/// The move of a whole thread over a linked section.
+pub(crate) fn linked_thread(
+    restore: &Restore,
+    image: &mut [u8],
+    frames: &[u64],
+    registers: &mut [u64],
+) -> Answer {
+    let call = treskibben_edition_linked_thread;
+    move_thread(call, restore, image, frames, registers)
+}
+
+/// The move of a whole thread by one of the calls of `treskibben.h` that have these arguments.
+fn move_thread(
+    call: MoveThread,
+    restore: &Restore,
+    image: &mut [u8],
+    frames: &[u64],
+    registers: &mut [u64],
+) -> Answer {
+    // SAFETY: as in `super::thread`, and of the store as in `Mover::relocate`.
+    unsafe {
+        call(
+            restore.store.clone(),
+            restore.edition,
+            restore.section.as_ptr(),
+            restore.section.len(),
+            image.as_mut_ptr(),
+            image.len(),
+            restore.first,
+            restore.olds.as_ptr(),
+            restore.olds.len(),
+            restore.news.as_ptr(),
+            restore.news.len(),
+            restore.machine,
+            frames.as_ptr(),
+            frames.len(),
+            registers.as_mut_ptr(),
+            registers.len(),
+        )
     }
 }
 

@@ -70,6 +70,24 @@ extern "C" {
         index: *const u64,
         index_length: usize,
     ) -> Answer;
+    fn treskibben_edition_linked_thread(
+        store: Raw,
+        edition: u64,
+        section: *const u8,
+        length: usize,
+        image: *mut u8,
+        image_length: usize,
+        first: u64,
+        olds: *const u64,
+        old_count: usize,
+        news: *const u64,
+        new_count: usize,
+        machine: u64,
+        frames: *const u64,
+        frames_length: usize,
+        registers: *mut u64,
+        registers_length: usize,
+    ) -> Answer;
     fn treskibben_edition_explain_address(
         store: Raw,
         edition: u64,
@@ -241,6 +259,38 @@ pub fn thread_by_index<F>(
             registers.len(),
             index.as_ptr(),
             index.len(),
+        )
+    };
+    answer.0
+}
+
+/// The move of a thread with these frames over a linked section.
+pub fn linked_thread<F>(
+    stored: &Stored,
+    call: &Call<F>,
+    frames: &[u64],
+    image: &mut [u8],
+    registers: &mut [u64],
+) -> [u64; 3] {
+    // SAFETY: as in `thread`.
+    let answer = unsafe {
+        treskibben_edition_linked_thread(
+            stored.c(),
+            stored.edition,
+            call.section.as_ptr(),
+            call.section.len(),
+            image.as_mut_ptr(),
+            image.len(),
+            call.first,
+            call.olds.as_ptr(),
+            call.olds.len(),
+            call.news.as_ptr(),
+            call.news.len(),
+            call.machine,
+            frames.as_ptr(),
+            frames.len(),
+            registers.as_mut_ptr(),
+            registers.len(),
         )
     };
     answer.0

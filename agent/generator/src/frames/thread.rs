@@ -2,6 +2,7 @@
 
 use super::guests::{self, Lie};
 use super::{faults, plain, shuffle, Scene, Size, Table, MOST_FRAMES, MOST_POINTERS, REGISTERS};
+use crate::layout::Version;
 use crate::rng::Rng;
 
 /// A list of frames of a scene.
@@ -32,13 +33,18 @@ impl Thread {
     /// A random list: whole, with faults in some frames, with frames that share bytes with others,
     /// with a frame several times, or of a wrong length, it or its registers.
     pub fn any(rng: &mut Rng) -> Thread {
+        Thread::any_of(rng, None)
+    }
+
+    /// A random list whose section is of this version, or of either.
+    pub fn any_of(rng: &mut Rng, version: Option<Version>) -> Thread {
         let count = match rng.below(20) {
             0 => 0,
             1 => 40 + rng.below(60),
             2..=4 => 10 + rng.below(20),
             _ => 1 + rng.below(9),
         };
-        let mut scene = scene(rng, count);
+        let mut scene = scene(rng, count, version);
         let (faulty, crowded) = rng.pick(&[
             (false, false),
             (true, false),
@@ -94,7 +100,7 @@ impl Thread {
     }
 
     /// Whether the lengths of the two lists are right.
-    pub(super) fn fits(&self) -> bool {
+    pub(crate) fn fits(&self) -> bool {
         let (numbers, registers) = (self.list().len(), self.registers().len());
         let frames = numbers / 2;
         numbers.is_multiple_of(2) && frames <= MOST_FRAMES && registers == REGISTERS * frames
@@ -126,7 +132,7 @@ impl Thread {
 
     /// The position of the first frame that has a byte which an earlier one has. All frames are inside
     /// the image, whose bytes are marked one by one.
-    pub(super) fn first_shared(&self) -> Option<usize> {
+    pub(crate) fn first_shared(&self) -> Option<usize> {
         let mut taken = vec![false; self.scene.image.len()];
         self.order.iter().position(|stop| {
             let start = self.scene.start(*stop) as usize;
@@ -157,14 +163,17 @@ impl Thread {
 }
 
 /// So many frames. Many pointers take long to compare, so that few of the frames have many.
-fn scene(rng: &mut Rng, count: usize) -> Scene {
+fn scene(rng: &mut Rng, count: usize, version: Option<Version>) -> Scene {
     let table = Table::any(rng);
     let size = |_| match rng.below(6) {
         0 => Size::any(rng),
         _ => Size::few(rng),
     };
     let sizes: Vec<Size> = (0..count).map(size).collect();
-    Scene::of(rng, table, &sizes)
+    match version {
+        Some(version) => Scene::of_version(rng, version, table, &sizes),
+        None => Scene::of(rng, table, &sizes),
+    }
 }
 
 /// Adds some guests to frames of the scene; now and then only such as share no byte with their host.

@@ -6,6 +6,7 @@ use crate::frames::named::Named;
 use crate::frames::thread::Thread;
 use reference::editions::{Edition, Settings, Store};
 use reference::restore::Restore;
+use threads::LinkedThread;
 
 const CASES: u64 = 30_000;
 
@@ -177,6 +178,42 @@ fn threads_over_dealt_maps_are_answered_as_on_one_section() {
         }
     }
     for number in [0, 10, 12, 15, 16, 17, 18, 19, 20, 21, 25, 26, 27, 31, 33] {
+        assert!(numbers[number] >= 20, "{number}: {numbers:?}");
+    }
+}
+
+/// What is known of a list over a random linked section is what the second implementation answers.
+#[test]
+fn threads_over_linked_sections_are_answered_as_known() {
+    let mut rng = Rng::new(24);
+    let mut numbers = [0; 34];
+    for _ in 0..8_000 {
+        let case = LinkedThread::any(&mut rng);
+        let (thread, scene) = (&case.thread, &case.thread.scene);
+        let named = Named::any(&mut rng, scene);
+        let Some(known) = case.answer(named.settings()) else {
+            continue;
+        };
+        let store = store(&named);
+        let restore = Restore {
+            store: &store,
+            edition: named.edition,
+            section: &case.linked.bytes,
+            first: scene.first,
+            old_starts: &scene.table.olds,
+            new_starts: &scene.table.news,
+        };
+        let (mut image, mut registers) = (scene.image.clone(), thread.registers());
+        let (list, machine) = (thread.list(), scene.machine);
+        let answer =
+            reference::linked::thread(&restore, &mut image, machine, &list, &mut registers);
+        numbers[known.0 as usize] += 1;
+        let told = answer.map_or_else(|refusal| (refusal.number, refusal.place), |_| (0, 0));
+        assert_eq!(told, known);
+    }
+    for number in (1..=8).chain([
+        0, 10, 12, 13, 14, 15, 16, 17, 18, 19, 20, 21, 25, 26, 27, 31, 33,
+    ]) {
         assert!(numbers[number] >= 20, "{number}: {numbers:?}");
     }
 }
