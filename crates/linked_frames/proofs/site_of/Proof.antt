@@ -7,79 +7,58 @@ use Rattle.linked_frames.proofs.Sited.{at, sharing-is, sole, site-10, s
 use borrow.Author.Needs.{needs}
 use Rattle.linked_frames.proofs.site_of.Statement.{statement}
 use Rattle.linked_frames.proofs.site_of.Tie as tie
-use Rattle.linked_frames.proofs.site_of.Reads as reads
-use Rattle.linked_frames.proofs.site_of.Lts as lts
-use Rattle.linked_frames.proofs.nowhere.Reads as nowhere-reads
-use Rattle.sorted.proofs.lower_bound.Reads as lower-bound-reads
-use Rattle.thread_marks.proofs.hits_at.Reads as hits-at-reads
 
--- src/lib.rt:59:53
 mul-lower-bound : tie.Need-mul-lower-bound
 mul-lower-bound c = search needs
 
--- src/lib.rt:59:46
 mul-lower-bound-2 : tie.Need-mul-lower-bound-2
 mul-lower-bound-2 c = search needs
 
--- src/lib.rt:59:46
 shared-slice-read-lower-bound : tie.Need-shared-slice-read-lower-bound
 shared-slice-read-lower-bound c = search needs
 
--- src/lib.rt:59:9
 lower-bound-requires : tie.Need-lower-bound-requires
 lower-bound-requires c κs = search needs
 
--- src/lib.rt:60:9
 hits-at-requires : tie.Need-hits-at-requires
 hits-at-requires c κs = let q = c .before .before .before .before .before in omega (arith, at (q .pre .0) (q .pre .1) (c .lower-bound .ensures .1) .0, q .pre .0 .most)
 
--- src/lib.rt:62:9
 nowhere-requires : tie.Need-nowhere-requires
 nowhere-requires c κs = search needs
 
--- src/lib.rt:62:9
 returns : tie.Need-returns
 returns c =
     let q = c .before .before .before .before .before .before .before .before .before in
     let e = ap (λ (h : Hits). h .sharing) (c .before .before .before .hits-at .ensures) in
     site-10 (sym (sharing-is (q .pre .0) (q .pre .1) (c .before .before .before .before .lower-bound .ensures .1)) ∙ sym e ∙ c .before .if1 .taken) (c .nowhere .ensures)
 
--- src/lib.rt:65:9
 nowhere-requires-2 : tie.Need-nowhere-requires-2
 nowhere-requires-2 c κs = search needs
 
--- src/lib.rt:65:9
 returns-2 : tie.Need-returns-2
 returns-2 c =
     let q = c .before .before .before .before .before .before .before .before .before .before .before in
     let e = ap (λ (h : Hits). h .sharing) (c .before .before .before .before .before .hits-at .ensures) ∙ sharing-is (q .pre .0) (q .pre .1) (c .before .before .before .before .before .before .lower-bound .ensures .1) in
     site-15 (λ z. c .before .before .before .if1 .left (e ∙ z)) (λ z. c .before .if2 .taken (e ∙ z)) (c .nowhere2 .ensures)
 
--- src/lib.rt:67:13
 mul-p : tie.Need-mul-p
 mul-p c = search needs
 
--- src/lib.rt:68:16
 mul-from : tie.Need-mul-from
 mul-from c = search needs
 
--- src/lib.rt:68:16
 element-copy-out-from : tie.Need-element-copy-out-from
 element-copy-out-from c = let q = c .before .before .before .before .before .before .before .before .before .before in omega (arith, at (q .pre .0) (q .pre .1) (c .before .before .before .before .before .lower-bound .ensures .1) .0, q .pre .0 .most)
 
--- src/lib.rt:71:26
 add-t14 : tie.Need-add-t14
 add-t14 c = search needs
 
--- src/lib.rt:71:20
 mul-t15 : tie.Need-mul-t15
 mul-t15 c = search needs
 
--- src/lib.rt:71:20
 element-copy-out-t23 : tie.Need-element-copy-out-t23
 element-copy-out-t23 c = let q = c .before .before .before .before .before .before .before .before .before .before .before in omega (arith, at (q .pre .0) (q .pre .1) (c .before .before .before .before .before .before .lower-bound .ensures .1) .0, q .pre .0 .most)
 
--- src/lib.rt:71:13
 add-t24 : tie.Need-add-t24
 add-t24 c =
     let q = c .before .before .before .before .before .before .before .before .before .before .before .before in
@@ -89,7 +68,6 @@ add-t24 c =
     let n = o .first .length-is in
     omega (arith, m, n, o .standing .inside)
 
--- src/lib.rt:47:1
 returns-3 : tie.Need-returns-3
 returns-3 c =
     let q = c .before .before .before .before .before .before .before .before .before .before .before .before in

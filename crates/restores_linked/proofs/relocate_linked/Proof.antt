@@ -16,7 +16,9 @@ refused-requires c κs = search needs
 returns : tie.Need-returns
 returns c =
     let a = c .before .before .before .before .before .before .before .before .before .before .args in
-    under-31 (request (a .store) (a .edition) (a .section .now) (a .olds .now) (a .news .now) (a .first)) (a .image .now) (numberedThread (a .machine) (a .list .now) (a .registers .now)) _ (c .before .before .before .named .ensures) (c .refused .ensures) (omega arith)
+    let Q = request (a .store) (a .edition) (a .section .now) (a .olds .now) (a .news .now) (a .first) in
+    let t = numberedThread (a .machine) (a .list .now) (a .registers .now) in
+    under-31 Q (a .image .now) t _ (c .before .before .before .named .ensures) (c .refused .ensures) (omega arith)
 
 check-requires : tie.Need-check-requires
 check-requires c κs = search needs
@@ -27,7 +29,9 @@ unknown-machine-requires c κs = search needs
 returns-2 : tie.Need-returns-2
 returns-2 c =
     let a = c .before .before .before .before .before .before .before .before .before .before .before .before .args in
-    under-33 (request (a .store) (a .edition) (a .section .now) (a .olds .now) (a .news .now) (a .first)) (a .image .now) (numberedThread (a .machine) (a .list .now) (a .registers .now)) _ (c .before .before .before .before .before .named .ensures) _ (c .unknown-machine .ensures) (c .before .check .ensures) (omega arith)
+    let Q = request (a .store) (a .edition) (a .section .now) (a .olds .now) (a .news .now) (a .first) in
+    let t = numberedThread (a .machine) (a .list .now) (a .registers .now) in
+    under-33 Q (a .image .now) t _ (c .before .before .before .before .before .named .ensures) _ (c .unknown-machine .ensures) (c .before .check .ensures) (omega arith)
     (lt-leb (a .machine) 1 (omega arith))
 
 machine-of-requires : tie.Need-machine-of-requires
@@ -44,8 +48,11 @@ same-length-2 c = search needs
 
 returns-3 : tie.Need-returns-3
 returns-3 c =
-    let a = c .before .before .before .before .before .before .before .before .before .before .before .before .before .before .before .before .before .before .before .args in
-    under-moved (request (a .store) (a .edition) (a .section .now) (a .olds .now) (a .news .now) (a .first)) (a .image .now) (numberedThread (a .machine) (a .list .now) (a .registers .now)) _ (c .before .before .before .before .before .before .before .before .before .before .before .before .named .ensures) _ (c .before .before .before .before .before .before .before .before .machine-of .ensures) (omega arith) (le-leb (a .machine) 1 (omega arith))
+    let m = c .before .before .before .before .before .before .before .before in
+    let a = m .before .before .before .before .before .before .before .before .before .before .before .args in
+    let Q = request (a .store) (a .edition) (a .section .now) (a .olds .now) (a .news .now) (a .first) in
+    let t = numberedThread (a .machine) (a .list .now) (a .registers .now) in
+    under-moved Q (a .image .now) t _ (m .before .before .before .before .named .ensures) _ (m .machine-of .ensures) (omega arith) (le-leb (a .machine) 1 (omega arith))
     (c .before .before .before .before .relocate-linked .ensures)
 
 pub relocate-linked-spec : {M : Type 1} → statement M

@@ -7,17 +7,10 @@ use Rattle.linked_frames.proofs.Plain.{plain-plan, plain-refused, plain
 use borrow.Author.Needs.{needs}
 use Rattle.linked_frames.proofs.map.judge.Statement.{statement}
 use Rattle.linked_frames.proofs.map.judge.Tie as tie
-use Rattle.linked_frames.proofs.map.judge.Reads as reads
-use Rattle.linked_frames.proofs.map.judge.Lts as lts
-use Rattle.relocate_frame.proofs.cursor.Reads as cursor-reads
-use Rattle.relocate_frame.proofs.moving.refused.Reads as refused-reads
-use Rattle.relocate_judge.proofs.judge_found.Reads as judge-found-reads
 
--- src/map.rt:40:9
 cursor-requires : tie.Need-cursor-requires
 cursor-requires c κs = search needs
 
--- src/map.rt:44:9
 judge-found-requires : tie.Need-judge-found-requires
 unfolding recordsOf cursor
 judge-found-requires c κs =
@@ -26,11 +19,9 @@ judge-found-requires c κs =
     let e : q .args .found ≡ firstOf (sought (q .args .map .now) (f .function) (f .address)) = rw (c .before .before .before .cursor .ensures) (q .pre .1) in
     (q .pre .0, e, q .pre .3, q .pre .4, q .pre .5, q .pre .6)
 
--- src/map.rt:59:9
 refused-requires : tie.Need-refused-requires
 refused-requires c κs = search needs
 
--- src/map.rt:59:9
 returns : tie.Need-returns
 returns c =
     let q = c .before .before .before .before .before .before .before .before .before .before .before .before .before in
@@ -40,7 +31,6 @@ returns c =
     let p = plain-plan R (a .image .now) st (q .pre .0) (q .pre .2) (q .pre .3) (q .pre .4) (q .pre .6) (c .before .before .before .before .before .before .before .cursor .result) (c .before .before .before .before .before .before .before .cursor .ensures) in
     c .refused .ensures ∙ plain-refused R (a .image .now) st (c .before .before .before .judge-found .ensures (a .frame) (a .settings) (c .before .before .before .before .before .before .before .cursor .ensures) p) (c .before .if1 .taken)
 
--- src/map.rt:25:1
 returns-2 : tie.Need-returns-2
 returns-2 c =
     let q = c .before .before .before .before .before .before .before .before .before .before .before .before in

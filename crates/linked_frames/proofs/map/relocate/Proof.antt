@@ -8,16 +8,10 @@ use Rattle.linked_frames.proofs.Plain.{plain-plan}
 use borrow.Author.Needs.{needs}
 use Rattle.linked_frames.proofs.map.relocate.Statement.{statement}
 use Rattle.linked_frames.proofs.map.relocate.Tie as tie
-use Rattle.linked_frames.proofs.map.relocate.Reads as reads
-use Rattle.linked_frames.proofs.map.relocate.Lts as lts
-use Rattle.relocate_frame.proofs.cursor.Reads as cursor-reads
-use Rattle.relocate_frame.proofs.moving.move_found.Reads as move-found-reads
 
--- src/map.rt:84:9
 cursor-requires : tie.Need-cursor-requires
 cursor-requires c κs = search needs
 
--- src/map.rt:85:5
 move-found-requires : tie.Need-move-found-requires
 unfolding recordsOf cursor
 move-found-requires c κs =
@@ -26,15 +20,12 @@ move-found-requires c κs =
     let e : q .args .found ≡ firstOf (sought (q .args .map .now) (f .function) (f .address)) = rw (c .before .before .cursor .ensures) (q .pre .1) in
     (q .pre .0, e, q .pre .3, q .pre .4, q .pre .5, q .pre .6)
 
--- src/map.rt:69:1
 same-length : tie.Need-same-length
 same-length c = search needs
 
--- src/map.rt:69:1
 same-length-2 : tie.Need-same-length-2
 same-length-2 c = search needs
 
--- src/map.rt:69:1
 returns : tie.Need-returns
 returns c =
     let q = c .before .before .before .before .before .before .before .before .before .before .before .before .before .before in
