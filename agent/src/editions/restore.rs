@@ -241,6 +241,8 @@ impl<'a> Edition<'a> {
     /// its record, all of them or none, and gives their number, null pairs counting one each. On a section that is
     /// one map of version 3 it is [`relocate_thread`](Edition::relocate_thread).
     ///
+    /// The call needs about 336 KiB of stack, which a thread of [`std::thread`] has many times over.
+    ///
     /// # Errors
     ///
     /// The first of these that holds. A refusal leaves all of the image and all registers unchanged.

@@ -78,3 +78,36 @@ fn refused_lists_move_nothing() {
     // The third frame stands past the image.
     assert_eq!(answer(&[H, &h_2], &[0x1020, 0x2020, 0x1020], 0), (16, 2, 0));
 }
+
+/// The call needs about 336 KiB of stack, however many maps and frames there are.
+#[test]
+fn a_thread_with_little_stack() {
+    const STACK: usize = 360 * 1024;
+    const FRAMES: usize = 4_096;
+    let section = [&C.repeat(2_000), H].concat();
+    let list = [0x1020, 0].repeat(FRAMES);
+    let mut registers = vec![0; 32 * FRAMES];
+    for (nth, own) in registers.chunks_mut(32).enumerate() {
+        own[7] = 0x7000 + 24 * nth as u64;
+    }
+    let words = |words: [u64; 3]| words.map(u64::to_le_bytes).concat().repeat(FRAMES);
+    let (image, stored) = (words(ONE), Box::new(Stored::one(256, 0, [false, true])));
+    let moved = move || {
+        let (stored, frames) = (&*stored, Linked(&list));
+        let call = Call {
+            section: &section,
+            image: &image,
+            first: 0x7000,
+            olds: &[0x50000],
+            news: &[0x90000],
+            machine: 0,
+            frames: Under { stored, frames },
+            registers,
+        };
+        call.by_library()
+    };
+    let little = std::thread::Builder::new().stack_size(STACK).spawn(moved);
+    let outcome = little.expect("a thread").join().expect("no panic");
+    assert_eq!(outcome.answer(), (0, 0, 2 * FRAMES as u64));
+    assert!(outcome.image == words([7, 0x90000, 0x94e20]));
+}
