@@ -79,7 +79,7 @@ fn refused_lists_move_nothing() {
     assert_eq!(answer(&[H, &h_2], &[0x1020, 0x2020, 0x1020], 0), (16, 2, 0));
 }
 
-/// The call needs about 336 KiB of stack, however many maps and frames there are.
+/// The call needs about 336 KiB of stack, here on 2,001 maps with 4,096 frames.
 #[test]
 fn a_thread_with_little_stack() {
     const STACK: usize = 360 * 1024;
