@@ -280,8 +280,7 @@ treskibben_answer treskibben_find_all_by_index(const uint8_t *section, size_t le
  * `section` is lent as to treskibben_check, and a list that is written as an output to a conversion: no pointer
  * may be NULL, the list must be aligned, and it shares no byte with the section.
  *
- * The frames of a thread are moved over a linked section by treskibben_edition_linked_thread, below, and on a
- * stack in several pieces by treskibben_edition_split_thread.
+ * The frames of a thread are moved over a linked section by treskibben_edition_linked_thread, below.
  */
 
 /*
@@ -545,7 +544,7 @@ treskibben_answer treskibben_relocate(const uint8_t *section, size_t length, uin
  *   0       all frames are moved                                     0
  *
  * A list of no frames, with no registers, is accepted, with 0 pointers. The section is not walked again for
- * each frame. The call needs about 520 KiB of stack, treskibben_relocate about 7 KiB and
+ * each frame. The call needs about 263 KiB of stack, treskibben_relocate about 7 KiB and
  * treskibben_find_all_by_index about 33 KiB; treskibben_flat_find needs 1 MiB where frames name over 16,777,216 records in all.
  */
 treskibben_answer treskibben_thread(const uint8_t *section, size_t length, uint8_t *image,
@@ -997,33 +996,6 @@ treskibben_answer treskibben_edition_linked_thread(
     uint8_t *image, size_t image_length, uint64_t first, const uint64_t *old_starts,
     size_t old_count, const uint64_t *new_starts, size_t new_count, uint64_t machine,
     const uint64_t *frames, size_t frames_length, uint64_t *registers, size_t registers_length);
-
-/*
- * Moves the pointers of a whole thread as treskibben_edition_linked_thread does, on a stack in several pieces, as
- * a program with segmented stacks has it. The image has the bytes of all pieces, one piece after the other.
- * `pieces` has two numbers for each piece, in the order of their bytes: its first address and its size. The
- * pieces may stand in any order of addresses. Each frame is moved on the piece that its extent is inside, as if
- * that were the image, and the bytes of the other pieces are left as they are by it. With a list of one piece,
- * `first` and image_length, it is treskibben_edition_linked_thread, and it needs as much stack. `pieces` is lent
- * as the lists of starts are. The refusals and their order are those of treskibben_edition_linked_thread; two
- * of them are about the pieces:
- *
- *   number  when                                                     place
- *   13      pieces_length is odd or over 8,192 (4,096 pieces), the   0
- *           image has over 1,048,576 bytes, the sizes don't add up
- *           to image_length, a first address plus its size is over
- *           2^64 - 1, or two pieces share an address
- *   16      the stack size of the frame's function is unknown, or    its position
- *           its extent is not inside one piece: one that goes on
- *           from a piece into the next is refused, also where the
- *           two touch
- */
-treskibben_answer treskibben_edition_split_thread(
-    treskibben_editions store, uint64_t edition, const uint8_t *section, size_t length,
-    uint8_t *image, size_t image_length, const uint64_t *pieces, size_t pieces_length,
-    const uint64_t *old_starts, size_t old_count, const uint64_t *new_starts, size_t new_count,
-    uint64_t machine, const uint64_t *frames, size_t frames_length, uint64_t *registers,
-    size_t registers_length);
 
 /*
  * The reason of the slot that begins at this address, as treskibben_explain_address tells it. A refused frame

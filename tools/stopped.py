@@ -3,12 +3,12 @@
 #
 #   FOLDER/image        the bytes of the stack, from the lowest saved frame to the end of the highest
 #   FOLDER/first        the address of its first byte; gdb's $first has it too
-#   FOLDER/section      the .llvm_stackmaps of the program and its shared objects, as they are in memory, where the addresses are
-#                       those of the running program: all maps one after the other, as a linker puts those of several objects
-#   FOLDER/frames       the frames of the selected thread that stand at a record, innermost first, each with the registers
-#                       that its record names
+#   FOLDER/N.section    map number N of the program's .llvm_stackmaps, as it is in memory, where the addresses are those of the
+#                       running program; a linker puts the maps of several objects one after the other
+#   FOLDER/N.frames     the frames of the selected thread that stand at a record of that map, innermost first, each with
+#                       the registers that its record names
 #
-# It is for sections of version 3, and for x86-64.
+# Maps without such a frame are left out. It is for sections of version 3, and for x86-64.
 #
 # The command `treskibben-load FOLDER..` puts back into the process what `treskibben restore --into FOLDER` made: the image of the
 # last folder, and the registers of all. A frame's register is in memory where a frame below saved it; gdb finds it there and
@@ -59,14 +59,15 @@ def one_map(section, begin):
 
 
 def maps(section):
-    """The maps of a linked section: the records of each."""
+    """The maps of a linked section: the bytes and the records of each."""
     begin = 0
     while begin < len(section):
         try:
-            begin, records = one_map(section, begin)
+            end, records = one_map(section, begin)
         except struct.error:
             raise gdb.GdbError("the map at byte %d is cut" % begin)
-        yield records
+        yield section[begin:end], records
+        begin = end
 
 
 def memory(first, end):
@@ -112,17 +113,17 @@ class Save(gdb.Command):
             raise gdb.GdbError("usage: treskibben-save FOLDER")
         self.folder = arguments[0]
         os.makedirs(self.folder, exist_ok=True)
-        section = b"".join(sections())
-        every_map = list(maps(section))
-        named = {}
-        for records in every_map:
-            for address, own in records.items():
-                named.setdefault(address, set()).update(own)
-        saved = [frame for frame in stack() if frame[0] in named]
+        frames, saved = list(stack()), []
+        every_map = [one for section in sections() for one in maps(section)]
+        for number, (section, records) in enumerate(every_map):
+            own = [frame for frame in frames if frame[0] in records]
+            if own:
+                self.write("%d.section" % number, section)
+                lines = [line(frame, records[frame[0]]) for frame in own]
+                self.write("%d.frames" % number, "".join(lines).encode())
+                saved += own
         if not saved:
             raise gdb.GdbError("no frame of this thread stands at a record of %d maps" % len(every_map))
-        self.write("section", section)
-        self.write("frames", "".join(line(frame, named[frame[0]]) for frame in saved).encode())
         self.image(min(frame[2] for frame in saved), max(frame[3] for frame in saved))
         print("%s: %d frames, an image of %d bytes" % (self.folder, len(saved), self.length))
 

@@ -3,8 +3,8 @@
  * records that two maps share, maps of version 1, and what is refused of the whole. All frames move or none
  * does, and on one map the call is treskibben_edition_thread.
  */
-#include "maps.h"
 #include "moves.h"
+#include "rows.h"
 #include "tally.h"
 #include "treskibben.h"
 
@@ -14,6 +14,50 @@
 enum { FRAMES = 2, SLOTS = 3 * FRAMES, MOST_MAPS = 3, MOST_BYTES = 512 };
 
 #define FIRST UINT64_C(0x7000)
+#define OLD UINT64_C(0x50000)
+#define NEW UINT64_C(0x90000)
+#define DISTANCE UINT64_C(0x4e20)
+#define NO_MACHINE UINT64_C(2)
+
+static const uint8_t row_c[16] = {3};
+
+/* The editions of the store, by their numbers. The second is retired. */
+enum edition { NONE, OWN, RETIRED, ARM, ONE_POINTER, OLDER };
+
+static const treskibben_settings made[] = {
+    {256, TRESKIBBEN_AMD64, 0, 1}, {256, TRESKIBBEN_AMD64, 1, 1}, {256, TRESKIBBEN_AARCH64, 1, 1},
+    {1, TRESKIBBEN_AMD64, 1, 1}, {256, TRESKIBBEN_AMD64, 1, 0},
+};
+
+static treskibben_editions store_of_all(void)
+{
+    treskibben_editions store = TRESKIBBEN_EDITIONS_EMPTY;
+    size_t i;
+
+    for (i = 0; i < sizeof made / sizeof made[0]; i++) {
+        store = treskibben_edition_make(store, made[i]).store;
+    }
+    return treskibben_edition_retire(store, RETIRED).store;
+}
+
+/* A map: row C, or row H in version 3 at 0x1000 or 0x2000, in version 1, with a location of no kind, or with its
+ * last slot outside the extent. */
+enum map { END, C, H, H_2, H_1, BAD, OUTSIDE };
+
+static size_t add(uint8_t *section, size_t length, enum map map)
+{
+    const uint8_t *row = map == C ? row_c : map == H_1 ? row_h_1 : row_h;
+    const size_t size = map == C ? sizeof row_c : map == H_1 ? sizeof row_h_1 : sizeof row_h;
+
+    memcpy(section + length, row, size);
+    switch (map) {
+    case H_2: section[length + 17] = 0x20; break;
+    case BAD: section[length + 56] = 9; break;
+    case OUTSIDE: section[length + 136] = 17; break;
+    default: break;
+    }
+    return length + size;
+}
 
 /* All that a call is lent: row I's image, twice, for two frames. */
 struct call {

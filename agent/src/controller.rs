@@ -117,7 +117,7 @@ pub fn relocate(
 /// Moves the pointers of a whole thread as [`Edition::relocate_thread`] does, where the profile is kept, all of its
 /// frames or none, and gives their number.
 ///
-/// The call needs about 528 KiB of stack, which a thread of [`std::thread`] has many times over.
+/// The call needs about 272 KiB of stack, which a thread of [`std::thread`] has many times over.
 ///
 /// # Errors
 ///

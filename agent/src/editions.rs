@@ -35,7 +35,6 @@
 
 mod explain;
 mod file;
-mod linked;
 mod replay;
 mod restore;
 #[cfg(test)]

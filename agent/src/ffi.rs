@@ -3,7 +3,7 @@
 //! This module has all the unsafe code of the crate. The proofs of the library cover every byte
 //! slice, so a safe function here has nothing to test; it only has to hand over a true slice.
 
-use crate::{Frame, Piece, Refusal};
+use crate::{Frame, Refusal};
 use std::mem::offset_of;
 
 pub(crate) mod editions;
@@ -118,9 +118,6 @@ const _: () = {
     assert!(size_of::<Frame>() == 16 && offset_of!(Frame, address) == 0);
     assert!(offset_of!(Frame, function) == 8);
     assert!(align_of::<Frame>() == align_of::<u64>());
-    assert!(size_of::<Piece>() == 16 && offset_of!(Piece, first) == 0);
-    assert!(offset_of!(Piece, size) == 8);
-    assert!(align_of::<Piece>() == align_of::<u64>());
 };
 
 extern "C" {
@@ -337,23 +334,10 @@ pub(crate) fn thread(
     }
 }
 
-/// A struct of two numbers.
-///
-/// # Safety
-///
-/// It is two `u64` one after the other and nothing else, and is aligned as a `u64` is.
-pub(crate) unsafe trait TwoNumbers {}
-
-// SAFETY: as asserted above.
-unsafe impl TwoNumbers for Frame {}
-
-// SAFETY: as asserted above.
-unsafe impl TwoNumbers for Piece {}
-
-/// The numbers of frames or of pieces, in the order of the struct.
-pub(crate) fn numbers<T: TwoNumbers>(list: &[T]) -> &[u64] {
-    // SAFETY: a `TwoNumbers` is two `u64` one after the other and nothing else, and is aligned as a `u64` is:
-    // so the bytes of the slice are those of twice as many `u64`, in the same allocation, borrowed for as long.
-    // Their length in bytes is the slice's own.
-    unsafe { std::slice::from_raw_parts(list.as_ptr().cast(), 2 * list.len()) }
+/// The numbers of frames, in the order of the struct.
+pub(crate) fn numbers(frames: &[Frame]) -> &[u64] {
+    // SAFETY: a `Frame` is two `u64` one after the other and nothing else, as asserted above, and is
+    // aligned as a `u64` is: so the bytes of the slice are those of twice as many `u64`, in the same
+    // allocation, borrowed for as long. Their length in bytes is the slice's own.
+    unsafe { std::slice::from_raw_parts(frames.as_ptr().cast(), 2 * frames.len()) }
 }

@@ -9,8 +9,7 @@
 //! 16,777,216 bytes.
 //!
 //! The frames of a thread are moved over such a section by
-//! [`Edition::relocate_linked_thread`](crate::editions::Edition::relocate_linked_thread), and by
-//! [`Edition::relocate_split_thread`](crate::editions::Edition::relocate_split_thread) on a stack in several pieces.
+//! [`Edition::relocate_linked_thread`](crate::editions::Edition::relocate_linked_thread).
 //!
 //! ```
 //! use treskibben::linked;

@@ -28,7 +28,7 @@ const CAUSES: [&str; 41] = [
     "no record of that number or address, or no such function or offset",
     "no location or live-out of that number",
     "not a statepoint",
-    "image over 1,048,576 bytes, first address + length over 2^64 - 1, or its list of pieces is wrong",
+    "image over 1,048,576 bytes, or first address + length over 2^64 - 1",
     "lists unequal, over 65,536 entries, old starts not strictly rising, or a 0 in either",
     "more than one record at the address or offset",
     "stack size unknown, or extent not inside the image",

@@ -133,7 +133,7 @@ impl Error for ThreadRefusal {}
 /// moves the frames one by one, each with its own registers, in the order of the list or in any other. A list
 /// of no frames is accepted, with 0 pointers.
 ///
-/// The call needs about 520 KiB of stack, which a thread of [`std::thread`] has many times
+/// The call needs about 264 KiB of stack, which a thread of [`std::thread`] has many times
 /// over.
 ///
 /// # Errors

@@ -13,8 +13,6 @@ mod common;
 mod calls;
 #[path = "linked_thread/moves.rs"]
 mod moves;
-#[path = "linked_thread/stores.rs"]
-mod stores;
 #[path = "common/under.rs"]
 mod under;
 #[path = "linked_thread/worked.rs"]
@@ -23,11 +21,11 @@ mod worked;
 use calls::{Call, Outcome};
 use common::{assert_often, count_random, say};
 use generator::editions::Settings;
-use generator::frames::MOST_POINTERS;
+use generator::frames::named::Named;
+use generator::frames::{Scene, MOST_POINTERS};
 use generator::linked::threads::LinkedThread;
 use generator::Rng;
 use moves::{frame_by_frame, Linked};
-use stores::{settings, store};
 use under::stored::Stored;
 use under::Under;
 
@@ -60,6 +58,37 @@ const OTHERS: [&str; 12] = [
 
 /// How often each number was the answer; and how often each of the others was seen.
 type Counts = [u64; NUMBERS + OTHERS.len()];
+
+/// A store for the frames of a scene, now and then one whose editions are for few pointers, or a damaged one. Most
+/// editions are live and allow the frames.
+fn store(rng: &mut Rng, scene: &Scene) -> Stored {
+    let mut named = Named::any(rng, scene);
+    for _ in 0..rng.below(4) {
+        if !named.allows(scene) {
+            named = Named::any(rng, scene);
+        }
+    }
+    if rng.one_in(12) {
+        let few = rng.pick(&[1, 1, 2, 3]);
+        let live = named.live.iter_mut();
+        live.for_each(|(_, own)| own.largest_count = few);
+    }
+    match rng.one_in(12) {
+        true => Stored::damaged(rng, &named),
+        false => Stored::of(rng, &named),
+    }
+}
+
+/// The settings of the edition that is named, as the generator has them.
+fn settings(stored: &Stored) -> Option<Settings> {
+    let own = stored.settings()?;
+    Some(Settings {
+        largest_count: own.largest_count,
+        machine: own.machine,
+        version_1: own.version_1,
+        version_3: own.version_3,
+    })
+}
 
 /// The same settings with the most pointers.
 fn unlimited(own: Settings) -> Settings {

@@ -132,11 +132,11 @@ fn a_stopped_program_is_moved_by_the_lines_of_the_readme() {
     let place = Place::new("stopped");
     place.follow(&steps);
     // What is saved of the core is what was saved of the process, but for another run's addresses.
-    for file in ["section", "frames", "first", "image"] {
+    for file in ["0.section", "0.frames", "first", "image"] {
         assert!(place.0.join("saved").join(file).exists());
         assert!(place.0.join("cored").join(file).exists());
     }
-    place.says("cmp saved/section cored/section");
+    place.says("cmp saved/0.section cored/0.section");
 }
 
 /// The program of the README, linked in some way.
@@ -217,11 +217,11 @@ fn build_in_two(place: &Place, llc: &str) {
     place.says("cc -no-pie samples/stopped/main.c inner.o outer.o -o program");
 }
 
-/// Two objects, each with a map of its own, which the linker puts one after the other: both maps are saved, and the
-/// frames of both.
+/// Two objects, each with a map of its own, which the linker puts one after the other: of each map the
+/// section and its frames are saved.
 #[test]
-fn frames_of_several_maps_are_saved_together() {
-    if !gdb("frames_of_several_maps_are_saved_together") {
+fn frames_of_several_maps_are_saved_by_map() {
+    if !gdb("frames_of_several_maps_are_saved_by_map") {
         return;
     }
     let place = Place::new("maps");
@@ -229,16 +229,17 @@ fn frames_of_several_maps_are_saved_together() {
     let saved = "gdb --batch -x tools/stopped.py -ex 'break stop' -ex run -ex 'treskibben-save saved' program";
     let said = place.says(saved);
     assert!(said.contains("saved: 2 frames, an image of "), "{said}");
-    let section = fs::read(place.0.join("saved/section")).unwrap();
-    assert_eq!(treskibben::linked::maps(&section).unwrap().len(), 2);
-    let frames = fs::read_to_string(place.0.join("saved/frames")).unwrap();
-    let maps = frames.lines().map(|line| {
-        let address = line.split(' ').next().unwrap().trim_start_matches("0x");
+    for map in 0..2 {
+        let file = |kind: &str| place.0.join(format!("saved/{map}.{kind}"));
+        let section = fs::read(file("section")).unwrap();
+        assert_eq!(treskibben::check(&section), Ok(()));
+        let frames = fs::read_to_string(file("frames")).unwrap();
+        let lines: Vec<&str> = frames.lines().collect();
+        assert_eq!(lines.len(), 1, "{frames}");
+        let address = lines[0].split(' ').next().unwrap().trim_start_matches("0x");
         let address = u64::from_str_radix(address, 16).unwrap();
-        let found = treskibben::linked::find(&section, address).unwrap();
-        (found.map, found.sharing)
-    });
-    assert_eq!(maps.collect::<Vec<_>>(), [(0, 1), (1, 1)], "{frames}");
+        assert_eq!(treskibben::find(&section, address).unwrap().sharing, 1);
+    }
 }
 
 /// Whether the command itself is there, which alone can write registers; if not, says that a test is skipped.
@@ -289,8 +290,8 @@ fn a_program_with_pointers_in_registers_is_moved() {
     }
 }
 
-/// As before, with a map for each of the two frames: one restore over both maps, and all registers put back with the
-/// image.
+/// As before, with a map for each of the two frames: one restore after the other, each on the image before, and all registers
+/// put back with the last image.
 #[test]
 fn registers_of_several_maps_are_put_back_together() {
     let test = "registers_of_several_maps_are_put_back_together";
@@ -299,13 +300,29 @@ fn registers_of_several_maps_are_put_back_together() {
     }
     let place = Place::new("register-maps");
     build_in_two(&place, &in_registers(8));
-    let session = "gdb --batch -x tools/stopped.py -x samples/stopped/registers.gdb program";
-    let said = place.says(session);
-    for words in [
-        "2 frames moved, 4 pointers",
-        "saved/moved: 4 registers changed",
-        "the sum is 93",
-    ] {
-        assert!(said.contains(words), "{said}");
-    }
+    let restore = |map: u64, image: &str, more: &str| {
+        format!(
+            "shell treskibben restore --section saved/{map}.section --image {image} --into saved/moved{map} \
+             --first $(cat saved/first) --moves moves --frames saved/{map}.frames{more}\n"
+        )
+    };
+    let session = |load: &str| {
+        let first = restore(0, "saved/image", "");
+        let second = restore(1, "saved/moved0/image", " --again");
+        let begin = "break stop\nrun\ntreskibben-save saved\ncall (void)move_heap()\n";
+        let script = format!("{begin}{first}{second}treskibben-load {load}\ncontinue\n");
+        fs::write(place.0.join("session.gdb"), script).unwrap();
+        place.says("rm -rf saved; gdb --batch -x tools/stopped.py -x session.gdb program")
+    };
+    let said = session("saved/moved0 saved/moved1");
+    assert_eq!(
+        said.matches("1 frame moved, 2 pointers").count(),
+        2,
+        "{said}"
+    );
+    assert!(said.contains("saved/moved1: 4 registers changed"), "{said}");
+    assert!(said.contains("the sum is 93"), "{said}");
+    let said = session("saved/moved1");
+    assert!(said.contains("saved/moved1: 2 registers changed"), "{said}");
+    assert!(said.contains("Program received signal SIGSEGV"), "{said}");
 }

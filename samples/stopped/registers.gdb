@@ -3,6 +3,6 @@ break stop
 run
 treskibben-save saved
 call (void)move_heap()
-shell treskibben restore --section saved/section --image saved/image --into saved/moved --first $(cat saved/first) --moves moves --frames saved/frames
+shell treskibben restore --section saved/0.section --image saved/image --into saved/moved --first $(cat saved/first) --moves moves --frames saved/0.frames
 treskibben-load saved/moved
 continue

@@ -4,14 +4,12 @@
 //! `cargo --offline run --release -p bench [ROUNDS] [--svg DIR]`; with a folder, the rows are drawn there too.
 //! `cargo --offline run --release -p bench reads [ROUNDS]` measures the two ways to read eight bytes, and nothing else;
 //! with `flat` instead of `reads`, flat sections and nothing else, with `index`, address indexes, with `report`, the
-//! monthly report, by the command too, with `restores`, replays, explanations and the bench controller, and with `linked`,
-//! threads over linked sections.
+//! monthly report, by the command too, and with `restores`, replays, explanations and the bench controller.
 
 mod conversions;
 mod flat;
 mod frame;
 mod index;
-mod linked;
 mod measure;
 mod parser;
 mod reads;
@@ -53,7 +51,6 @@ fn main() {
         ["reads", ref rest @ ..] => reads::rows(rounds(rest), &section::build(LIMIT)),
         ["flat", ref rest @ ..] => flat::rows(rounds(rest), LIMIT),
         ["index", ref rest @ ..] => index::rows(rounds(rest), LIMIT),
-        ["linked", ref rest @ ..] => linked::rows(rounds(rest), LIMIT),
         ["report", ref rest @ ..] => report::rows(rounds(rest), LIMIT),
         ["restores", ref rest @ ..] => restores::rows(rounds(rest), LIMIT),
         ref rest => all(rounds(rest)),
@@ -74,7 +71,7 @@ fn rounds(words: &[&str]) -> usize {
         Some(rounds) if rounds >= FEWEST => return rounds,
         Some(_) => eprintln!("bench: fewer than {FEWEST} rounds give no steady median"),
         None => eprintln!(
-            "bench: [reads|flat|index|linked|report|restores] [ROUNDS] is what can be asked, and not `{}`",
+            "bench: [reads|flat|index|report|restores] [ROUNDS] is what can be asked, and not `{}`",
             words.join(" ")
         ),
     }

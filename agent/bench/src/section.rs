@@ -10,14 +10,8 @@ const FUNCTIONS_PER_CONSTANT: u64 = 16;
 
 /// A section as long as fits in `limit` bytes.
 pub fn build(limit: usize) -> Vec<u8> {
-    map(limit, 0)
-}
-
-/// The like with other records for each number, at addresses of its own.
-pub fn map(limit: usize, number: u64) -> Vec<u8> {
     let mut parts = Parts {
-        numbers: Numbers(1 + number),
-        away: number << 32,
+        numbers: Numbers(1),
         ..Parts::default()
     };
     while parts.add_function(limit, Parts::add_record) {}
@@ -49,8 +43,6 @@ pub fn statepoints(limit: usize, kind: Statepoints) -> Vec<u8> {
 #[derive(Default)]
 struct Parts {
     numbers: Numbers,
-    /// How far the addresses of all functions are moved.
-    away: u64,
     functions: Vec<u8>,
     constants: Vec<u8>,
     records: Vec<u8>,
@@ -77,8 +69,7 @@ impl Parts {
             return false;
         }
         let stack_size = 8 * (3 + self.numbers.below(64));
-        let address = 0x40_0000 + 0x400 * function_count + self.away;
-        for field in [address, stack_size, count] {
+        for field in [0x40_0000 + 0x400 * function_count, stack_size, count] {
             self.functions.extend(field.to_le_bytes());
         }
         self.record_count += count as u32;

@@ -4,7 +4,6 @@
 use crate::measure::{measure, say, table};
 use crate::section;
 use std::hint::black_box;
-use std::slice;
 use treskibben::{Frame, Index, Machine, MoveTable, Registers};
 
 const CHECK: &str = "treskibben check";
@@ -23,7 +22,7 @@ const EXTENTS_MIXED: &str = "4,096 frames at one address, in any order";
 const MOST_FOR_ONE: f64 = 1.1;
 const MOST_FOR_ALL: f64 = 2.0;
 
-pub const FRAMES: usize = 4_096;
+const FRAMES: usize = 4_096;
 const OBJECTS: u64 = 65_536;
 pub const STACK: u64 = 0x7fff_0000_0000;
 const WORD: u64 = 8;
@@ -39,7 +38,7 @@ pub struct Stack {
     pub image: Vec<u8>,
     objects: Vec<u64>,
     frames: List,
-    pub pairs: usize,
+    pairs: usize,
 }
 
 /// A list of frames, and their registers, which no move here changes.
@@ -170,25 +169,20 @@ fn on(rounds: usize, name: &str, bytes: &[u8]) {
 impl Stack {
     /// Frames at statepoints all over the section, of those that have pairs, all inside their frame.
     pub fn new(section: &reference::Section) -> Stack {
-        Stack::in_order(slice::from_ref(section), |nth| nth)
-    }
-
-    /// Frames at statepoints all over the maps of a linked section.
-    pub fn over(maps: &[reference::Section]) -> Stack {
-        Stack::in_order(maps, |nth| nth)
+        Stack::in_order(section, |nth| nth)
     }
 
     /// The same frames, one above the other in another order than that of their records.
     fn crossed(section: &reference::Section) -> Stack {
-        Stack::in_order(slice::from_ref(section), any_order)
+        Stack::in_order(section, any_order)
     }
 
-    fn in_order(maps: &[reference::Section], order: fn(usize) -> usize) -> Stack {
-        let own = |map: &'_ reference::Section| -> Vec<(u64, u64, usize)> {
-            let records = map.records.iter();
-            records.filter_map(|record| fitting(map, record)).collect()
-        };
-        let all: Vec<(u64, u64, usize)> = maps.iter().flat_map(own).collect();
+    fn in_order(section: &reference::Section, order: fn(usize) -> usize) -> Stack {
+        let all: Vec<(u64, u64, usize)> = section
+            .records
+            .iter()
+            .filter_map(|record| fitting(section, record))
+            .collect();
         assert!(
             all.len() >= FRAMES,
             "only {} statepoints can be moved",

@@ -15,13 +15,13 @@ use crate::library::{self, Reason, Refusal, Slot};
 use crate::receipt::Entry;
 use crate::trouble::Trouble;
 use gather::of_frame;
-use std::path::{Path, PathBuf};
+use std::path::Path;
 
 /// The slots of some frames, and all that they were worked out from.
 pub struct Report<'a> {
     pub inputs: &'a Inputs<'a>,
-    /// The pieces of the stack before the move; one, or several.
-    pub images: Vec<Entry>,
+    /// The image before the move, and how long it is.
+    pub image: Entry,
     pub frames: Vec<OfFrame>,
     /// What a whole thread's move leaves; none of a single frame.
     pub after: Option<After>,
@@ -29,7 +29,7 @@ pub struct Report<'a> {
 
 /// What a move leaves.
 pub struct After {
-    pub images: Vec<Entry>,
+    pub image: Entry,
     /// The list of the frames, where a register changes.
     pub frames: Option<Entry>,
     pub registers: u64,
@@ -50,7 +50,6 @@ pub struct OfFrame {
 /// Where a frame stands: its record, its function and the function's stack size.
 #[derive(Clone, Copy)]
 pub struct Stands {
-    pub map: usize,
     pub record: u64,
     pub function: u64,
     pub stack_size: u64,
@@ -84,13 +83,16 @@ pub enum Base {
 impl<'a> Report<'a> {
     /// All frames of the list, of which the library says that they can be moved. The move is done on copies.
     pub fn of_thread(inputs: &'a Inputs<'a>, moved: &Moved) -> Result<Report<'a>, Trouble> {
-        let explained = inputs.explain_thread(&moved.before);
+        let (frames, registers) = (inputs.frames(), inputs.registers());
+        let explained = inputs
+            .restore()
+            .explain_thread(&moved.before, &frames, &registers);
         let pointers = explained
             .map_err(|(refusal, position)| inputs.refused(refusal, position, &moved.before))?;
         agree::with_the_move(inputs, moved, &pointers)?;
         let records = inputs.at_frames(gather::stands);
         let mut rest = pointers.as_slice();
-        let frames = (0..inputs.lines.len()).map(|position| {
+        let frames = (0..frames.len()).map(|position| {
             let own = rest.partition_point(|pointer| pointer.frame <= position);
             let (own, others) = rest.split_at(own);
             rest = others;
@@ -101,10 +103,10 @@ impl<'a> Report<'a> {
         let frames_after = Entry::of(Path::new(""), moved.frames_after.as_bytes());
         Ok(Report {
             inputs,
-            images: inputs.images(&moved.before),
+            image: Entry::of(&inputs.given.image, &moved.before),
             frames,
             after: Some(After {
-                images: inputs.pieces_of(&moved.after, |_| PathBuf::new()),
+                image: Entry::of(Path::new(""), &moved.after),
                 frames: (registers > 0).then_some(frames_after),
                 registers,
             }),
@@ -117,7 +119,10 @@ impl<'a> Report<'a> {
         position: usize,
         image: &[u8],
     ) -> Result<Report<'a>, Trouble> {
-        let explained = inputs.explain_frame(position, image);
+        let line = &inputs.lines[position].value;
+        let explained = inputs
+            .restore()
+            .explain_frame(image, line.frame, &line.registers);
         if explained.as_ref().err().is_none_or(Refusal::is_of_frame) {
             inputs.all_told(position..position + 1)?;
         }
@@ -127,7 +132,7 @@ impl<'a> Report<'a> {
         let records = inputs.at_frames(gather::stands);
         Ok(Report {
             inputs,
-            images: inputs.images(image),
+            image: Entry::of(&inputs.given.image, image),
             frames: vec![of_frame(inputs, &records, position, &pointers)],
             after: None,
         })
@@ -141,18 +146,6 @@ impl OfFrame {
         let [_, of_stack] = library::pointers_of(inputs.machine);
         let first = u128::from(line.registers[usize::from(of_stack)]);
         [first, first + u128::from(self.stands.stack_size)]
-    }
-
-    /// The number of its map, where there are several.
-    pub fn map(&self, inputs: &Inputs) -> Option<u64> {
-        inputs.maps.several().map(|_| self.stands.map as u64)
-    }
-
-    /// The number of its piece of the stack, where there are several.
-    pub fn piece(&self, inputs: &Inputs) -> Option<u64> {
-        let ([from, to], stack) = (self.extent(inputs), &inputs.stack);
-        let piece = stack.is_split().then(|| stack.with((from, to)));
-        piece.flatten().map(|piece| piece as u64)
     }
 }
 

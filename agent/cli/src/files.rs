@@ -81,17 +81,6 @@ pub fn read_into<'a>(
     Ok(&buffer[..length])
 }
 
-/// The bytes of images that are one after the other in memory: all together up to one more than the limit.
-pub fn images(paths: &[PathBuf]) -> Result<Vec<Vec<u8>>, Trouble> {
-    let mut room = IMAGE + 1;
-    let read = |path: &PathBuf| {
-        let image = read_up_to(path, &mut open(path)?, room)?;
-        room -= image.len() as u64;
-        Ok(image)
-    };
-    paths.iter().map(read).collect()
-}
-
 /// The next bytes of a file, at most so many.
 pub fn read_up_to(path: &Path, file: &mut File, most: u64) -> Result<Vec<u8>, Trouble> {
     let mut bytes = Vec::new();

@@ -2,7 +2,6 @@
 //! beside it, worked out from the same files, and decides nothing.
 
 use crate::frames::{Line, Naming};
-use crate::inputs::Stack;
 use crate::json;
 use crate::library::{Index, Refusal};
 use crate::listing::{functions, Listing};
@@ -68,12 +67,8 @@ pub fn of_indexed(path: &Path, section: &[u8], refusal: Refusal) -> Option<Strin
 
 /// What 29 found: the first entry of an index that is another than the section's.
 pub fn of_index(index: &Index) -> Option<String> {
-    let right = library::index_of(index.section()).ok()?;
-    other_entry(index.entries(), right.entries())
-}
-
-/// The first entry of an index that is another than the right one.
-pub fn other_entry(own: &[u64], right: &[u64]) -> Option<String> {
+    let (own, right) = (index.entries(), library::index_of(index.section()).ok()?);
+    let right = right.entries();
     let all = own.len().max(right.len());
     let other = (0..all).find(|nth| own.get(*nth) != right.get(*nth))?;
     let found = match (own.get(other), right.get(other)) {
@@ -155,29 +150,27 @@ pub fn not_in_function(section: &[u8], function: u64, offset: u64) -> String {
 
 /// The stack sizes that frames stand in.
 pub struct Sizes<'a> {
-    maps: Vec<&'a [u8]>,
+    section: &'a [u8],
     naming: Naming,
     machine: Machine,
-    /// Of version 3: the map and the function of each record's address.
-    owners: HashMap<u64, (usize, u64)>,
+    /// Of version 3: the function of each record's address.
+    owners: HashMap<u64, u64>,
 }
 
 impl<'a> Sizes<'a> {
-    pub fn of(maps: Vec<&'a [u8]>, naming: Naming, machine: Machine) -> Sizes<'a> {
+    pub fn of(section: &'a [u8], naming: Naming, machine: Machine) -> Sizes<'a> {
         let mut owners = HashMap::new();
-        for (map, bytes) in maps.iter().enumerate() {
-            let listing = library::listing_of(bytes).unwrap_or_default();
-            let listing = Listing::read(&listing);
-            for (owner, record) in listing.records() {
-                if let Some(owner) = owner {
-                    let start = listing.functions[owner].address;
-                    let address = start.wrapping_add(record.offset.into());
-                    owners.entry(address).or_insert((map, owner as u64));
-                }
+        let listing = library::listing_of(section).unwrap_or_default();
+        let listing = Listing::read(&listing);
+        for (owner, record) in listing.records() {
+            if let Some(owner) = owner {
+                let start = listing.functions[owner].address;
+                let address = start.wrapping_add(record.offset.into());
+                owners.entry(address).or_insert(owner as u64);
             }
         }
         Sizes {
-            maps,
+            section,
             naming,
             machine,
             owners,
@@ -186,11 +179,11 @@ impl<'a> Sizes<'a> {
 
     /// The function of a frame and its stack size.
     fn function(&self, line: &Line) -> Option<(u64, u64)> {
-        let (map, function) = match self.naming {
+        let function = match self.naming {
             Naming::Address => *self.owners.get(&line.frame.address)?,
-            Naming::InFunction => (0, line.frame.function),
+            Naming::InFunction => line.frame.function,
         };
-        let mut functions = functions(self.maps.get(map)?);
+        let mut functions = functions(self.section);
         let (_, size) = functions.nth(usize::try_from(function).ok()?)?;
         Some((function, size))
     }
@@ -203,15 +196,18 @@ impl<'a> Sizes<'a> {
         Some((first, first + u128::from(size)))
     }
 
-    /// What 16 found: the extent, and the image or its pieces.
-    pub fn outside(&self, line: &Line, stack: &Stack) -> Option<String> {
-        let Some(extent) = self.extent(line) else {
+    /// What 16 found: the extent and the image.
+    pub fn outside(&self, line: &Line, first: u64, length: usize) -> Option<String> {
+        let Some((from, to)) = self.extent(line) else {
             let (function, _) = self.function(line)?;
             return Some(format!(
                 "the stack size of function {function} is not known"
             ));
         };
-        Some(stack.outside(extent))
+        let end = u128::from(first) + length as u128;
+        Some(format!(
+            "extent {from:#x} to {to:#x}, image {first:#x} to {end:#x}"
+        ))
     }
 
     /// What 26 found: the earlier frame, by its position.

@@ -4,7 +4,7 @@
 //! little-endian, two a record, its address and its number.
 
 use crate::files::{self, INDEX};
-use crate::library::Index;
+use crate::library::{self, Index, Map};
 use crate::linked;
 use crate::numbers::count;
 use crate::trouble::Trouble;
@@ -38,11 +38,11 @@ pub fn read(path: &Path) -> Result<Vec<u64>, Trouble> {
         .collect())
 }
 
-/// The address in the entries of an index that is nearest to this one; of two, the lower. An entry begins with its
-/// address.
-pub fn nearest<const N: usize>(entries: &[[u64; N]], address: u64) -> Option<u64> {
-    let above = entries.partition_point(|own| own[0] < address);
-    let own = |nth: usize| entries.get(nth).map(|own| own[0]);
+/// The address in the entries of an index that is nearest to this one; of two, the lower.
+fn nearest(entries: &[u64], address: u64) -> Option<u64> {
+    let (pairs, _) = entries.as_chunks::<2>();
+    let above = pairs.partition_point(|[own, _]| *own < address);
+    let own = |nth: usize| pairs.get(nth).map(|[own, _]| *own);
     let (below, above) = (above.checked_sub(1).and_then(own), own(above));
     let pair = below.into_iter().chain(above);
     pair.min_by_key(|own| own.abs_diff(address))
@@ -50,10 +50,9 @@ pub fn nearest<const N: usize>(entries: &[[u64; N]], address: u64) -> Option<u64
 
 /// What lies nearest to each of these addresses, in words. The records are the library's answer.
 pub fn nearest_records(index: &Index, addresses: &[u64]) -> Vec<String> {
-    let (entries, _) = index.entries().as_chunks::<2>();
     let near: Option<Vec<u64>> = addresses
         .iter()
-        .map(|address| nearest(entries, *address))
+        .map(|address| nearest(index.entries(), *address))
         .collect();
     let near = near.unwrap_or_default();
     let found = index.find_all(&near).unwrap_or_default();
@@ -66,13 +65,45 @@ pub fn nearest_records(index: &Index, addresses: &[u64]) -> Vec<String> {
 }
 
 /// What is said where nothing can be near.
-pub const NO_RECORDS: &str = "the section has no records";
+const NO_RECORDS: &str = "the section has no records";
 
-/// An address that is near another, and the record there.
-pub fn words(near: u64, address: u64, record: &str) -> String {
+fn words(near: u64, address: u64, record: &str) -> String {
     let away = count(near.abs_diff(address), "byte");
     let side = if near < address { "below" } else { "above" };
     format!("the nearest is {record} at {near:#x}, {away} {side}")
+}
+
+/// The records of all maps of a linked section, by their addresses.
+pub struct Nearest<'a> {
+    section: &'a [u8],
+    /// The entries of the maps' indexes, ordered by address.
+    entries: Vec<[u64; 2]>,
+}
+
+impl<'a> Nearest<'a> {
+    pub fn of(section: &'a [u8], maps: &[Map]) -> Nearest<'a> {
+        let mut entries = Vec::new();
+        for map in maps {
+            let index = library::index_of(linked::bytes(section, *map));
+            let own = index.map(Index::into_entries).unwrap_or_default();
+            entries.extend_from_slice(own.as_chunks::<2>().0);
+        }
+        entries.sort_unstable();
+        Nearest { section, entries }
+    }
+
+    /// What lies nearest to an address, in words. The record is the library's answer.
+    pub fn to(&self, address: u64) -> String {
+        let near = nearest(self.entries.as_flattened(), address);
+        let found = near.and_then(|near| library::find_linked(self.section, near).ok());
+        match (near, found) {
+            (Some(near), Some(found)) => {
+                let own = library::found_in_map(found);
+                words(near, address, &linked::record(&own, Some(found.map)))
+            }
+            _ => NO_RECORDS.to_string(),
+        }
+    }
 }
 
 #[cfg(test)]
@@ -82,7 +113,7 @@ mod tests {
     #[test]
     fn the_nearest_address() {
         const LAST: u64 = u64::MAX;
-        let entries = [[4, 1], [10, 0], [10, 2], [LAST - 1, 3]];
+        let entries = [4, 1, 10, 0, 10, 2, LAST - 1, 3];
         for (address, near) in [
             (0, 4),
             (3, 4),
@@ -97,7 +128,7 @@ mod tests {
         ] {
             assert_eq!(nearest(&entries, address), Some(near), "{address}");
         }
-        assert_eq!(nearest::<2>(&[], 0), None);
+        assert_eq!(nearest(&[], 0), None);
     }
 
     #[test]

@@ -1,14 +1,11 @@
 //! What a restore is of: the files that a call names, and what they say.
 
 mod edition;
-mod maps;
 mod moved;
-mod own;
 mod pairs;
 mod refused;
 mod registers;
 pub mod slots;
-mod stack;
 mod twice;
 
 use crate::frames::{Line, Naming};
@@ -21,27 +18,21 @@ use crate::registers::Machine;
 use crate::trouble::Trouble;
 use crate::{files, receipt};
 pub use edition::Chosen;
-pub use maps::Maps;
 pub use moved::Moved;
-pub use stack::{Piece, Stack};
 use std::path::PathBuf;
 
 /// What every call that moves frames, or tells why, is given.
 #[derive(clap::Args)]
 pub struct Given {
-    /// The stack map section; a linked one as it comes
+    /// The stack map section
     #[arg(long, value_name = "FILE")]
     pub section: PathBuf,
-    /// The bytes of the stack; at most 1,048,576; said once for each piece of a stack in several
-    ///
-    /// A stack in several pieces has an --image and a --first for each, in any order of the pieces, and all
-    /// of them together have at most 1,048,576 bytes. Each frame is inside one piece. No two pieces share an
-    /// address. The section is of version 3.
-    #[arg(long, value_name = "FILE", required = true)]
-    pub image: Vec<PathBuf>,
-    /// The address of the image's first byte; of several, one for each --image, in their order
-    #[arg(long, value_name = "ADDRESS", required = true, value_parser = address)]
-    pub first: Vec<u64>,
+    /// The bytes of the stack; at most 1,048,576
+    #[arg(long, value_name = "FILE")]
+    pub image: PathBuf,
+    /// The address of the image's first byte
+    #[arg(long, value_name = "ADDRESS", value_parser = address)]
+    pub first: u64,
     /// Where the objects of the heap were and are: lines 'OLD NEW', old starts rising; may be said again
     ///
     /// Where the objects were moved several times, each time has its --moves, in order: the frames are then
@@ -73,19 +64,6 @@ pub struct Given {
     pub store: Option<PathBuf>,
 }
 
-impl Given {
-    /// Sees that each image has its first address.
-    fn a_first_for_each(&self) -> Result<(), Trouble> {
-        let (images, firsts) = (self.image.len() as u64, self.first.len() as u64);
-        if images == firsts {
-            return Ok(());
-        }
-        Err(Trouble::Usage(format!(
-            "each --image has its --first: there are {images} and {firsts}"
-        )))
-    }
-}
-
 /// All that a call reads but for the image.
 pub struct Inputs<'a> {
     pub given: &'a Given,
@@ -98,35 +76,29 @@ pub struct Inputs<'a> {
     pub lines: Vec<Entry<Line>>,
     /// The profile that the section is held against, if a call asks for it.
     pub profile: Option<Profile>,
-    pub maps: Maps,
-    /// The pieces of the stack; none before the images are read.
-    pub stack: Stack,
 }
 
 impl<'a> Inputs<'a> {
     pub fn read(given: &'a Given) -> Result<Inputs<'a>, Trouble> {
         let Given {
             section,
+            image,
             moves,
             frames,
             ..
         } = given;
-        let others = moves.iter().chain(&given.store).chain(&given.image);
-        files::standard_input_once([section, frames].into_iter().chain(others))?;
-        given.a_first_for_each()?;
+        let others = moves.iter().chain(&given.store);
+        files::standard_input_once([section, image, frames].into_iter().chain(others))?;
         let chosen = Chosen::read(given)?;
         let section = files::read(section, files::SECTION)?;
-        let (moves, maps) = (Moves::read(moves)?, Maps::of(&section));
+        let moves = Moves::read(moves)?;
         let naming = Naming::of(&section);
         let frames_text = lists::text(frames)?;
         let machine = chosen.machine(given.machine);
         let lines = match machine {
-            Some(machine) if !maps.linked_version_1(&section) => {
-                naming.read(machine, frames, &frames_text)?
-            }
-            // Whose registers the lines name, or by which version, is not known: 31 or 27 is said, before a frame
-            // is looked at.
-            _ => Vec::new(),
+            Some(machine) => naming.read(machine, frames, &frames_text)?,
+            // Whose registers the lines name is not known: 31 is said, before a frame is looked at.
+            None => Vec::new(),
         };
         Ok(Inputs {
             given,
@@ -138,23 +110,15 @@ impl<'a> Inputs<'a> {
             chosen,
             lines,
             profile: None,
-            maps,
-            stack: Stack::default(),
         })
     }
 
-    /// Takes the images that were read, and gives all their bytes, one image after the other.
-    pub fn lay(&mut self, images: Vec<Vec<u8>>) -> Vec<u8> {
-        self.stack = Stack::of(&self.given.first, images.iter().map(Vec::len));
-        images.concat()
-    }
-
-    /// All that stays the same throughout the restore; of a stack in several pieces with the first one's address.
+    /// All that stays the same throughout the restore.
     pub fn restore(&self) -> Restore<'_> {
         Restore {
             edition: self.chosen.edition(),
             section: &self.section,
-            first: self.given.first.first().copied().unwrap_or_default(),
+            first: self.given.first,
             table: &self.moves.table,
             machine: self.machine,
         }
@@ -167,19 +131,6 @@ impl<'a> Inputs<'a> {
     pub fn registers(&self) -> Vec<Registers> {
         let lines = self.lines.iter();
         lines.map(|entry| entry.value.registers).collect()
-    }
-
-    /// The images before the move, by the names that a receipt has for them.
-    pub fn images(&self, image: &[u8]) -> Vec<receipt::Entry> {
-        self.pieces_of(image, |nth| self.given.image[nth].clone())
-    }
-
-    /// The pieces of an image, each by its name.
-    pub fn pieces_of(&self, image: &[u8], name: impl Fn(usize) -> PathBuf) -> Vec<receipt::Entry> {
-        let pieces = self.stack.pieces.iter().enumerate();
-        pieces
-            .map(|(nth, piece)| receipt::Entry::of(&name(nth), piece.bytes(image)))
-            .collect()
     }
 
     /// The files that went in, by the names that a receipt has for them: the section, the moves, the frames.

@@ -6,15 +6,13 @@
 use crate::library::Found;
 use crate::listing::{self, role, Listing, Role};
 use crate::names::shown;
+use crate::receipt::Edition;
 use crate::registers::Machine;
 use crate::text::UNKNOWN;
 use crate::trouble::{Fault, Refused};
 use serde::{Serialize, Serializer};
 use std::io::{self, Write};
 use std::path::Path;
-
-mod restored;
-pub use restored::{Restored, RestoredPiece};
 
 /// One object.
 #[derive(Serialize)]
@@ -91,7 +89,21 @@ pub enum Answer<'a> {
         parts: u64,
     },
     /// `restore`.
-    Restored(Restored),
+    Restored {
+        image: &'a str,
+        output: &'a str,
+        #[serde(skip_serializing_if = "Option::is_none")]
+        new_frames: Option<String>,
+        receipt: &'a str,
+        #[serde(skip_serializing_if = "Option::is_none")]
+        trace: Option<String>,
+        frames: u64,
+        pointers: u64,
+        registers: u64,
+        edition: Option<Edition>,
+        #[serde(skip_serializing_if = "Option::is_none")]
+        report: Option<String>,
+    },
 }
 
 #[derive(Serialize)]

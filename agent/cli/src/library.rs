@@ -10,7 +10,7 @@ mod traces;
 use crate::registers;
 pub use linked::{find_linked, found_in_map, map_at_fault, maps, LinkedFound, Map};
 pub use profiles::check_profile;
-pub use restore::{OfThread, Restore};
+pub use restore::Restore;
 pub use traces::{outcome, steps_of, trace_of, Difference, Recorded, Step};
 use treskibben::MoveTable;
 
@@ -24,9 +24,6 @@ pub struct Refusal {
 
 /// The record that is found, a stopped frame and its registers, and an index with its section.
 pub use treskibben::{Found, Frame, Index, Registers};
-
-/// A piece of a stack.
-pub use treskibben::Piece;
 
 /// Why a slot moves or does not, and all slots of some frames.
 pub use treskibben::{ExplainedPointer, ExplainedSlot, Reason, Slot};

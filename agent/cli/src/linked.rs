@@ -57,15 +57,6 @@ fn of_version_1(file: &Path, section: &[u8], refusal: Refusal) -> Trouble {
     in_map(file, refusal, map, found)
 }
 
-/// Sees that no map is of version 1, which has no addresses: 27. It is asked of several maps.
-pub fn all_of_version_3(file: &Path, section: &[u8]) -> Result<(), Trouble> {
-    // What is said of the maps is said before an address is looked for: any will do.
-    match library::find_linked(section, 0) {
-        Err(refusal) if refusal.number != 10 => Err(refused(file, section, refusal)),
-        _ => Ok(()),
-    }
-}
-
 /// What takes maps apart.
 const APART: &str = "'treskibben cut --into DIR' takes the maps apart";
 

@@ -16,7 +16,6 @@ mod folder;
 mod found;
 mod frames;
 mod index;
-mod indexes;
 mod inputs;
 mod json;
 mod library;

@@ -12,18 +12,14 @@ use std::fs::{self, File};
 use std::io::{self, Read};
 use std::path::{Path, PathBuf};
 
-/// No receipt is longer: names of files are its only part without a limit of ours, and a stack has at most 4,096
-/// pieces.
-const LONGEST: u64 = 1 << 26;
+/// No receipt is longer: names of files are its only part without a limit of ours.
+const LONGEST: u64 = 1 << 20;
 
 #[derive(Debug, Serialize, Deserialize)]
 pub struct Receipt {
     /// The version of the library and the command.
     pub treskibben: String,
     pub section: Entry,
-    /// How many maps it has, where they are several.
-    #[serde(default, skip_serializing_if = "Option::is_none")]
-    pub maps: Option<u64>,
     /// The table that the frames were moved by. Where several were joined, it is in no file: these are its bytes
     /// as `join` writes them.
     pub moves: Entry,
@@ -37,15 +33,10 @@ pub struct Receipt {
     /// The edition that was obeyed. Receipts from before there were editions have none.
     #[serde(default, skip_serializing_if = "Option::is_none")]
     pub edition: Option<Edition>,
-    /// The address of the image's first byte; none of a stack in several pieces.
-    #[serde(default, skip_serializing_if = "Option::is_none")]
-    pub first: Option<String>,
-    /// The image; of several pieces their bytes one after the other, by all their names.
+    /// The address of the image's first byte.
+    pub first: String,
     pub before: Entry,
     pub after: Entry,
-    /// The pieces of the stack, where they are several.
-    #[serde(default, skip_serializing_if = "Vec::is_empty")]
-    pub pieces: Vec<Piece>,
     /// The list of the frames after the move, where it stands beside the image.
     #[serde(default, skip_serializing_if = "Option::is_none")]
     pub frames_after: Option<Entry>,
@@ -77,14 +68,6 @@ pub struct Entry {
     pub sha256: String,
 }
 
-/// A piece of the stack: the address of its first byte, and its bytes.
-#[derive(Clone, Debug, PartialEq, Eq, Serialize, Deserialize)]
-pub struct Piece {
-    pub first: String,
-    pub before: Entry,
-    pub after: Entry,
-}
-
 /// The edition that a restore obeyed: its number, its settings, and the store that it stands in. A call that
 /// names none has neither number nor store.
 #[derive(Clone, Debug, PartialEq, Eq, Serialize, Deserialize)]
@@ -102,15 +85,6 @@ impl Entry {
             file: json::name(path),
             bytes: bytes.len() as u64,
             sha256: digest(bytes),
-        }
-    }
-
-    /// The bytes of several files one after the other, by all their names.
-    pub fn joined<'a>(files: impl Iterator<Item = &'a Entry>, bytes: &[u8]) -> Entry {
-        let names = files.map(|entry| entry.file.as_str());
-        Entry {
-            file: names.collect::<Vec<&str>>().join(" + "),
-            ..Entry::of(Path::new(""), bytes)
         }
     }
 }
@@ -139,12 +113,6 @@ impl Receipt {
     /// nothing makes none.
     pub fn made(&self, digest: &str) -> bool {
         self.after.sha256 == digest && self.before.sha256 != digest
-    }
-
-    /// Whether this is the receipt of the restore that made these bytes as a piece of a stack.
-    pub fn made_piece(&self, digest: &str) -> bool {
-        let made = |piece: &Piece| piece.after.sha256 == digest && piece.before.sha256 != digest;
-        self.pieces.iter().any(made)
     }
 
     /// Whether this is the receipt of the restore that made this list of frames, with registers that it

@@ -20,9 +20,15 @@ const INDIRECT: u8 = 3;
 
 /// The maps of a section, one after the other, with all slots addressed by x29. The memory has the code.
 pub(crate) fn changed(mut section: Vec<u8>, memory: &dyn Memory) -> Vec<u8> {
-    let maps = library::maps(&section);
-    for map in maps.unwrap_or_else(|_| panic!("a section of ours is refused")) {
-        change(&mut section[map], memory);
+    let mut from = 0;
+    while from < section.len() {
+        let rest = &mut section[from..];
+        let length = match library::check(rest) {
+            Err((9, place)) => place as usize,
+            _ => rest.len(),
+        };
+        change(&mut rest[..length], memory);
+        from += length;
     }
     section
 }

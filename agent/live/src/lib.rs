@@ -1,7 +1,6 @@
 //! A live restore. Programs that LLVM compiled with statepoints are stopped in the middle, their
 //! heap is copied to other addresses and the old one made unreadable, the pointers in their frames
-//! are moved by the library, all in one call over the section that the linker left, and they run on to
-//! the right checksum.
+//! are moved by the library, those of each map in one call, and they run on to the right checksum.
 //!
 //! What a restore box gets from elsewhere, this package does itself: it finds the frames
 //! ([`frames`]) and their registers ([`registers`]), copies the heap and makes the move table ([`heap`]).

@@ -5,11 +5,7 @@
 
 use crate::heap::Table;
 use crate::image::Image;
-use reference::editions as second;
-use reference::restore::Restore;
-use std::ops::Range;
-use treskibben::editions::{Editions, Settings, Versions};
-use treskibben::{linked, Frame, Frames, MoveTable};
+use treskibben::{Frame, Frames, MoveTable};
 
 /// The machine that a program runs on.
 pub use treskibben::Machine;
@@ -21,10 +17,8 @@ pub use treskibben::Registers;
 pub type Refusal = (u64, u64);
 
 /// The record that has an address, and its function.
-#[derive(Clone, Copy, Debug, PartialEq, Eq)]
+#[derive(Clone, Copy, Debug)]
 pub struct Found {
-    /// The map's number in the section.
-    pub map: usize,
     /// The record's number in its map.
     pub record: u64,
     /// The function's number in its map.
@@ -56,22 +50,10 @@ pub fn check(map: &[u8]) -> Result<(), Refusal> {
     proved
 }
 
-/// Where the maps of a linked section are. The second implementation has to say the same.
-pub fn maps(section: &[u8]) -> Result<Vec<Range<usize>>, Refusal> {
-    let proved = linked::maps(section).map_err(plain)?;
-    let proved: Vec<Range<usize>> = proved.into_iter().map(linked::Map::range).collect();
-    let second = reference::linked::maps(section).map_err(second_plain)?;
-    let range = |map: reference::linked::Map| map.first..map.first + map.length;
-    let second: Vec<Range<usize>> = second.into_iter().map(range).collect();
-    assert_eq!(proved, second, "the maps of the two");
-    Ok(proved)
-}
-
-/// The question by address over all maps.
-pub fn find(section: &[u8], address: u64) -> Result<Found, Refusal> {
-    let found = linked::find(section, address).map_err(plain)?;
+/// The question by address.
+pub fn find(map: &[u8], address: u64) -> Result<Found, Refusal> {
+    let found = treskibben::find(map, address).map_err(plain)?;
     Ok(Found {
-        map: found.map as usize,
         record: found.record,
         function: found.function,
         sharing: found.sharing,
@@ -112,63 +94,38 @@ pub fn relocate(
     Ok(pointers as u64)
 }
 
-/// How many pointers a frame may have under the edition that frames are moved by.
-const POINTERS: u64 = 256;
-
-/// The library's move of all frames of a list over all maps of a section, or none, by an edition of the machine:
-/// the sum of their pointers.
+/// The library's move of all frames of a list, or none: the sum of their pointers.
 pub fn thread(
-    section: &[u8],
+    map: &[u8],
     image: &mut Image,
     table: &Table,
     machine: Machine,
     addresses: &[u64],
     registers: &mut [Registers],
 ) -> Result<u64, Refusal> {
-    let mut editions = Editions::new();
-    let made = editions.make(Settings {
-        pointers: POINTERS,
-        machine,
-        versions: Versions::Three,
-    });
-    let edition = editions.edition(made.expect("the first edition"));
     let Image { first, bytes } = image;
     let table = MoveTable::new(&table.old, &table.new);
     let (list, registers) = (frames(addresses), registers.as_flattened_mut());
-    let moved =
-        edition.relocate_linked_thread(section, bytes, *first, table, machine, &list, registers);
+    let moved = treskibben::relocate_thread(map, bytes, *first, table, machine, &list, registers);
     let pointers = moved.map_err(|refusal| plain(refusal.into()))?;
     Ok(pointers as u64)
 }
 
 /// The second implementation's move of all frames of a list.
 pub fn second_thread(
-    section: &[u8],
+    map: &[u8],
     image: &mut Image,
     table: &Table,
     machine: Machine,
     addresses: &[u64],
     registers: &mut [Registers],
 ) -> Result<u64, Refusal> {
-    let mut store = second::Store::empty();
-    let machine = machine.number();
-    let made = store.make(second::Settings {
-        largest_count: POINTERS,
-        machine,
-        version_1: false,
-        version_3: true,
-    });
-    let restore = Restore {
-        store: &store,
-        edition: made.expect("the first edition"),
-        section,
-        first: image.first,
-        old_starts: &table.old,
-        new_starts: &table.new,
-    };
+    let Image { first, bytes } = image;
+    let Table { old, new } = table;
     let (frames, registers) = (frames(addresses), registers.as_flattened_mut());
     let list = Frames::new(&frames).numbers();
-    let moved = reference::linked::thread(&restore, &mut image.bytes, machine, list, registers);
+    let machine = machine.number();
+    let moved = reference::thread(map, bytes, *first, old, new, machine, list, registers);
     moved.map_err(second_plain)
 }
 

@@ -1,6 +1,6 @@
 //! The maps of a linked section, and what they say of a return address.
 
-use crate::library::{self, Found, Location};
+use crate::library::{self, Location};
 
 /// The bytes of a section's header and of a function in it, and where its stack size stands.
 const HEADER: u64 = 16;
@@ -12,7 +12,6 @@ const POINTER: u16 = 8;
 
 /// The maps that a linker put one after the other into one section.
 pub struct Maps {
-    section: &'static [u8],
     maps: Vec<&'static [u8]>,
 }
 
@@ -50,22 +49,26 @@ pub struct Site {
 }
 
 impl Maps {
-    /// Cuts a section into its maps, each of which is accepted by itself.
+    /// Cuts a section into its maps: the check refuses it by 9 at the place where the second map
+    /// begins, and the first part is then accepted by itself.
     pub fn cut(section: &'static [u8]) -> Maps {
-        let maps = library::maps(section);
-        let ranges = maps.unwrap_or_else(|(number, place)| {
-            panic!("the section is refused by {number} at {place}")
-        });
-        let maps: Vec<&[u8]> = ranges.into_iter().map(|range| &section[range]).collect();
-        for map in &maps {
-            assert_eq!(library::check(map), Ok(()), "a map by itself");
+        let mut maps = Vec::new();
+        let mut rest = section;
+        loop {
+            match library::check(rest) {
+                Ok(()) => {
+                    maps.push(rest);
+                    return Maps { maps };
+                }
+                Err((9, place)) => {
+                    let (map, after) = rest.split_at(place as usize);
+                    assert_eq!(library::check(map), Ok(()), "the map before the cut");
+                    maps.push(map);
+                    rest = after;
+                }
+                Err((number, place)) => panic!("the section is refused by {number} at {place}"),
+            }
         }
-        Maps { section, maps }
-    }
-
-    /// The whole section.
-    pub fn section(&self) -> &'static [u8] {
-        self.section
     }
 
     /// How many maps there are.
@@ -73,25 +76,20 @@ impl Maps {
         self.maps.len()
     }
 
-    /// What stands at a return address, in the one map that has it; nothing if none has. It is asked over all maps,
-    /// and of each by itself.
+    /// What stands at a return address, in the one map that has it; nothing if none has.
     pub fn find(&self, address: u64) -> Option<Site> {
-        let found = library::find(self.section, address).ok();
-        let mut alone = self.maps.iter().enumerate().filter_map(|(map, bytes)| {
-            let own = library::find(bytes, address).ok()?;
-            Some((map, own))
+        let mut sites = self.maps.iter().enumerate().filter_map(|(number, &map)| {
+            let found = library::find(map, address).ok()?;
+            assert_eq!(found.sharing, 1, "records at {address:#x}");
+            Some(site(number, map, found))
         });
-        let first = alone.next();
-        assert!(alone.next().is_none(), "two maps have {address:#x}");
-        let own = first.map(|(map, own)| Found { map, ..own });
-        assert_eq!(found, own, "over all maps, and by itself");
-        let found = found?;
-        assert_eq!(found.sharing, 1, "records at {address:#x}");
-        Some(site(self.maps[found.map], found))
+        let site = sites.next();
+        assert!(sites.next().is_none(), "two maps have {address:#x}");
+        site
     }
 }
 
-fn site(map: &'static [u8], found: Found) -> Site {
+fn site(number: usize, map: &'static [u8], found: library::Found) -> Site {
     let function = HEADER + FUNCTION * found.function;
     let record = library::record(map, found.record).expect("the record was found");
     let deopt = location(map, found.record, 2)
@@ -105,7 +103,7 @@ fn site(map: &'static [u8], found: Found) -> Site {
         at += 2;
     }
     Site {
-        map: found.map,
+        map: number,
         bytes: map,
         id: word(record, 0),
         function: word(map, function),

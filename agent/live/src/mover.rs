@@ -10,15 +10,16 @@ use crate::library::{self, Machine, Refusal, Registers};
 use crate::maps::Site;
 use crate::state::State;
 use crate::wrong;
+use std::collections::BTreeSet;
 
 /// Who moves the frames.
 #[derive(Clone, Copy, Debug, PartialEq, Eq)]
 pub enum Mover {
-    /// The library, all frames in one call over the linked section, from the deepest up.
+    /// The library, all frames of a map in one call, from the deepest up.
     Library,
     /// The library, from the uppermost frame down: the order must not count.
     Backwards,
-    /// The library, each frame in a call of its own, by the map that has its record.
+    /// The library, each frame in a call of its own.
     Singly,
     /// The second implementation.
     Second,
@@ -38,8 +39,6 @@ pub enum Mover {
     Falling,
     /// Moves only the first frame, the deepest.
     FirstFrame,
-    /// Moves only the frames of one map, the deepest frame's.
-    OneMap,
     /// Writes each pair before it reads the next.
     InTurn,
     /// Finds the object by the derived pointer.
@@ -69,9 +68,6 @@ pub const FATAL: [Mover; 4] = [
     Mover::InTurn,
 ];
 
-/// The mover that leaves old pointers where the frames are of several maps.
-pub const FATAL_TO_MAPS: Mover = Mover::OneMap;
-
 /// The mover that makes new pointers, but wrong ones.
 pub const WRONG: Mover = Mover::ByDerived;
 
@@ -94,7 +90,7 @@ pub struct RefusedFrame {
     pub frame: usize,
     /// What the maps say of it.
     pub site: Site,
-    /// Number and place; of a list, the place is the frame's position in it.
+    /// Number and place; of a list, the place is the frame's position among those of its map.
     pub refusal: Refusal,
 }
 
@@ -104,8 +100,7 @@ impl Mover {
         let all = RIGHT.into_iter().chain(FATAL).chain(REFUSED);
         let vectors = [FATAL_TO_VECTORS, WRONG_FOR_VECTORS];
         let registers = [FATAL_TO_REGISTERS, WRONG_FOR_REGISTERS];
-        let all = all.chain([FATAL_TO_MAPS, WRONG]);
-        let mut all = all.chain(vectors).chain(registers);
+        let mut all = all.chain([WRONG]).chain(vectors).chain(registers);
         all.find(|mover| mover.name() == name)
     }
 
@@ -124,7 +119,6 @@ impl Mover {
             Mover::FirstPointer => "first-pointer",
             Mover::Falling => "falling",
             Mover::FirstFrame => "first-frame",
-            Mover::OneMap => "one-map",
             Mover::InTurn => "in-turn",
             Mover::ByDerived => "by-derived",
             Mover::RegistersLeft => "registers-left",
@@ -137,7 +131,6 @@ impl Mover {
     pub fn apply(
         self,
         state: &mut State,
-        section: &[u8],
         frames: &[Stopped],
         table: &Table,
         objects: &[Object],
@@ -145,52 +138,39 @@ impl Mover {
         let all: Vec<usize> = (0..frames.len()).collect();
         let backwards = || all.iter().rev().copied().collect::<Vec<usize>>();
         let twice = || [&all[..], &all[..1]].concat();
-        let mut at_once = |thread: Thread, order: &[usize], table: &Table| {
-            at_once(thread, state, section, frames, order, table)
-        };
         match self {
-            Mover::Library => at_once(library::thread, &all, table),
-            Mover::Backwards => at_once(library::thread, &backwards(), table),
-            Mover::Second => at_once(library::second_thread, &all, table),
-            Mover::ShortTable => at_once(library::thread, &all, &table.without_first()),
-            Mover::Twice => at_once(library::thread, &twice(), table),
-            Mover::OtherMachine => at_once(of_the_other, &all, table),
-            _ => one_by_one(frames, |at| self.alone(state, frames, at, table, objects)),
-        }
-    }
-
-    /// Moves one frame.
-    fn alone(
-        self,
-        state: &mut State,
-        frames: &[Stopped],
-        at: At,
-        table: &Table,
-        objects: &[Object],
-    ) -> Result<u64, Refusal> {
-        let deepest = &frames[0];
-        match self {
-            Mover::Singly => singly(state, at, table),
-            Mover::PairZero => wrong::some(state, at, table, |pair, _| pair == 0),
-            Mover::FirstPointer => wrong::some(state, at, table, |_, pointer| pointer == 0),
-            Mover::Falling => Ok(wrong::falling(state, at, table)),
-            Mover::InTurn => Ok(wrong::in_turn(state, at, table)),
-            Mover::ByDerived => Ok(wrong::by_derived(state, at, table, objects)),
-            Mover::RegistersLeft => wrong::registers_left(state, at, table),
-            Mover::StopRegisters => wrong::stop_registers(state, &deepest.registers, at, table),
-            Mover::FirstFrame if at.0 == 0 => singly(state, at, table),
-            Mover::OneMap if at.1.site.map == deepest.site.map => singly(state, at, table),
-            _ => Ok(at.1.pointer_count()),
+            Mover::Library => by_map(library::thread, state, frames, &all, table),
+            Mover::Backwards => by_map(library::thread, state, frames, &backwards(), table),
+            Mover::Second => by_map(library::second_thread, state, frames, &all, table),
+            Mover::ShortTable => {
+                by_map(library::thread, state, frames, &all, &table.without_first())
+            }
+            Mover::Twice => by_map(library::thread, state, frames, &twice(), table),
+            Mover::OtherMachine => by_map(of_the_other, state, frames, &all, table),
+            _ => one_by_one(frames, |at| match self {
+                Mover::Singly => singly(state, at, table),
+                Mover::PairZero => wrong::some(state, at, table, |pair, _| pair == 0),
+                Mover::FirstPointer => wrong::some(state, at, table, |_, pointer| pointer == 0),
+                Mover::Falling => Ok(wrong::falling(state, at, table)),
+                Mover::InTurn => Ok(wrong::in_turn(state, at, table)),
+                Mover::ByDerived => Ok(wrong::by_derived(state, at, table, objects)),
+                Mover::RegistersLeft => wrong::registers_left(state, at, table),
+                Mover::StopRegisters => {
+                    wrong::stop_registers(state, &frames[0].registers, at, table)
+                }
+                Mover::FirstFrame if at.0 == 0 => singly(state, at, table),
+                _ => Ok(at.1.pointer_count()),
+            }),
         }
     }
 }
 
-/// A move of all frames of a list by the section that has the maps of all: their addresses, and their registers.
+/// A move of all frames of a list by the map that they are in: their addresses, and their registers.
 type Thread =
     fn(&[u8], &mut Image, &Table, Machine, &[u64], &mut [Registers]) -> Result<u64, Refusal>;
 
 fn of_the_other(
-    section: &[u8],
+    map: &[u8],
     image: &mut Image,
     table: &Table,
     machine: Machine,
@@ -201,27 +181,39 @@ fn of_the_other(
         Machine::Amd64 => Machine::Aarch64,
         Machine::Aarch64 => Machine::Amd64,
     };
-    library::thread(section, image, table, other, addresses, registers)
+    library::thread(map, image, table, other, addresses, registers)
 }
 
-/// Moves all frames in one call, in this order.
-fn at_once(
+/// Moves the frames of each map in one call, in this order.
+fn by_map(
     thread: Thread,
     state: &mut State,
-    section: &[u8],
     frames: &[Stopped],
     order: &[usize],
     table: &Table,
 ) -> Result<u64, RefusedFrame> {
-    let machine = frames[0].machine;
-    let addresses: Vec<u64> = order.iter().map(|frame| frames[*frame].address).collect();
-    let registers = order.iter().map(|frame| state.registers[*frame]);
-    let mut registers: Vec<Registers> = registers.collect();
-    let image = &mut state.image;
-    let moved = thread(section, image, table, machine, &addresses, &mut registers);
-    let pointers = moved.map_err(|refusal| refused(frames, order[refusal.1 as usize], refusal))?;
-    for (frame, registers) in order.iter().zip(registers) {
-        state.registers[*frame] = registers;
+    let maps: BTreeSet<usize> = frames.iter().map(|stopped| stopped.site.map).collect();
+    let mut pointers = 0;
+    for map in maps {
+        let in_map = |frame: &usize| frames[*frame].site.map == map;
+        let own: Vec<usize> = order.iter().copied().filter(in_map).collect();
+        let addresses: Vec<u64> = own.iter().map(|frame| frames[*frame].address).collect();
+        let mut registers: Vec<Registers> =
+            own.iter().map(|frame| state.registers[*frame]).collect();
+        let Stopped { machine, site, .. } = &frames[own[0]];
+        let image = &mut state.image;
+        let moved = thread(
+            site.bytes,
+            image,
+            table,
+            *machine,
+            &addresses,
+            &mut registers,
+        );
+        pointers += moved.map_err(|refusal| refused(frames, own[refusal.1 as usize], refusal))?;
+        for (frame, registers) in own.into_iter().zip(registers) {
+            state.registers[frame] = registers;
+        }
     }
     Ok(pointers)
 }

@@ -247,10 +247,7 @@ impl Running {
         let objects = self.heap.objects().to_vec();
         let (new, table) = self.heap.copy();
         let mut after = before.clone();
-        let section = self.maps.section();
-        let moved = self
-            .mover
-            .apply(&mut after, section, &frames, &table, &objects);
+        let moved = self.mover.apply(&mut after, &frames, &table, &objects);
         let pointers = moved.map_err(Trouble::Refused)?;
         let listed = frames.iter().map(Stopped::pointer_count).sum();
         assert_eq!(pointers, listed, "the count that the mover gives");

@@ -10,9 +10,6 @@ use crate::relocate::MAX_IMAGE;
 use crate::Refusal;
 use std::ops::Range;
 
-/// The most pieces of a stack.
-pub(crate) const MAX_PIECES: usize = 4_096;
-
 /// Where an image stands.
 #[derive(Clone, Copy, Debug)]
 pub(crate) enum Stack<'a> {
@@ -56,17 +53,16 @@ impl Stack<'_> {
         list.iter().map(piece).collect()
     }
 
-    /// Refusal 13: an image over its limit, a list that is odd, has too many
-    /// pieces or whose lengths don't add up to the image's, a piece that ends
-    /// past the last address, or two that share one.
+    /// Refusal 13: an image over its limit, a list that is odd or whose lengths
+    /// don't add up to the image's, a piece that ends past the last address, or
+    /// two that share one.
     pub(crate) fn check(&self, image: &[u8]) -> Result<(), Refusal> {
         let pieces = self.pieces(image.len());
         let odd = matches!(self, Stack::Split(list) if !list.len().is_multiple_of(2));
-        let many = pieces.len() > MAX_PIECES;
         let lengths: u128 = pieces.iter().map(|own| own.end - own.first).sum();
         let fits = image.len() <= MAX_IMAGE && lengths == image.len() as u128;
         let past = pieces.iter().any(|own| own.end > u128::from(u64::MAX));
-        if odd || many || !fits || past || any_shared(&pieces) {
+        if odd || !fits || past || any_shared(&pieces) {
             return Err(Refusal::at(13, 0));
         }
         Ok(())

@@ -2,12 +2,11 @@
 //!
 //! One buffer holds the pieces one after the other, and a list has two numbers a
 //! piece, its first address and its length. 13 is given where the buffer is over
-//! the limit of an image, the list is odd or has over 4,096 pieces, empty ones
-//! counted, the lengths don't add up to the buffer's, a piece's first address
-//! plus its length is over 2^64 - 1, or two pieces share an address; empty ones
-//! share none. 16 is given where an extent isn't inside one piece. All else is as
-//! on a stack in one piece, and a list of one piece gives what the call on such a
-//! stack does.
+//! the limit of an image, the list is odd, the lengths don't add up to the
+//! buffer's, a piece's first address plus its length is over 2^64 - 1, or two
+//! pieces share an address; empty ones share none. 16 is given where an extent
+//! isn't inside one piece. All else is as on a stack in one piece, and a list of
+//! one piece gives what the call on such a stack does.
 
 #[cfg(test)]
 mod tests;

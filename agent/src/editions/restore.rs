@@ -180,7 +180,7 @@ impl<'a> Edition<'a> {
     ///
     /// The count of the edition is for each frame by itself, not for their sum.
     ///
-    /// The call needs about 528 KiB of stack, which a thread of [`std::thread`] has many times over.
+    /// The call needs about 272 KiB of stack, which a thread of [`std::thread`] has many times over.
     ///
     /// # Errors
     ///
@@ -235,6 +235,75 @@ impl<'a> Edition<'a> {
         let restore = self.restore(section, first, table, machine);
         let frames = frames.into().numbers();
         thread::pointers(Mover::Plain.thread(&restore, image, frames, registers))
+    }
+
+    /// Moves the pointers of a whole thread over a [linked section](crate::linked), each frame by the map that has
+    /// its record, all of them or none, and gives their number, null pairs counting one each. On a section that is
+    /// one map of version 3 it is [`relocate_thread`](Edition::relocate_thread).
+    ///
+    /// The call needs about 336 KiB of stack, which a thread of [`std::thread`] has many times over.
+    ///
+    /// # Errors
+    ///
+    /// The first of these that holds. A refusal leaves all of the image and all registers unchanged.
+    ///
+    /// | Number | Cause | Place |
+    /// |---|---|---|
+    /// | 31 | edition unknown or retired | 0 |
+    /// | 1 to 8 | the refusal of [`linked::maps`](crate::linked::maps) | as there |
+    /// | 27 | a map is of version 1 | the first such map's first byte |
+    /// | 33 | the edition doesn't allow version 3, or is of another machine | 0 |
+    /// | 13, 14, 25 | as of [`relocate_thread`](crate::relocate_thread) | 0 |
+    /// | 10, 12, 15 to 21 | the first frame of the list that is refused by itself, on the image as lent: 10 where no record of any map has its address, 15 where several records of all maps have it, and the rest as in the map of its record | its position |
+    /// | 26 | as of [`relocate_thread`](crate::relocate_thread) | the frame's position |
+    ///
+    /// # Examples
+    ///
+    /// ```
+    /// use treskibben::editions::{Editions, Settings, Versions};
+    /// use treskibben::{Frame, Machine, MoveTable};
+    /// # fn main() -> Result<(), Box<dyn std::error::Error>> {
+    /// let (machine, versions) = (Machine::Amd64, Versions::Three);
+    /// let mut editions = Editions::new();
+    /// let number = editions.make(Settings { pointers: 256, machine, versions })?;
+    /// let edition = editions.edition(number);
+    ///
+    /// // A map of nothing, and then a statepoint with two pairs, at 0x1020 in a function with 24 bytes of stack.
+    /// let map = std::fs::read("../samples/h-statepoint.section")?;
+    /// let empty = [3, 0, 0, 0, 0, 0, 0, 0, 0, 0, 0, 0, 0, 0, 0, 0];
+    /// let frames = [Frame::new(0x1020)];
+    /// let table = MoveTable::new(&[0x50000], &[0x90000]);
+    /// let mut image = [7, 0x50000, 0x54e20_u64].map(u64::to_le_bytes).concat();
+    /// let mut moved = |section: &[u8]| {
+    ///     let mut registers = machine.registers(0, 0x7000);
+    ///     edition.relocate_linked_thread(
+    ///         section, &mut image, 0x7000, table, machine, &frames, &mut registers,
+    ///     )
+    /// };
+    ///
+    /// // Two records at the address, in two maps: nothing is moved.
+    /// let refusal = moved(&[&map[..], &map].concat()).unwrap_err();
+    /// assert_eq!((refusal.number(), refusal.position()), (15, Some(0)));
+    ///
+    /// assert_eq!(moved(&[&empty, &map[..]].concat()), Ok(2));
+    /// assert_eq!(image, [7, 0x90000, 0x94e20_u64].map(u64::to_le_bytes).concat());
+    /// # Ok(())
+    /// # }
+    /// ```
+    #[allow(clippy::too_many_arguments)] // Those of the move.
+    pub fn relocate_linked_thread<'f>(
+        &self,
+        section: &[u8],
+        image: &mut [u8],
+        first: u64,
+        table: MoveTable,
+        machine: Machine,
+        frames: impl Into<Frames<'f>>,
+        registers: &mut [u64],
+    ) -> Result<usize, ThreadRefusal> {
+        let restore = self.restore(section, first, table, machine);
+        let frames = frames.into().numbers();
+        thread::pointers(restore::linked_thread(&restore, image, frames, registers))
     }
 
     /// Moves the pointers of a whole thread as [`Index::relocate_thread`] does, with that index of its section.

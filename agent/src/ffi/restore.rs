@@ -1,12 +1,9 @@
 //! The restores that name an edition, as C sees them, and a safe function over each.
 
-mod threads;
-
 use super::editions::Store;
 use super::explain::Told;
 use super::Answer;
 use crate::{Frame, Slot};
-pub(crate) use threads::{linked_thread, split_thread, thread_by_index};
 
 /// What every restore is given, beside the image and the frames.
 #[derive(Clone, Copy, Debug)]
@@ -47,6 +44,26 @@ type MoveFrame = unsafe extern "C" fn(
     registers_length: usize,
 ) -> Answer;
 
+/// The move of a thread, by either of the two, or over a linked section.
+type MoveThread = unsafe extern "C" fn(
+    store: Store,
+    edition: u64,
+    section: *const u8,
+    length: usize,
+    image: *mut u8,
+    image_length: usize,
+    first: u64,
+    olds: *const u64,
+    old_count: usize,
+    news: *const u64,
+    new_count: usize,
+    machine: u64,
+    frames: *const u64,
+    frames_length: usize,
+    registers: *mut u64,
+    registers_length: usize,
+) -> Answer;
+
 extern "C" {
     fn treskibben_edition_relocate(
         store: Store,
@@ -62,6 +79,62 @@ extern "C" {
         new_count: usize,
         machine: u64,
         frame: Frame,
+        registers: *mut u64,
+        registers_length: usize,
+    ) -> Answer;
+    fn treskibben_edition_thread(
+        store: Store,
+        edition: u64,
+        section: *const u8,
+        length: usize,
+        image: *mut u8,
+        image_length: usize,
+        first: u64,
+        olds: *const u64,
+        old_count: usize,
+        news: *const u64,
+        new_count: usize,
+        machine: u64,
+        frames: *const u64,
+        frames_length: usize,
+        registers: *mut u64,
+        registers_length: usize,
+    ) -> Answer;
+    fn treskibben_edition_thread_by_index(
+        store: Store,
+        edition: u64,
+        section: *const u8,
+        length: usize,
+        image: *mut u8,
+        image_length: usize,
+        first: u64,
+        olds: *const u64,
+        old_count: usize,
+        news: *const u64,
+        new_count: usize,
+        machine: u64,
+        frames: *const u64,
+        frames_length: usize,
+        registers: *mut u64,
+        registers_length: usize,
+        index: *const u64,
+        index_length: usize,
+    ) -> Answer;
+    fn treskibben_edition_linked_thread(
+        store: Store,
+        edition: u64,
+        section: *const u8,
+        length: usize,
+        image: *mut u8,
+        image_length: usize,
+        first: u64,
+        olds: *const u64,
+        old_count: usize,
+        news: *const u64,
+        new_count: usize,
+        machine: u64,
+        frames: *const u64,
+        frames_length: usize,
         registers: *mut u64,
         registers_length: usize,
     ) -> Answer;
@@ -118,6 +191,24 @@ extern "C" {
         registers: *mut u64,
         registers_length: usize,
     ) -> Answer;
+    fn treskibben_controller_thread(
+        store: Store,
+        edition: u64,
+        section: *const u8,
+        length: usize,
+        image: *mut u8,
+        image_length: usize,
+        first: u64,
+        olds: *const u64,
+        old_count: usize,
+        news: *const u64,
+        new_count: usize,
+        machine: u64,
+        frames: *const u64,
+        frames_length: usize,
+        registers: *mut u64,
+        registers_length: usize,
+    ) -> Answer;
     fn treskibben_controller_check(section: *const u8, length: usize) -> Answer;
 }
 
@@ -155,6 +246,96 @@ impl Mover {
                 registers.len(),
             )
         }
+    }
+
+    /// The move of a whole thread.
+    pub(crate) fn thread(
+        self,
+        restore: &Restore,
+        image: &mut [u8],
+        frames: &[u64],
+        registers: &mut [u64],
+    ) -> Answer {
+        let call: MoveThread = match self {
+            Mover::Plain => treskibben_edition_thread,
+            Mover::Controller => treskibben_controller_thread,
+        };
+        move_thread(call, restore, image, frames, registers)
+    }
+}
+
+/// The move of a whole thread over a linked section.
+pub(crate) fn linked_thread(
+    restore: &Restore,
+    image: &mut [u8],
+    frames: &[u64],
+    registers: &mut [u64],
+) -> Answer {
+    let call = treskibben_edition_linked_thread;
+    move_thread(call, restore, image, frames, registers)
+}
+
+/// The move of a whole thread by one of the calls of `treskibben.h` that have these arguments.
+fn move_thread(
+    call: MoveThread,
+    restore: &Restore,
+    image: &mut [u8],
+    frames: &[u64],
+    registers: &mut [u64],
+) -> Answer {
+    // SAFETY: as in `super::thread`, and of the store as in `Mover::relocate`.
+    unsafe {
+        call(
+            restore.store.clone(),
+            restore.edition,
+            restore.section.as_ptr(),
+            restore.section.len(),
+            image.as_mut_ptr(),
+            image.len(),
+            restore.first,
+            restore.olds.as_ptr(),
+            restore.olds.len(),
+            restore.news.as_ptr(),
+            restore.news.len(),
+            restore.machine,
+            frames.as_ptr(),
+            frames.len(),
+            registers.as_mut_ptr(),
+            registers.len(),
+        )
+    }
+}
+
+/// The move of a whole thread that is handed an index.
+pub(crate) fn thread_by_index(
+    restore: &Restore,
+    image: &mut [u8],
+    frames: &[u64],
+    registers: &mut [u64],
+    index: &[u64],
+) -> Answer {
+    // SAFETY: as in `super::index::thread`, and of the store as in `Mover::relocate`.
+    unsafe {
+        treskibben_edition_thread_by_index(
+            restore.store.clone(),
+            restore.edition,
+            restore.section.as_ptr(),
+            restore.section.len(),
+            image.as_mut_ptr(),
+            image.len(),
+            restore.first,
+            restore.olds.as_ptr(),
+            restore.olds.len(),
+            restore.news.as_ptr(),
+            restore.news.len(),
+            restore.machine,
+            frames.as_ptr(),
+            frames.len(),
+            registers.as_mut_ptr(),
+            registers.len(),
+            index.as_ptr(),
+            index.len(),
+        )
     }
 }
 

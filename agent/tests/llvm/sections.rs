@@ -1,5 +1,4 @@
 //! Runs `llvm/build`, once for all tests, and hands out what it made.
-#![allow(dead_code)] // Not every test asks for all of it.
 
 use std::path::{Path, PathBuf};
 use std::process::Command;

@@ -348,10 +348,10 @@ fn short_long_and_empty_frames() {
     }
 }
 
-/// The call needs about 520 KiB of stack, whatever the list.
+/// The call needs about 264 KiB of stack, whatever the list.
 #[test]
 fn a_thread_with_little_stack() {
-    const STACK: usize = 544 * 1024;
+    const STACK: usize = 280 * 1024;
     for version in Version::ALL {
         let thread = deep(version, MOST_FRAMES);
         let (section, list) = (thread.scene.section.encode(), thread.list());

@@ -1,4 +1,4 @@
-// The controller's move of one frame, by the base's promises: by one walk of quick looks, and where it says nothing exactly.
+// The controller's move of one frame, by the base's promises.
 ghost use Rattle.std.specs.Prelude.{◌≤◌};
 ghost use Rattle.moves.specs.Limits.{pairs_most};
 ghost use Rattle.relocate.specs.Restore.{restore};
@@ -11,8 +11,9 @@ use relocate::{Frame, Settings};
 use relocate_frame::moving;
 use stackmap::Verdict;
 
-// The move where the section is searched and checked, and then tested by its profile.
-fn exactly(
+// Relocates one frame as `relocate_frame::relocate` does, and between 1 to 9 and 33: 50. The section is searched and checked once.
+// No entry point: it requires settings that the crates above have read or made.
+pub fn relocate(
     section: &[u8],
     image: &mut [u8],
     first: u64,
@@ -36,32 +37,4 @@ fn exactly(
             section, found, image, first, olds, news, frame, registers, settings,
         ),
     }
-}
-
-// Relocates one frame as `relocate_frame::relocate` does, and between 1 to 9 and 33: 50. Where the walk is sure,
-// the section is checked, tested by its profile and searched at once.
-// No entry point: it requires settings that the crates above have read or made.
-pub fn relocate(
-    section: &[u8],
-    image: &mut [u8],
-    first: u64,
-    olds: &[u64],
-    news: &[u64],
-    frame: Frame,
-    registers: &mut [u64],
-    settings: Settings,
-) -> Move
-    requires { settings.most ≤ pairs_most }
-    ensures { Controls (restore section.now olds.now news.now first settings) image.old (stopped frame registers.old) result image.new registers.new }
-{
-    let machine = frame.machine;
-    let seen = controller_walk::search(section, machine, frame.address);
-    if seen.sure {
-        return relocate_frame::relocate_found(
-            section, seen.found, image, first, olds, news, frame, registers, settings,
-        );
-    }
-    exactly(
-        section, image, first, olds, news, frame, registers, settings,
-    )
 }

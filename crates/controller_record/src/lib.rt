@@ -9,15 +9,14 @@ ghost use Rattle.controller.specs.Profile as spec;
 ghost use Rattle.controller.specs.Kept.{before_of};
 
 use relocate::Machine;
-use relocate_pairs::pairs;
-use relocate_statepoint::statepoint;
+use relocate_pairs::{pairs, statepoint};
 
 const RECORDS_MOST: usize = 64;
 
 const POINTERS_MOST: usize = 16;
 
 // Whether the address of the record `number` is above the one before it, `last`, if there is one.
-pub fn rises(number: usize, last: u64, address: u64) -> bool
+fn rises(number: usize, last: u64, address: u64) -> bool
     ensures { result ≡ above (before_of number last) address }
 {
     if number == 0 {

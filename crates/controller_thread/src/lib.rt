@@ -11,7 +11,7 @@ use relocate_frame::moving;
 use stackmap::Verdict;
 
 // Relocates the frames of a list as `thread_call::relocate_thread` does, and between 1 to 9 and 33: 50. What keeps the profile has at most 64
-// records, so that they are walked over twice.
+// records, so that they are walked over a second time.
 // No entry point: it requires settings that the crates above have read or made.
 pub fn relocate_thread(
     section: &[u8],
@@ -27,7 +27,7 @@ pub fn relocate_thread(
     requires { settings.most ≤ pairs_most }
     ensures { ControlsThread (restore section.now olds.now news.now first settings) image.old (thread_of machine list.now registers.old) result image.new registers.new }
 {
-    match controller_walk::check(section, machine) {
+    match controller_profile::check(section, machine) {
         Verdict::Refused(n, p) => moving::refused(n, p),
         Verdict::Valid(_) => thread_call::relocate_thread(
             section, image, first, olds, news, machine, list, registers, settings,

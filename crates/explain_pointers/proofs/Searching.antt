@@ -90,18 +90,18 @@ module _ (live numbers : List ℕ) (x k : ℕ) where
   named_live h = rw (ne_eqb (get_or live k 0) 0 h)
 
 module _ (w : State) (live bases derived : List ℕ) (x k : ℕ) where
-  pub moves-null : get_or live k 0 ≡ 0 → false ≡ moves_at w live bases derived x k
+  pub moves_null : get_or live k 0 ≡ 0 → false ≡ moves_at w live bases derived x k
   unfolding moves_at
-  moves-null h = rw (eq-eqb (get_or live k 0) 0 h)
+  moves_null h = rw (eq-eqb (get_or live k 0) 0 h)
 
   module _ (h : get_or live k 0 ≡ 0 → ⊥) where
-    pub moves-other : (get_or derived k 0 ≡ x → ⊥) → false ≡ moves_at w live bases derived x k
+    pub moves_other : (get_or derived k 0 ≡ x → ⊥) → false ≡ moves_at w live bases derived x k
     unfolding moves_at
-    moves-other e = rw (ne_eqb (get_or live k 0) 0 h, ne_eqb (get_or derived k 0) x e)
+    moves_other e = rw (ne_eqb (get_or live k 0) 0 h, ne_eqb (get_or derived k 0) x e)
 
-    pub moves-by : (v : ℕ) → get_or derived k 0 ≡ x → v ≡ base_at w live bases derived k → not (eqb v 0) ≡ moves_at w live bases derived x k
+    pub moves_by : (v : ℕ) → get_or derived k 0 ≡ x → v ≡ base_at w live bases derived k → not (eqb v 0) ≡ moves_at w live bases derived x k
     unfolding moves_at
-    moves-by v e b = rw (ne_eqb (get_or live k 0) 0 h, eq-eqb (get_or derived k 0) x e, b)
+    moves_by v e b = rw (ne_eqb (get_or live k 0) 0 h, eq-eqb (get_or derived k 0) x e, b)
 
 -- the reasons, by what the searches answer
 module _ (w : State) (live bases derived : List ℕ) (table : ℕ → Option ℕ) (n : ℕ) (pss : List (List Pointer)) (x k : ℕ) (e : k ≡ lowest (moves_at w live bases derived x) n) where

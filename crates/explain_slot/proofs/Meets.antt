@@ -168,10 +168,10 @@ module _ (R : Restore) (im : List ℕ) (st : Stopped) (x : Slot) where
             ap (λ (p : Pointer). has_base x (pointer_at sp p)) (at j l)
             ∙ base_go (is_null j) (get_or bases j 0) (get_or derived j 0) (λ e. placed.base_in j l (eqb-false (get_or live j 0) 0 e))
 
-        moves-at : (j : ℕ) → j < n → moved_by R im st x (pointer_at sp (get_or (flatten pss) j null))
+        moves_at_lem : (j : ℕ) → j < n → moved_by R im st x (pointer_at sp (get_or (flatten pss) j null))
             ≡ cond (is_null j) false (cond (is_at o (get_or derived j 0)) (not (eqb (base_at w live bases derived j) 0)) false)
         unfolding arrays.pointer_at
-        moves-at j l =
+        moves_at_lem j l =
             ap (λ (p : Pointer). moved_by R im st x (pointer_at sp p)) (at j l)
             ∙ moves_go (is_null j) (get_or bases j 0) (get_or derived j 0) (λ e. placed.base_in j l (eqb-false (get_or live j 0) 0 e)) (λ e. placed.derived_in j l (eqb-false (get_or live j 0) 0 e))
 
@@ -190,7 +190,7 @@ module _ (R : Restore) (im : List ℕ) (st : Stopped) (x : Slot) where
       -- no number: no pointer has the slot
       nowhere : ((y : ℕ) → Placed size register_count y → same (addressed sp (slot_of y)) x ≡ false) → accepted R im st x ≡ Unlisted
       nowhere num =
-          shape none none none (none_in (moved_by R im st x) (λ j l. moves-at none num j l ∙ cond_false (eqb (get_or live j 0) 0)))
+          shape none none none (none_in (moved_by R im st x) (λ j l. moves_at_lem none num j l ∙ cond_false (eqb (get_or live j 0) 0)))
           (none_in (derives x) (λ j l. derives-at none num j l ∙ cond_false (eqb (get_or live j 0) 0)))
           (none_in (has_base x) (λ j l. base_at none num j l ∙ cond_false (eqb (get_or live j 0) 0)))
 
@@ -201,7 +201,7 @@ module _ (R : Restore) (im : List ℕ) (st : Stopped) (x : Slot) where
 
         same₁ : (j : ℕ) → j < n → moved_by R im st x (pointer_at sp (get_or (flatten pss) j null)) ≡ t₁ j
         unfolding moves_at
-        same₁ j l = moves-at (some z) num j l
+        same₁ j l = moves_at_lem (some z) num j l
 
         same₂ : (j : ℕ) → j < n → derives x (pointer_at sp (get_or (flatten pss) j null)) ≡ named_at live derived z j
         unfolding named_at

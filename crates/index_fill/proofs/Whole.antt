@@ -90,10 +90,10 @@ module _ (s : List ℕ) (k : Accepted s) where
   w = (tabled s k).walkable
 
   -- the rows of a section, put in order, are its index
-  pub put_in-order : (xs ys : List ℕ) → 2 * num_records s ≤ length xs → num_records s < 4294967296 → Reordered (in_place s xs) ys (num_records s) → Stepped ys 1 (num_records s)
+  pub put-in_order : (xs ys : List ℕ) → 2 * num_records s ≤ length xs → num_records s < 4294967296 → Reordered (in_place s xs) ys (num_records s) → Stepped ys 1 (num_records s)
       → ys ≡ index_of s ++ drop (2 * num_records s) xs
   unfolding index_of
-  put_in-order xs ys m small r t =
+  put-in_order xs ys m small r t =
       of_rows (map row_of (entries s)) xs (in_place s xs) ys (num_records s) (sym (rows-many s w)) (in_place s xs w m) r t (section-numbered s small)
 
   many-entries : length (index_of s) ≡ 2 * num_records s

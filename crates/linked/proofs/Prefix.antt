@@ -88,8 +88,8 @@ pub record Walked (s : List ℕ) (p : ℕ) : Type 0 where
   pub records : records_check (is_old s) (all_owners s) s (num_constants s) (records_at s) ≡ Valid p
 
 -- header and tables lie before it
-pub walked-least : (s : List ℕ) (p : ℕ) → Walked s p → records_at s ≤ p
-walked-least s p w = walk_up (is_old s) (all_owners s) s (num_constants s) (records_at s) p w.records
+pub walked_least : (s : List ℕ) (p : ℕ) → Walked s p → records_at s ≤ p
+walked_least s p w = walk_up (is_old s) (all_owners s) s (num_constants s) (records_at s) p w.records
 
 walked_of : (s : List ℕ) (a b p : ℕ) → header_check s ≡ Valid a → tables_check s ≡ Valid b → records_check (is_old s) (all_owners s) s (num_constants s) (records_at s) ≡ Valid p → Walked s p
 unfolding header_check tables_check
@@ -99,10 +99,10 @@ walked_of s a b p h k r =
     record { version = must-held _ _ _ _ _ h₂; reserved = (a, must-rest _ _ _ _ _ h₂); counts = must-held _ _ _ _ _ k₂; records = r }
 
 -- all that is left is 9
-pub walked-check : (s : List ℕ) (p : ℕ) → Walked s p → p ≤ length s → length s ≤ 16777216 → section_check s ≡ must (eqb p (length s)) 9 p (Valid p)
+pub walked_check : (s : List ℕ) (p : ℕ) → Walked s p → p ≤ length s → length s ≤ 16777216 → section_check s ≡ must (eqb p (length s)) 9 p (Valid p)
 unfolding section_check header_check tables_check walk_check chain bind must
-walked-check s p w h l =
-    let u = walked-least s p w in
+walked_check s p w h l =
+    let u = walked_least s p w in
     let i : 16 ≤ length s = omega arith in
     let f : constants_at s ≤ length s = omega arith in
     let k : records_at s ≤ length s = omega arith in
@@ -152,9 +152,9 @@ nine_walked s p h =
     (rw d.0 at w, omega arith, l)
 
 -- an accepted section: it came to its end
-pub accepted-walked : (s : List ℕ) → Accepted s → Walked s (length s)
+pub accepted_walked : (s : List ℕ) → Accepted s → Walked s (length s)
 unfolding section_check walk_check
-accepted-walked s h =
+accepted_walked s h =
     let k = chain-rest _ _ _ h in
     let b = bind-first _ _ _ (chain-rest _ _ _ k) in
     let e : b.0 ≡ length s = let z = must-rest _ _ _ _ _ b.2 in cc in
@@ -162,7 +162,7 @@ accepted-walked s h =
 
 module _ (p : ℕ) (s t : List ℕ) (g : Agree p s t) (w : Walked s p) where
   least : records_at s ≤ p
-  least = walked-least s p w
+  least = walked_least s p w
 
   -- what is read of the header and the tables
   record HeaderSame : Type 0 where
@@ -202,8 +202,8 @@ module _ (p : ℕ) (s t : List ℕ) (g : Agree p s t) (w : Walked s p) where
         records = rw (h.old, h.tables, h.records, h.functions, h.constants) (walk_alike p s t g (is_old s) (num_constants s) l (all_owners s) (records_at s) w.records);
       }
 
-  pub entries_same : entries t ≡ entries s
-  entries_same =
+  pub entries-same : entries t ≡ entries s
+  entries-same =
       let h = header_same in
       let n = owners_enough (is_old s) (num_records s) (read_functions s) w.counts in
       let r = rw n at (records_alike p s t g (is_old s) (num_constants s) (all_owners s) (records_at s) w.records) in
@@ -232,16 +232,16 @@ prefix s p h =
     let n = nine_walked s p h in
     let i = n.1 in
     let m = n.2 in
-    let u = walked-least s p n.0 in
+    let u = walked_least s p n.0 in
     let l : length (take p s) ≡ p = length-take-le p s (omega arith) in
     let w = walked_alike p s (take p s) (take_agrees p s) n.0 (omega arith) in
-    let c = walked-check (take p s) p w (omega arith) (omega arith) in
+    let c = walked_check (take p s) p w (omega arith) (omega arith) in
     record {
       least = omega arith;
       inside = i;
       long = l;
       accepted = c ∙ rw (eq-eqb p (length (take p s)) (sym l)) (ap Valid (sym l));
-      entries_are_same = entries_same p s (take p s) (take_agrees p s) n.0;
+      entries_are_same = entries-same p s (take p s) (take_agrees p s) n.0;
       old_is_same = old-same p s (take p s) (take_agrees p s) n.0;
     }
 
@@ -250,5 +250,5 @@ pub extension : (m r : List ℕ) → Accepted m → 0 < length r → length (m +
 unfolding must
 extension m r k h l =
     let a = length-append m r in
-    let w = walked_alike (length m) m (m ++ r) (join_agrees m r) (accepted-walked m k) (omega arith) in
-    walked-check (m ++ r) (length m) w (omega arith) l ∙ rw (ne_eqb (length m) (length (m ++ r)) (λ e. omega arith))
+    let w = walked_alike (length m) m (m ++ r) (join_agrees m r) (accepted_walked m k) (omega arith) in
+    walked_check (m ++ r) (length m) w (omega arith) l ∙ rw (ne_eqb (length m) (length (m ++ r)) (λ e. omega arith))

@@ -12,7 +12,7 @@ use Rattle.stackmap.specs.declared.Verdict.TheVariants.{Refused}
 use Rattle.stackmap.specs.Check.{section_check, Accepted}
 use Rattle.linked.specs.Linked.{Map, map_at, Cut, maps, refusal, before, cut_from, cut}
 use Rattle.linked.specs.Laws.{EachAccepted, joined, laid, contents, Joined, BoundSuffices}
-use Rattle.linked.proofs.Prefix.{prefix, extension, walked-least, accepted-walked}
+use Rattle.linked.proofs.Prefix.{prefix, extension, walked_least, accepted_walked}
 use Rattle.linked.proofs.Cutting.{Looked, last, more, wrong, looked, cut-last, cut-more, cut_wrong, bounds_same}
 
 pub bound_suffices : BoundSuffices
@@ -27,7 +27,7 @@ before-maps m (maps ns) ms h = (ns, refl, cc)
 before-maps m (refusal n p) ms h = none-there h
 
 accepted-least : (s : List ℕ) → Accepted s → 16 ≤ length s
-accepted-least s k = let l = walked-least s (length s) (accepted-walked s k) in omega arith
+accepted-least s k = let l = walked_least s (length s) (accepted_walked s k) in omega arith
 
 -- what cutting into maps tells of them: each is accepted, they stand one after the other, and are all bytes
 record Whole (at : ℕ) (s : List ℕ) (ms : List Map) : Type 0 where

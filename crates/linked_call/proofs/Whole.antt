@@ -35,9 +35,9 @@ old-told (m ∷ ms) e n p h = go (old-told ms e n p) (is_old m.content) refl h
     go rest true q g = (sym (ap number_of g), λ k. ap (λ (v : Verdict). refused_move (number_of v) (place_of v)) g)
     go rest false q g = rest g
 
-module _ (R : Restore) (pieces im : List ℕ) (t : Thread) where
+module _ (R : Restore) (im : List ℕ) (t : Thread) where
   refused-by : (c : Cut) → cut R.section ≡ c → (n p : ℕ) → ask_maps Refused (λ ms. none_old Refused ms (Valid (length R.section))) c ≡ Refused n p
-      → LinkedThreads R pieces im t (refused_move n p) im t.registers
+      → LinkedThreads R im t (refused_move n p) im t.registers
   unfolding linked_answer linked_image linked_registers thread_over thread_image_over thread_registers_over
   refused-by (refusal m q) e n p h =
       record {
@@ -50,19 +50,19 @@ module _ (R : Restore) (pieces im : List ℕ) (t : Thread) where
       record { answer_is = rw e (sym (o.1 _)); image_is = rw (e, o.1 _, o.0); registers_is = rw (e, o.1 _, o.0) }
 
   -- the refusal of a map, or 27, with image and registers as lent
-  pub linked_refused : (n p : ℕ) → linked_check R.section ≡ Refused n p → LinkedThreads R pieces im t (refused_move n p) im t.registers
+  pub linked_refused : (n p : ℕ) → linked_check R.section ≡ Refused n p → LinkedThreads R im t (refused_move n p) im t.registers
   unfolding linked_check
   linked_refused n p h = refused-by (cut R.section) refl n p h
 
   moved_by : (c : Cut) → cut R.section ≡ c → (x : ℕ) → ask_maps Refused (λ ms. none_old Refused ms (Valid (length R.section))) c ≡ Valid x
-      → (r : Move) (after registers : List ℕ) → ThreadsOver R pieces (maps_in R.section) im t r after registers → LinkedThreads R pieces im t r after registers
+      → (r : Move) (after registers : List ℕ) → ThreadsOver R (maps_in R.section) im t r after registers → LinkedThreads R im t r after registers
   unfolding linked_answer linked_image linked_registers maps_in is_valid
   moved_by (refusal m q) e x h r after registers o = absurd (true≢false (sym (ap is_valid h)))
   moved_by (maps ms) e x h r after registers o =
       let k = rw e at o in record { answer_is = rw e k.answer_is; image_is = rw e k.image_is; registers_is = rw e k.registers_is }
 
   -- right maps, and what the call comes to over them
-  pub linked_moved : (x : ℕ) → linked_check R.section ≡ Valid x → {r : Move} {after registers : List ℕ} → ThreadsOver R pieces (maps_in R.section) im t r after registers
-      → LinkedThreads R pieces im t r after registers
+  pub linked_moved : (x : ℕ) → linked_check R.section ≡ Valid x → {r : Move} {after registers : List ℕ} → ThreadsOver R (maps_in R.section) im t r after registers
+      → LinkedThreads R im t r after registers
   unfolding linked_check
   linked_moved x h o = moved_by (cut R.section) refl x h _ _ _ o

@@ -31,7 +31,7 @@ pub fn check(section: &[u8]) -> Verdict
 pub fn relocate_linked(
     section: &[u8],
     image: &mut [u8],
-    pieces: &[u64],
+    first: u64,
     olds: &[u64],
     news: &[u64],
     machine: Machine,
@@ -40,7 +40,7 @@ pub fn relocate_linked(
     settings: Settings,
 ) -> Move
     requires { settings.most ≤ pairs_most }
-    ensures { LinkedThreads (restore section.now olds.now news.now 0 settings) pieces.now image.old (thread_of machine list.now registers.old) result image.new registers.new }
+    ensures { LinkedThreads (restore section.now olds.now news.now first settings) image.old (thread_of machine list.now registers.old) result image.new registers.new }
 {
     let count = list::count(list, registers);
     let mut keys = [0u64; FRAMES_MOST];
@@ -50,7 +50,7 @@ pub fn relocate_linked(
     match linked_search::find_all(section, &keys, count, &mut hits, &mut sites) {
         Verdict::Refused(n, p) => moving::refused(n, p),
         Verdict::Valid(_) => linked_thread::of_maps(
-            section, image, registers, pieces, olds, news, machine, list, count, &keys, &hits,
+            section, image, registers, first, olds, news, machine, list, count, &keys, &hits,
             &sites, settings,
         ),
     }

@@ -13,9 +13,9 @@ use Rattle.thread.specs.Code.{Sited}
 use Rattle.thread.proofs.Parts.{stopped-at}
 use Rattle.linked_moves.specs.Thread.{records_over, extent_over}
 use Rattle.linked_moves.specs.Code.{SitedIn}
-use Rattle.linked_sites.specs.declared.Site.{Site}
-use Rattle.linked_sites.specs.Sites.{Here, SiteBy, SiteOf}
-use Rattle.linked_sites.proofs.Lent.{AtSite}
+use Rattle.linked_frames.specs.declared.Site.{Site}
+use Rattle.linked_frames.specs.Sites.{Here, SiteBy, SiteOf}
+use Rattle.linked_frames.proofs.ByMap.{AtSite}
 
 -- its site is no refusal
 pub sited_site : {s : List ℕ} {ms : List Map} {f : Stopped} {r : Site} → SitedIn ms f → SiteOf s ms f.frame.address r → AtSite s ms f r

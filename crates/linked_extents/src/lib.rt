@@ -55,7 +55,7 @@ fn extent(
     ensures { (result.start ≡ (extent_over (maps_in s.now) (stopped_at (thread_of machine frames.now registers.now) k)).start)
         × (result.end ≡ (extent_over (maps_in s.now) (stopped_at (thread_of machine frames.now registers.now) k)).end) }
 {
-    let site = linked_sites::site_of(s, frames, count, keys, hits, sites, k);
+    let site = linked_frames::site_of(s, frames, count, keys, hits, sites, k);
     let from = site.from;
     let to = site.to;
     let frame = list::frame_at(machine, frames, k);

@@ -21,7 +21,7 @@ use Rattle.questions_find.proofs.Ends.{Fronted, front_refused, front_right, fron
 use Rattle.linked.specs.declared.FoundIn.{FoundIn}
 use Rattle.linked.specs.Linked.{Map, map_at, Cut, maps, refusal, before, cut, ask_maps}
 use Rattle.linked.specs.Find.{none_old, all_with_address, not_found_in, first_of_all, by_address_in}
-use Rattle.linked.proofs.Prefix.{nine_walked, walked-least, prefix}
+use Rattle.linked.proofs.Prefix.{nine_walked, walked_least, prefix}
 use Rattle.linked.proofs.Cutting.{cut_rest, rest-start, rest-last, rest_wrong, rest_more}
 use Rattle.linked.proofs.Places.{section_within}
 use Rattle.linked_find.specs.Added.{added, added_all}
@@ -33,7 +33,7 @@ unfolding front_check all_records header_check tables_check chain must
 front_nine t p h =
     let n = nine_walked t p h in
     let w = n.0 in
-    let u = walked-least t p w in
+    let u = walked_least t p w in
     let i = n.1 in
     let l = n.2 in
     let a : 16 ≤ length t = omega arith in
@@ -97,8 +97,8 @@ module _ (s : List ℕ) (a : ℕ) where
 
   module _ {at i : ℕ} {f : FoundIn} (w : Asking at i f) (r : Scanned) (e : r ≡ scanned (drop at s) a) where
     -- a refusal is moved to its place in the whole
-    pub turn-refused : (r.number ≡ 0 → ⊥) → not_found_in r.number (at + r.place) ≡ by_address_in s a
-    turn-refused z = sym (w.same ∙ rw (rest_wrong s at r.number r.place (front_refused (drop at s) a r e z) (not_nine (drop at s) a r e z)))
+    pub turn_refused : (r.number ≡ 0 → ⊥) → not_found_in r.number (at + r.place) ≡ by_address_in s a
+    turn_refused z = sym (w.same ∙ rw (rest_wrong s at r.number r.place (front_refused (drop at s) a r e z) (not_nine (drop at s) a r e z)))
 
     -- the last map
     pub turn_last : r.number ≡ 0 → at + r.place ≡ length s → added (is_old (drop at s)) i at r.hits f ≡ by_address_in s a

@@ -1,3 +1,5 @@
+pub mod Sited
+pub mod Plain
 pub mod ByMap
 pub mod Positions
 pub mod Judging

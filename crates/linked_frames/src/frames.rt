@@ -8,21 +8,21 @@ ghost use Rattle.thread.specs.Thread.{stopped_at, frames_from, thread_of};
 ghost use Rattle.linked_moves.specs.Thread.{answer_over, moved_over, judged_over, pointers_over, final_over, final_registers_over};
 ghost use Rattle.linked_moves.specs.Code.{maps_in, ReadyIn, registers_after};
 
-use linked_frame::on_piece;
+use crate::map;
 use linked_moves::SITES_LENGTH;
 use moves::Move;
 use relocate::{Machine, REGISTERS, Settings};
 use relocate_frame::moving;
 use thread::FRAMES_MOST;
-use thread_marks::HITS_LENGTH;
 use thread_search::list;
+use thread_search::search::HITS_LENGTH;
 
-// The frame at the position k, with its own registers: 10, 15, or what its own map says of it on its own piece.
+// The frame at the position k, with its own registers: 10, 15, or what its own map says.
 fn judge_frame(
     s: &[u8],
     image: &[u8],
     registers: &[u64],
-    pieces: &[u64],
+    first: u64,
     olds: &[u64],
     news: &[u64],
     machine: Machine,
@@ -34,10 +34,10 @@ fn judge_frame(
     k: usize,
     settings: Settings,
 ) -> Move
-    requires { ReadyIn (restore s.now olds.now news.now 0 settings) pieces.now (maps_in s.now) machine (length image.now) (length registers.now) frames.now count keys.now hits.now sites.now × (k < count) }
-    ensures { result ≡ answer_over (restore s.now olds.now news.now 0 settings) pieces.now (maps_in s.now) image.now (stopped_at (thread_of machine frames.now registers.now) k) }
+    requires { ReadyIn (restore s.now olds.now news.now first settings) (maps_in s.now) machine (length image.now) (length registers.now) frames.now count keys.now hits.now sites.now × (k < count) }
+    ensures { result ≡ answer_over (restore s.now olds.now news.now first settings) (maps_in s.now) image.now (stopped_at (thread_of machine frames.now registers.now) k) }
 {
-    let site = linked_sites::site_of(s, frames, count, keys, hits, sites, k);
+    let site = crate::site_of(s, frames, count, keys, hits, sites, k);
     if site.number != 0 {
         return moving::refused(site.number, 0);
     }
@@ -45,12 +45,12 @@ fn judge_frame(
     let to = site.to;
     let frame = list::frame_at(machine, frames, k);
     let p = REGISTERS * k;
-    on_piece::judge(
+    map::judge(
         &s[from..to],
         site.found,
         image,
         &registers[p..p + REGISTERS],
-        pieces,
+        first,
         olds,
         news,
         frame,
@@ -63,7 +63,7 @@ pub fn judge(
     s: &[u8],
     image: &[u8],
     registers: &[u64],
-    pieces: &[u64],
+    first: u64,
     olds: &[u64],
     news: &[u64],
     machine: Machine,
@@ -74,15 +74,15 @@ pub fn judge(
     sites: &[usize; SITES_LENGTH],
     settings: Settings,
 ) -> Move
-    requires { ReadyIn (restore s.now olds.now news.now 0 settings) pieces.now (maps_in s.now) machine (length image.now) (length registers.now) frames.now count keys.now hits.now sites.now }
-    ensures { result ≡ judged_over (restore s.now olds.now news.now 0 settings) pieces.now (maps_in s.now) image.now 0 (frames_from (thread_of machine frames.now registers.now) count 0)
-        (accepted_move (pointers_over (restore s.now olds.now news.now 0 settings) pieces.now (maps_in s.now) image.now (frames_from (thread_of machine frames.now registers.now) count 0))) }
+    requires { ReadyIn (restore s.now olds.now news.now first settings) (maps_in s.now) machine (length image.now) (length registers.now) frames.now count keys.now hits.now sites.now }
+    ensures { result ≡ judged_over (restore s.now olds.now news.now first settings) (maps_in s.now) image.now 0 (frames_from (thread_of machine frames.now registers.now) count 0)
+        (accepted_move (pointers_over (restore s.now olds.now news.now first settings) (maps_in s.now) image.now (frames_from (thread_of machine frames.now registers.now) count 0))) }
 {
     let mut sum: usize = 0;
     let mut k: usize = 0;
     while k < count {
         let m = judge_frame(
-            s, image, registers, pieces, olds, news, machine, frames, count, keys, hits, sites, k,
+            s, image, registers, first, olds, news, machine, frames, count, keys, hits, sites, k,
             settings,
         );
         if m.number != 0 {
@@ -98,12 +98,12 @@ pub fn judge(
     }
 }
 
-// Moves the frame at the position k on its own piece and in its own registers.
+// Moves the frame at the position k in its own registers.
 fn move_frame(
     s: &[u8],
     image: &mut [u8],
     registers: &mut [u64],
-    pieces: &[u64],
+    first: u64,
     olds: &[u64],
     news: &[u64],
     machine: Machine,
@@ -115,11 +115,11 @@ fn move_frame(
     k: usize,
     settings: Settings,
 )
-    requires { ReadyIn (restore s.now olds.now news.now 0 settings) pieces.now (maps_in s.now) machine (length image.old) (length registers.old) frames.now count keys.now hits.now sites.now × (k < count) }
-    ensures { (image.new ≡ moved_over (restore s.now olds.now news.now 0 settings) pieces.now (maps_in s.now) image.old (stopped_at (thread_of machine frames.now registers.old) k))
-        × (registers.new ≡ registers_after (restore s.now olds.now news.now 0 settings) pieces.now (maps_in s.now) image.old (thread_of machine frames.now registers.old) k) }
+    requires { ReadyIn (restore s.now olds.now news.now first settings) (maps_in s.now) machine (length image.old) (length registers.old) frames.now count keys.now hits.now sites.now × (k < count) }
+    ensures { (image.new ≡ moved_over (restore s.now olds.now news.now first settings) (maps_in s.now) image.old (stopped_at (thread_of machine frames.now registers.old) k))
+        × (registers.new ≡ registers_after (restore s.now olds.now news.now first settings) (maps_in s.now) image.old (thread_of machine frames.now registers.old) k) }
 {
-    let site = linked_sites::site_of(s, frames, count, keys, hits, sites, k);
+    let site = crate::site_of(s, frames, count, keys, hits, sites, k);
     if site.number != 0 {
         return;
     }
@@ -127,12 +127,12 @@ fn move_frame(
     let end = site.to;
     let frame = list::frame_at(machine, frames, k);
     let p = REGISTERS * k;
-    on_piece::relocate(
+    map::relocate(
         &s[begin..end],
         site.found,
         image,
         &mut registers[p..p + REGISTERS],
-        pieces,
+        first,
         olds,
         news,
         frame,
@@ -145,7 +145,7 @@ pub fn move_all(
     s: &[u8],
     image: &mut [u8],
     registers: &mut [u64],
-    pieces: &[u64],
+    first: u64,
     olds: &[u64],
     news: &[u64],
     machine: Machine,
@@ -156,14 +156,14 @@ pub fn move_all(
     sites: &[usize; SITES_LENGTH],
     settings: Settings,
 )
-    requires { ReadyIn (restore s.now olds.now news.now 0 settings) pieces.now (maps_in s.now) machine (length image.old) (length registers.old) frames.now count keys.now hits.now sites.now }
-    ensures { (image.new ≡ final_over (restore s.now olds.now news.now 0 settings) pieces.now (maps_in s.now) (frames_from (thread_of machine frames.now registers.old) count 0) image.old)
-        × (registers.new ≡ flatten (final_registers_over (restore s.now olds.now news.now 0 settings) pieces.now (maps_in s.now) (frames_from (thread_of machine frames.now registers.old) count 0) image.old)) }
+    requires { ReadyIn (restore s.now olds.now news.now first settings) (maps_in s.now) machine (length image.old) (length registers.old) frames.now count keys.now hits.now sites.now }
+    ensures { (image.new ≡ final_over (restore s.now olds.now news.now first settings) (maps_in s.now) (frames_from (thread_of machine frames.now registers.old) count 0) image.old)
+        × (registers.new ≡ flatten (final_registers_over (restore s.now olds.now news.now first settings) (maps_in s.now) (frames_from (thread_of machine frames.now registers.old) count 0) image.old)) }
 {
     let mut next: usize = 0;
     while next < count {
         move_frame(
-            s, image, registers, pieces, olds, news, machine, frames, count, keys, hits, sites,
+            s, image, registers, first, olds, news, machine, frames, count, keys, hits, sites,
             next, settings,
         );
         next += 1;

@@ -1,3 +1,2 @@
 pub mod OneMap
-pub mod OnePiece
 pub mod Judged

@@ -14,11 +14,11 @@ use Rattle.relocate.specs.declared.Machine.{Machine}
 use Rattle.relocate.specs.Limits.{register_count}
 use Rattle.relocate.specs.Restore.{Restore}
 use Rattle.relocate.specs.Stopped.{Stopped}
+use Rattle.relocate.specs.Plan.{image_right}
 use Rattle.linked.specs.Linked.{Map, cut, ask_maps}
 use Rattle.linked.specs.Find.{MapEntry, all_with_address}
 use Rattle.thread.specs.Thread.{Thread, frames_most, frame_numbers, stopped_at, apart}
 use Rattle.thread.specs.Code.{Gathered, hits_at, Sited}
-use Rattle.pieces.specs.Pieces.{pieces_right}
 use Rattle.linked_moves.specs.Thread.{records_over, allowed_new, moved_registers_over, extent_over, judged_over, pointers_over, final_over, final_registers_over, thread_over, thread_image_over, thread_registers_over}
 
 -- the maps of a section, none where it is refused
@@ -63,11 +63,11 @@ pub record LookedIn (s : List ℕ) (ms : List Map) (ns : List ℕ) (count : ℕ)
   pub found : SoughtIn ms keys count hits sites
 
 -- All that a frame's move relies on: 33, 13, 14 and 25 have passed too, of an image of `long` bytes and `wide` registers.
-pub record ReadyIn (R : Restore) (pieces : List ℕ) (ms : List Map) (machine : Machine) (long wide : ℕ) (ns : List ℕ) (count : ℕ) (keys hits sites : List ℕ) : Type 0 where
+pub record ReadyIn (R : Restore) (ms : List Map) (machine : Machine) (long wide : ℕ) (ns : List ℕ) (count : ℕ) (keys hits sites : List ℕ) : Type 0 where
   pub looked : LookedIn R.section ms ns count keys hits sites
   pub allowed_right : allowed_new R machine ≡ true
   pub most_right : R.settings.most ≤ pairs_most
-  pub pieces_right : pieces_right pieces long ≡ true
+  pub image_right : image_right R.first long ≡ true
   pub table_right : table_right R.olds R.news ≡ true
   pub registers_right : wide ≡ register_count * count
 
@@ -81,22 +81,22 @@ pub record EachSitedIn (ms : List Map) (t : Thread) (count : ℕ) : Type 0 where
   pub at : (k : ℕ) → k < count → SitedIn ms (stopped_at t k)
 
 -- the thread's registers after the frame at the position k is moved
-abbrev pub registers_after : Restore → List ℕ → List Map → List ℕ → Thread → ℕ → List ℕ
-registers_after R pieces ms im t k = splice t.registers (register_count * k) register_count (moved_registers_over R pieces ms im (stopped_at t k))
+abbrev pub registers_after : Restore → List Map → List ℕ → Thread → ℕ → List ℕ
+registers_after R ms im t k = splice t.registers (register_count * k) register_count (moved_registers_over R ms im (stopped_at t k))
 
 -- what is left to do once the list is right: the frames, then 26
-unfoldable pub frames_answer_over : Restore → List ℕ → List Map → List ℕ → List Stopped → Move
-frames_answer_over R pieces ms im fs =
-    judged_over R pieces ms im 0 fs (apart 0 [] (map (extent_over ms) fs) (accepted_move (pointers_over R pieces ms im fs)))
+unfoldable pub frames_answer_over : Restore → List Map → List ℕ → List Stopped → Move
+frames_answer_over R ms im fs =
+    judged_over R ms im 0 fs (apart 0 [] (map (extent_over ms) fs) (accepted_move (pointers_over R ms im fs)))
 
 -- an answer, and the image and the registers that are left, are those of the frames
-pub record FramedOver (R : Restore) (pieces : List ℕ) (ms : List Map) (im : List ℕ) (fs : List Stopped) (rs : List ℕ) (r : Move) (after registers : List ℕ) : Type 0 where
-  pub answer_is : r ≡ frames_answer_over R pieces ms im fs
-  pub image_is : after ≡ cond (eqb (frames_answer_over R pieces ms im fs).number 0) (final_over R pieces ms fs im) im
-  pub registers_is : registers ≡ cond (eqb (frames_answer_over R pieces ms im fs).number 0) (flatten (final_registers_over R pieces ms fs im)) rs
+pub record FramedOver (R : Restore) (ms : List Map) (im : List ℕ) (fs : List Stopped) (rs : List ℕ) (r : Move) (after registers : List ℕ) : Type 0 where
+  pub answer_is : r ≡ frames_answer_over R ms im fs
+  pub image_is : after ≡ cond (eqb (frames_answer_over R ms im fs).number 0) (final_over R ms fs im) im
+  pub registers_is : registers ≡ cond (eqb (frames_answer_over R ms im fs).number 0) (flatten (final_registers_over R ms fs im)) rs
 
 -- those of the call, once the section is cut into these maps
-pub record ThreadsOver (R : Restore) (pieces : List ℕ) (ms : List Map) (im : List ℕ) (t : Thread) (r : Move) (after registers : List ℕ) : Type 0 where
-  pub answer_is : r ≡ thread_over R pieces ms im t
-  pub image_is : after ≡ thread_image_over R pieces ms im t
-  pub registers_is : registers ≡ thread_registers_over R pieces ms im t
+pub record ThreadsOver (R : Restore) (ms : List Map) (im : List ℕ) (t : Thread) (r : Move) (after registers : List ℕ) : Type 0 where
+  pub answer_is : r ≡ thread_over R ms im t
+  pub image_is : after ≡ thread_image_over R ms im t
+  pub registers_is : registers ≡ thread_registers_over R ms im t

@@ -1,6 +1,5 @@
--- A whole thread in one call over a linked section, on a stack in one piece or several: all frames of the list move, each by its own map and on
--- its own piece, or none does. The section of the restore is the linked one; table and settings are one for all maps and pieces. The pieces
--- are a list of numbers, and take the place of the restore's first address, which is not read.
+-- A whole thread in one call over a linked section: all frames of the list move, each by its own map, or none does. The section of the
+-- restore is the linked one; table, first address and settings are one for all maps.
 use Rattle.std.specs.Prelude.{ℕ, suc, ◌+◌, Bool, cond, ◌&&◌, eqb, length}
 use mathlib.Core.List.{List, [], ◌∷◌, map, flatten}
 use Rattle.stackmap.specs.Verdict.{need}
@@ -10,14 +9,12 @@ use Rattle.moves.specs.Settle.{refused_move, accepted_move}
 use Rattle.relocate.specs.declared.Machine.{Machine}
 use Rattle.relocate.specs.Restore.{Restore, same_machine}
 use Rattle.relocate.specs.Stopped.{Stopped, cursor}
-use Rattle.relocate.specs.Plan.{stack_size}
-use Rattle.relocate.specs.Relocation.{Extent, extent_by, extent_of}
+use Rattle.relocate.specs.Plan.{image_right}
+use Rattle.relocate.specs.Relocation.{answer, moved, moved_registers, Extent, extent_by, extent_of}
 use Rattle.relocate.specs.Reorder.{with_section}
 use Rattle.linked.specs.Linked.{Map, cut, ask_maps}
 use Rattle.linked.specs.Find.{MapEntry, all_with_address, none_old}
 use Rattle.thread.specs.Thread.{Thread, list_right, frames_of, passes, apart}
-use Rattle.pieces.specs.declared.Piece.{Piece}
-use Rattle.pieces.specs.Pieces.{pieces_of, pieces_right, piece_of, answer_on, moved_on, moved_registers_on}
 
 -- One frame.
 
@@ -25,10 +22,10 @@ use Rattle.pieces.specs.Pieces.{pieces_of, pieces_right, piece_of, answer_on, mo
 unfoldable pub records_over : List Map → Stopped → List MapEntry
 records_over ms f = all_with_address f.frame.address 0 ms
 
--- by these: the first where there is none, the second where there are several, and else what the one record in its own map gives
-abbrev pub by_map : {A : Type 0} → A → A → (MapEntry → A) → List MapEntry → A
+-- by these: the first where there is none, the second where there are several, and else what the bytes of the record's own map give
+abbrev pub by_map : {A : Type 0} → A → A → (List ℕ → A) → List MapEntry → A
 by_map none several one [] = none
-by_map none several one (x ∷ []) = one x
+by_map none several one (x ∷ []) = one x.map.content
 by_map none several one (x ∷ y ∷ xs) = several
 
 -- no byte is in it
@@ -37,28 +34,22 @@ no_extent f = extent_by (cursor f).sp []
 
 -- its extent, by its own map
 unfoldable pub extent_over : List Map → Stopped → Extent
-extent_over ms f = by_map (no_extent f) (no_extent f) (λ x. extent_of x.map.content f) (records_over ms f)
+extent_over ms f = by_map (no_extent f) (no_extent f) (λ s. extent_of s f) (records_over ms f)
 
 -- 33: version 3 or the thread's machine is not allowed
 unfoldable pub allowed_new : Restore → Machine → Bool
 allowed_new R m = R.settings.version3 && same_machine m R.settings.machine
 
--- the piece that its extent is inside, by its one record; or one that it is not inside
-abbrev pub piece_for : List ℕ → Stopped → MapEntry → Piece
-piece_for pieces f x = piece_of (cursor f).sp (stack_size x.entry) (pieces_of pieces)
-
-module _ (R : Restore) (pieces : List ℕ) (ms : List Map) where
-  -- 10 and 15 count over all maps; else the frame's plain move by its own map and on its own piece, and its answer, its image and its registers
+module _ (R : Restore) (ms : List Map) where
+  -- 10 and 15 count over all maps; else the frame's plain move by its own map, and its answer, its image and its registers
   unfoldable pub answer_over : List ℕ → Stopped → Move
-  answer_over im f =
-      by_map (refused_move 10 0) (refused_move 15 0) (λ x. answer_on (with_section R x.map.content) (piece_for pieces f x) im f) (records_over ms f)
+  answer_over im f = by_map (refused_move 10 0) (refused_move 15 0) (λ s. answer (with_section R s) im f) (records_over ms f)
 
   unfoldable pub moved_over : List ℕ → Stopped → List ℕ
-  moved_over im f = by_map im im (λ x. moved_on (with_section R x.map.content) (piece_for pieces f x) im f) (records_over ms f)
+  moved_over im f = by_map im im (λ s. moved (with_section R s) im f) (records_over ms f)
 
   unfoldable pub moved_registers_over : List ℕ → Stopped → List ℕ
-  moved_registers_over im f =
-      by_map f.registers f.registers (λ x. moved_registers_on (with_section R x.map.content) (piece_for pieces f x) im f) (records_over ms f)
+  moved_registers_over im f = by_map f.registers f.registers (λ s. moved_registers (with_section R s) im f) (records_over ms f)
 
   -- Lists of frames, as for one section: the moves one after another, each on the image as the last one left it.
 
@@ -86,7 +77,7 @@ module _ (R : Restore) (pieces : List ℕ) (ms : List Map) where
     thread_over t =
         none_old refused_move ms
         (need (allowed_new R t.machine) (refused_move 33 0)
-        (need (pieces_right pieces (length im)) (refused_move 13 0)
+        (need (image_right R.first (length im)) (refused_move 13 0)
         (need (table_right R.olds R.news) (refused_move 14 0)
         (need (list_right t.list t.registers) (refused_move 25 0)
         (judged_over 0 (frames_of t)
@@ -102,12 +93,12 @@ module _ (R : Restore) (pieces : List ℕ) (ms : List Map) where
     thread_registers_over t = cond (eqb (thread_over t).number 0) (flatten (final_registers_over (frames_of t) im)) t.registers
 
 -- The whole call: the maps' refusal, if any, first. A refusal leaves image and registers as they were lent.
-module _ (R : Restore) (pieces im : List ℕ) (t : Thread) where
+module _ (R : Restore) (im : List ℕ) (t : Thread) where
   unfoldable pub linked_answer : Move
-  linked_answer = ask_maps refused_move (λ ms. thread_over R pieces ms im t) (cut R.section)
+  linked_answer = ask_maps refused_move (λ ms. thread_over R ms im t) (cut R.section)
 
   unfoldable pub linked_image : List ℕ
-  linked_image = ask_maps (λ n p. im) (λ ms. thread_image_over R pieces ms im t) (cut R.section)
+  linked_image = ask_maps (λ n p. im) (λ ms. thread_image_over R ms im t) (cut R.section)
 
   unfoldable pub linked_registers : List ℕ
-  linked_registers = ask_maps (λ n p. t.registers) (λ ms. thread_registers_over R pieces ms im t) (cut R.section)
+  linked_registers = ask_maps (λ n p. t.registers) (λ ms. thread_registers_over R ms im t) (cut R.section)

@@ -27,7 +27,7 @@ use Rattle.moves.specs.Window.{part}
 use Rattle.thread_search.proofs.Walked.{section_stop}
 use Rattle.linked.specs.Linked.{Map, map_at, Cut, maps, refusal, before, cut}
 use Rattle.linked.specs.Find.{none_old}
-use Rattle.linked.proofs.Prefix.{prefix, header_low, tables-low, walk_low, walked-least, accepted-walked}
+use Rattle.linked.proofs.Prefix.{prefix, header_low, tables-low, walk_low, walked_least, accepted_walked}
 use Rattle.linked.proofs.Places.{section_within}
 use Rattle.linked.proofs.Cutting.{cut_rest, rest-start, rest-last, rest_wrong, rest_more}
 use Rattle.linked_moves.specs.Code.{maps_in, Standing, AllStanding}
@@ -94,7 +94,7 @@ module _ (s : List ℕ) (at e : ℕ) where
       let f : Fronted (drop at s) 0 e (fold (noted 0) (entries (drop at s)) no_hits) = record { front = h; kept = refl } in
       let a = front_whole f q in
       let t : content ≡ drop at s = take_all e (drop at s) (omega arith) in
-      let u = walked-least (drop at s) (length (drop at s)) (accepted-walked (drop at s) a) in
+      let u = walked_least (drop at s) (length (drop at s)) (accepted_walked (drop at s) a) in
       let k : length content ≡ e = rw t (sym q) in
       let b : Accepted content = rw t a in
       record {

@@ -12,7 +12,7 @@ use linked_moves::SITES_LENGTH;
 use moves::Move;
 use moves_table::table;
 use relocate::{Machine, Settings};
-use relocate_frame::moving;
+use relocate_frame::{extent, moving};
 use thread::FRAMES_MOST;
 use thread_search::list;
 use thread_search::search::HITS_LENGTH;
@@ -22,7 +22,7 @@ fn move_frames(
     s: &[u8],
     image: &mut [u8],
     registers: &mut [u64],
-    pieces: &[u64],
+    first: u64,
     olds: &[u64],
     news: &[u64],
     machine: Machine,
@@ -33,11 +33,11 @@ fn move_frames(
     sites: &[usize; SITES_LENGTH],
     settings: Settings,
 ) -> Move
-    requires { ReadyIn (restore s.now olds.now news.now 0 settings) pieces.now (maps_in s.now) machine (length image.old) (length registers.old) list.now count keys.now hits.now sites.now }
-    ensures { FramedOver (restore s.now olds.now news.now 0 settings) pieces.now (maps_in s.now) image.old (frames_from (thread_of machine list.now registers.old) count 0) registers.old result image.new registers.new }
+    requires { ReadyIn (restore s.now olds.now news.now first settings) (maps_in s.now) machine (length image.old) (length registers.old) list.now count keys.now hits.now sites.now }
+    ensures { FramedOver (restore s.now olds.now news.now first settings) (maps_in s.now) image.old (frames_from (thread_of machine list.now registers.old) count 0) registers.old result image.new registers.new }
 {
     let judged = frames::judge(
-        s, image, registers, pieces, olds, news, machine, list, count, keys, hits, sites, settings,
+        s, image, registers, first, olds, news, machine, list, count, keys, hits, sites, settings,
     );
     if judged.number != 0 {
         return judged;
@@ -49,7 +49,7 @@ fn move_frames(
         return moving::refused(26, shared);
     }
     frames::move_all(
-        s, image, registers, pieces, olds, news, machine, list, count, keys, hits, sites, settings,
+        s, image, registers, first, olds, news, machine, list, count, keys, hits, sites, settings,
     );
     judged
 }
@@ -59,7 +59,7 @@ fn of_allowed(
     s: &[u8],
     image: &mut [u8],
     registers: &mut [u64],
-    pieces: &[u64],
+    first: u64,
     olds: &[u64],
     news: &[u64],
     machine: Machine,
@@ -71,14 +71,14 @@ fn of_allowed(
     settings: Settings,
 ) -> Move
     requires { LookedIn s.now (maps_in s.now) list.now count keys.now hits.now sites.now × (list_right list.now registers.old ≡ true → count ≡ length list.now / frame_numbers)
-        × (allowed_new (restore s.now olds.now news.now 0 settings) machine ≡ true) × (settings.most ≤ pairs_most) }
-    ensures { ThreadsOver (restore s.now olds.now news.now 0 settings) pieces.now (maps_in s.now) image.old (thread_of machine list.now registers.old) result image.new registers.new }
+        × (allowed_new (restore s.now olds.now news.now first settings) machine ≡ true) × (settings.most ≤ pairs_most) }
+    ensures { ThreadsOver (restore s.now olds.now news.now first settings) (maps_in s.now) image.old (thread_of machine list.now registers.old) result image.new registers.new }
 {
-    if pieces_find::right(pieces, image.len()) {
+    if extent::image_right(first, image.len()) {
         if table::table_right(olds, news) {
             if list::list_right(list, registers) {
                 return move_frames(
-                    s, image, registers, pieces, olds, news, machine, list, count, keys, hits,
+                    s, image, registers, first, olds, news, machine, list, count, keys, hits,
                     sites, settings,
                 );
             }
@@ -94,7 +94,7 @@ pub fn of_maps(
     s: &[u8],
     image: &mut [u8],
     registers: &mut [u64],
-    pieces: &[u64],
+    first: u64,
     olds: &[u64],
     news: &[u64],
     machine: Machine,
@@ -106,11 +106,11 @@ pub fn of_maps(
     settings: Settings,
 ) -> Move
     requires { LookedIn s.now (maps_in s.now) list.now count keys.now hits.now sites.now × (list_right list.now registers.old ≡ true → count ≡ length list.now / frame_numbers) × (settings.most ≤ pairs_most) }
-    ensures { ThreadsOver (restore s.now olds.now news.now 0 settings) pieces.now (maps_in s.now) image.old (thread_of machine list.now registers.old) result image.new registers.new }
+    ensures { ThreadsOver (restore s.now olds.now news.now first settings) (maps_in s.now) image.old (thread_of machine list.now registers.old) result image.new registers.new }
 {
     if relocate_frame::allowed(false, machine, settings) {
         return of_allowed(
-            s, image, registers, pieces, olds, news, machine, list, count, keys, hits, sites,
+            s, image, registers, first, olds, news, machine, list, count, keys, hits, sites,
             settings,
         );
     }

@@ -44,16 +44,16 @@ unfolding no_counts must
 counts-valid [] at h = (at, refl)
 counts-valid (f ∷ fs) at h = let r = counts-valid fs (at + 25) h.1 in (r.0, rw (eq-eqb _ _ h.0) r.1)
 
-sizes-valid : (ls : List Location) (at : ℕ) → Each (SizeRight true) ls → (e : ℕ) × (small_sizes ls at ≡ Valid e)
+sizes_valid : (ls : List Location) (at : ℕ) → Each (SizeRight true) ls → (e : ℕ) × (small_sizes ls at ≡ Valid e)
 unfolding small_sizes must
-sizes-valid [] at h = (at, refl)
-sizes-valid (l ∷ ls) at h = let r = sizes-valid ls (at + 10) h.1 in (r.0, rw (le-leb _ _ h.0) r.1)
+sizes_valid [] at h = (at, refl)
+sizes_valid (l ∷ ls) at h = let r = sizes_valid ls (at + 10) h.1 in (r.0, rw (le-leb _ _ h.0) r.1)
 
 all_sizes_valid : (rs : List Record) (at : ℕ) → Sizes true rs → (e : ℕ) × (all_small_sizes rs at ≡ Valid e)
 unfolding all_small_sizes chain
 all_sizes_valid [] at h = (at, refl)
 all_sizes_valid (r ∷ rs) at h =
-    let x = sizes-valid r.locations (at + 13) h.0 in
+    let x = sizes_valid r.locations (at + 13) h.0 in
     let y = all_sizes_valid rs (at + size (record_items r)) h.1 in
     (y.0, rw x.1 y.1)
 
@@ -70,16 +70,16 @@ unfolding no_counts
 valid-counts [] at e h = tt
 valid-counts (f ∷ fs) at e h = (eqb-true _ _ (must-held _ _ _ _ _ h), valid-counts fs (at + 25) e (must-rest _ _ _ _ _ h))
 
-valid-sizes : (ls : List Location) (at e : ℕ) → small_sizes ls at ≡ Valid e → Each (SizeRight true) ls
+valid_sizes : (ls : List Location) (at e : ℕ) → small_sizes ls at ≡ Valid e → Each (SizeRight true) ls
 unfolding small_sizes
-valid-sizes [] at e h = tt
-valid-sizes (l ∷ ls) at e h = (leb-true _ _ (must-held _ _ _ _ _ h), valid-sizes ls (at + 10) e (must-rest _ _ _ _ _ h))
+valid_sizes [] at e h = tt
+valid_sizes (l ∷ ls) at e h = (leb-true _ _ (must-held _ _ _ _ _ h), valid_sizes ls (at + 10) e (must-rest _ _ _ _ _ h))
 
 valid_all_sizes : (rs : List Record) (at e : ℕ) → all_small_sizes rs at ≡ Valid e → Sizes true rs
 unfolding all_small_sizes
 valid_all_sizes [] at e h = tt
 valid_all_sizes (r ∷ rs) at e h =
-    (valid-sizes r.locations (at + 13) _ (chain_first _ _ _ h).1, valid_all_sizes rs (at + size (record_items r)) e (chain-rest _ _ _ h))
+    (valid_sizes r.locations (at + 13) _ (chain_first _ _ _ h).1, valid_all_sizes rs (at + size (record_items r)) e (chain-rest _ _ _ h))
 
 pub old_tells : (old : Bool) (fs : List Function) (rs : List Record) (at e : ℕ) → old_right old fs rs at ≡ Valid e → Counts old fs × Sizes old rs
 unfolding old_right

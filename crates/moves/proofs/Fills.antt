@@ -86,9 +86,9 @@ pub content-unknown : (table : ℕ → Option ℕ) (d v : ℕ) → table v ≡ n
 unfolding content_of
 content-unknown table d v e = let h : is_none (table v) ≡ true = rw e in rw h
 
-pub put-turn : (live ds cs : List ℕ) (n k : ℕ) (w w' W : State) → k < n → w' ≡ put_one live ds cs k w
+pub put_turn : (live ds cs : List ℕ) (n k : ℕ) (w w' W : State) → k < n → w' ≡ put_one live ds cs k w
     → puts live ds cs (n - k) k w ≡ W → puts live ds cs (n - (k + 1)) (k + 1) w' ≡ W
-put-turn live ds cs n k w w' W h e q = rw e (sym (puts_step live ds cs n k w h) ∙ q)
+put_turn live ds cs n k w w' W h e q = rw e (sym (puts_step live ds cs n k w h) ∙ q)
 
 -- One pair's new content in place of its old base, and all of them, one after the other.
 module _ (table : ℕ → Option ℕ) (w : State) (live ds vs : List ℕ) where

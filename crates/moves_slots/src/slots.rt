@@ -21,7 +21,7 @@ pub fn read(window: &[u8], registers: &[u64], slot: usize) -> u64
 }
 
 // Puts a number into a slot.
-pub fn put(window: &mut [u8], registers: &mut [u64], slot: usize, value: u64)
+fn put(window: &mut [u8], registers: &mut [u64], slot: usize, value: u64)
     requires { Placed (length window.old) (length registers.old) slot }
     ensures { state window.new registers.new ≡ spec.put (state window.old registers.old) (slot_of slot) value }
 {

@@ -25,9 +25,9 @@ pub rising_on : (last i : ℕ) (os : List ℕ) → i < length os → last < get_
 unfolding rising
 rising_on last i os h l = rw (drop-cons os i 0 h, lt-ltb last (get_or os i 0) l, add-one i)
 
-pub zero-end : (i : ℕ) (ns : List ℕ) → length ns ≤ i → no_zero (drop i ns) ≡ true
+pub zero_end : (i : ℕ) (ns : List ℕ) → length ns ≤ i → no_zero (drop i ns) ≡ true
 unfolding no_zero
-zero-end i ns h = rw (drop_of_length-le ns {i = i} h)
+zero_end i ns h = rw (drop_of_length-le ns {i = i} h)
 
 pub zero_stop : (i : ℕ) (ns : List ℕ) → i < length ns → get_or ns i 0 ≡ 0 → no_zero (drop i ns) ≡ false
 unfolding no_zero
@@ -93,9 +93,9 @@ found_at (o ∷ os) ns b (suc i) l h e =
     let g : get_or (drop 1 ns) i 0 ≡ get_or ns (suc i) 0 = get_or-drop 1 ns i 0 ∙ ap (λ (k : ℕ). get_or ns k 0) (omega arith) in
     rw (ne_eqb o b (h 0 (omega arith)), found_at os (drop 1 ns) b i (omega arith) (λ k q. h (suc k) (omega arith)) e, g)
 
-pub look-zero : (olds news : List ℕ) (b : ℕ) → b ≡ 0 → some 0 ≡ look_up olds news b
+pub look_zero : (olds news : List ℕ) (b : ℕ) → b ≡ 0 → some 0 ≡ look_up olds news b
 unfolding look_up
-look-zero olds news b e = rw (eq-eqb b 0 e)
+look_zero olds news b e = rw (eq-eqb b 0 e)
 
 module _ (olds news : List ℕ) (t : table_right olds news ≡ true) (b i : ℕ) (n : b ≡ 0 → ⊥) (h : LowerBound olds (length olds) b i) where
   pub look_past : i ≡ length olds → none ≡ look_up olds news b

@@ -203,9 +203,9 @@ module _ (olds news olds2 news2 : List ℕ) (r : table_right olds news ≡ true)
       })
 
   -- 0 for 0; else the second table's new start for the first table's, if both are there
-  pub joined-zero : look_up (joined olds news olds2 news2).olds (joined olds news olds2 news2).news 0 ≡ some 0
+  pub joined_zero : look_up (joined olds news olds2 news2).olds (joined olds news olds2 news2).news 0 ≡ some 0
   unfolding look_up
-  joined-zero = refl
+  joined_zero = refl
 
   pub joined-look : (b : ℕ) → look_up (joined olds news olds2 news2).olds (joined olds news olds2 news2).news b ≡ and_then (look_up olds news b) (look_up olds2 news2)
   unfolding look_up Nonzero

@@ -1,1 +1,3 @@
+mod Aligned
+pub mod Clashes
 pub mod Meets

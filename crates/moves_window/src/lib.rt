@@ -9,11 +9,14 @@ ghost use Rattle.moves.specs.Limits.{pairs_most};
 ghost use Rattle.moves.specs.Table.{table_right, look_up};
 ghost use Rattle.moves.specs.Slots.{state};
 ghost use Rattle.moves.specs.Window.{part};
+ghost use Rattle.moves.specs.Settle.{settled};
 ghost use Rattle.moves.specs.Code.{Settles, SettlesIn};
 ghost use Rattle.moves.specs.Arrays.{registers_from, AllPlaced, Judges, pointers_of};
 
 use moves::{Move, PAIRS_MOST};
 use moves_slots::{renewal, slots};
+
+mod collisions;
 
 // Refusals 20 and 21 of the pairs of a window, or their count. `values` is lent for the old bases, and then for the new contents of the
 // derived slots.
@@ -33,7 +36,7 @@ fn judge(
     ensures { Judges (look_up olds.now news.now) (state window.now registers.now) live.now bases.now derived.now pairs result values.new }
 {
     slots::read_all(window, registers, live, bases, values, pairs);
-    let colliding = moves_collisions::collision(live, bases, derived, values, pairs);
+    let colliding = collisions::collision(live, bases, derived, values, pairs);
     if colliding < pairs {
         return Move {
             number: 20,
@@ -118,8 +121,7 @@ pub fn move_window(
     )
 }
 
-// The answer to a frame whose window is image[off..end]: its pairs are only judged, and nothing but `values` can be written, which then has the
-// new contents of the derived slots.
+// The answer to a frame whose window is image[off..end]: its pairs are only judged, and nothing but `values` can be written.
 pub fn judge_window(
     image: &[u8],
     registers: &[u64],
@@ -135,7 +137,7 @@ pub fn judge_window(
 ) -> Move
     requires { (off ≤ end) × (end ≤ length image.now) × (pairs ≤ pairs_most) × (pairs ≤ length values.old) × (end - off ≤ registers_from) × (length registers.now ≤ 32)
         × AllPlaced (end - off) (length registers.now) pairs live.now bases.now derived.now × (table_right olds.now news.now ≡ true) }
-    ensures { Judges (look_up olds.now news.now) (state (part image.now off (end - off)) registers.now) live.now bases.now derived.now pairs result values.new }
+    ensures { result ≡ settled (look_up olds.now news.now) (pointers_of pairs live.now bases.now derived.now) (state (part image.now off (end - off)) registers.now) }
 {
     judge(
         &image[off..end],

@@ -29,13 +29,13 @@ unfolding small_sizes listed_location
 sizes_step n l at h = rw (many_step listed_location 10 n l at h)
 
 -- the record that stands here, and then the rest
-pub sizes-here : {l : List ℕ} {at n m stop : ℕ} → RecordCounted l at n m stop → stands record_kind record_item_size l at ≡ true
+pub sizes_here : {l : List ℕ} {at n m stop : ℕ} → RecordCounted l at n m stop → stands record_kind record_item_size l at ≡ true
     → all_small_sizes (records_from l at) at ≡ chain (small_sizes (many listed_location 10 n l (at + 13)) (at + 13)) (all_small_sizes (records_from l stop) stop)
 unfolding all_small_sizes listed_record
-sizes-here h e = rw (records-here h e, shape_items h, h.locations_are)
+sizes_here h e = rw (records-here h e, shape_items h, h.locations_are)
 
 -- no record is left
-pub sizes-none : (rs : List Record) (at : ℕ) → length rs ≡ 0 → Valid at ≡ all_small_sizes rs at
+pub sizes_none : (rs : List Record) (at : ℕ) → length rs ≡ 0 → Valid at ≡ all_small_sizes rs at
 unfolding all_small_sizes
-sizes-none [] at h = refl
-sizes-none (r ∷ rs) at h = absurd (omega arith)
+sizes_none [] at h = refl
+sizes_none (r ∷ rs) at h = absurd (omega arith)

@@ -87,16 +87,16 @@ pub entry_listed : {l : List ℕ} {at n m stop : ℕ} (old : Bool) (i p c : ℕ)
 unfolding address listed_record
 entry_listed {l} {at} old i p c h = rw (entry-placed old p c (listed_entry l old i at p), shape_size h old, h.locations_are)
 
-owner-zero : (old : Bool) (l : List ℕ) (i : ℕ) → old ≡ true → (listed_owner l old i).function.address ≡ 0
+owner_zero : (old : Bool) (l : List ℕ) (i : ℕ) → old ≡ true → (listed_owner l old i).function.address ≡ 0
 unfolding listed_owner
-owner-zero true l i h = refl
-owner-zero false l i h = absurd (true≢false (sym h))
+owner_zero true l i h = refl
+owner_zero false l i h = absurd (true≢false (sym h))
 
 -- 8: its address does not fit; a record of version 1 is at its offset, which always does
 pub entry-over : {l : List ℕ} {at n m stop : ℕ} (old : Bool) (i p c : ℕ) → RecordCounted l at n m stop → word 4 l (at + 9) < 2 ^ 32
     → 2 ^ 64 - 1 < (listed_owner l old i).function.address + word 4 l (at + 9) → shift p (entry_fault old c (listed_entry l old i at p)) ≡ Refused 8 p
 unfolding must
-entry-over {l} {at} old i p c h small over = rw (entry_listed old i p c h, same_test old (listed_owner l old i).function.address (word 4 l (at + 9)) (owner-zero old l i) small, lt-leb _ _ over)
+entry-over {l} {at} old i p c h small over = rw (entry_listed old i p c h, same_test old (listed_owner l old i).function.address (word 4 l (at + 9)) (owner_zero old l i) small, lt-leb _ _ over)
 
 -- its address fits
 pub entry-fits : {l : List ℕ} {at n m stop : ℕ} (old : Bool) (i p c : ℕ) → RecordCounted l at n m stop → (listed_owner l old i).function.address + word 4 l (at + 9) ≤ 2 ^ 64 - 1

@@ -5,9 +5,6 @@ use Rattle.index.proofs.Ordered
 use Rattle.index.proofs.Same
 use Rattle.linked.proofs.Whole
 use Rattle.linked.proofs.Found
-use Rattle.pieces.proofs.Held
-use Rattle.pieces.proofs.Unshared
-use Rattle.pieces.proofs.Further
 use Rattle.linked_moves.proofs.OneMap
 use Rattle.linked_laws.proofs.ByFrames
 use Rattle.listing.proofs.Bound
@@ -60,10 +57,6 @@ promises =
       linked_thread_one_map = OneMap.one_map;
       linked_thread_or_none = OneMap.or_none;
       linked_thread_by_frames = ByFrames.frame_by_frame;
-      pieces_one = Held.one_is_an_image;
-      pieces_alone = Unshared.one_address;
-      pieces_inside = Held.inside_one;
-      pieces_moved = Further.on_its_piece;
       report_sums = Reports.sums;
       report_stops = Reports.report_stops;
       report_order_free = Reports.order_free;

@@ -2,7 +2,6 @@
 use Rattle.stackmap.specs.Laws.{OneToOne, BuiltRefusal, AcceptedIsZero, SignedOffsets}
 use Rattle.index.specs.Laws.{IndexOrdered, IndexAnswers}
 use Rattle.linked.specs.Laws as Linked
-use Rattle.pieces.specs.Laws as Pieces
 use Rattle.linked_moves.specs.Laws as LinkedThread
 use Rattle.linked_laws.specs.Laws.{FrameByFrame}
 use Rattle.listing.specs.Bound.{BoundSuffices}
@@ -55,17 +54,11 @@ pub record Promises : Type 0 where
   pub linked_each_map : Linked.EachMap
   pub linked_joined : Linked.Joined
   pub linked_bound_suffices : Linked.BoundSuffices
-  -- a whole thread over a linked section, on a stack in pieces: on one map and one piece it is the thread's call, a refused call changes nothing, and an
-  -- accepted one is the plain moves of its frames, each by its own map and on its own piece, in any order
+  -- a whole thread over a linked section: on one map it is the thread's call, a refused call changes nothing, and an accepted one is the plain moves of
+  -- its frames, each by its own map, in any order
   pub linked_thread_one_map : LinkedThread.OneMap
   pub linked_thread_or_none : LinkedThread.OrNone
   pub linked_thread_by_frames : FrameByFrame
-  -- a stack in pieces: 13 of one piece is 13 of an image, after 13 an address is in one piece alone, 16 is passed on a frame's piece exactly where its
-  -- extent is inside one of the list, and a move on a piece leaves every byte of the others
-  pub pieces_one : Pieces.OneIsAnImage
-  pub pieces_alone : Pieces.OneAddress
-  pub pieces_inside : Pieces.InsideOne
-  pub pieces_moved : Pieces.OnItsPiece
   -- a report's totals are sums, or 34 at the first section that passes; order doesn't count, and halves add up
   pub report_sums : Report.Sums
   pub report_stops : Report.Stops

@@ -189,10 +189,10 @@ module _ (R : Restore) (e : ℕ) (k : section_check R.section ≡ Valid e) where
       go (refuse n q) g a z = absurd (omega arith)
       go (window off size ws) g a z = record { off = off; size = size; pairs = ws; is_window = g; settled_0 = z }
 
-  zero-says : (f : Stopped) (off size : ℕ) (ps : List (List Pointer)) (im : List ℕ) → P (length im) f ≡ window off size ps
+  zero_says : (f : Stopped) (off size : ℕ) (ps : List (List Pointer)) (im : List ℕ) → P (length im) f ≡ window off size ps
       → (answer R im f).number ≡ 0 → (settled table (flatten ps) (state (part im off size) f.registers)).number ≡ 0
   unfolding answer
-  zero-says f off size ps im g z = rw g at z
+  zero_says f off size ps im g z = rw g at z
 
   yes_answer : (f : Stopped) (off size : ℕ) (ps : List (List Pointer)) (im : List ℕ) → P (length im) f ≡ window off size ps
       → (settled table (flatten ps) (state (part im off size) f.registers)).number ≡ 0 → (answer R im f).number ≡ 0
@@ -289,7 +289,7 @@ module _ (R : Restore) (e : ℕ) (k : section_check R.section ≡ Valid e) where
               fits = subst (Sound (length im) (length rs)) h (snd (length im) f)
 
               yes : (settled table (flatten ps) (state (part im off size) rs)).number ≡ 0
-              yes = zero-says f off size ps im h w.accepted
+              yes = zero_says f off size ps im h w.accepted
 
               on : (d' : Slot) → v.derived ≡ d'
                   → get_or (settle table (flatten ps) (state (part im off size) rs)).registers r 0 ≡ new_content_at R im rs b (register r)

@@ -102,9 +102,9 @@ abbrev pub ahead : ℕ → Slot → Slot
 ahead i (memory a) = memory (a + 8 * i)
 ahead i (register r) = register r
 
-pub ahead-zero : (x : Slot) → ahead 0 x ≡ x
-ahead-zero (memory a) = ap memory (omega arith)
-ahead-zero (register r) = refl
+pub ahead_zero : (x : Slot) → ahead 0 x ≡ x
+ahead_zero (memory a) = ap memory (omega arith)
+ahead_zero (register r) = refl
 
 pub ahead-next : (i : ℕ) (x : Slot) → ahead (suc i) x ≡ ahead i (next x)
 ahead-next i (memory a) = ap memory (omega arith)
@@ -248,14 +248,14 @@ module _ (old : Bool) (pool : List ℕ) (f : Cursor) where
       first e =
           let x : b₀ ≡ b = cc in
           let y : d₀ ≡ d = cc in
-          (0, omega arith, ahead-zero b₀ ∙ x, ahead-zero d₀ ∙ y)
+          (0, omega arith, ahead_zero b₀ ∙ x, ahead_zero d₀ ∙ y)
 
       on : (i : ℕ) × (i < n) × (ahead i (next b₀) ≡ b) × (ahead i (next d₀) ≡ d) → (i : ℕ) × (i < suc n) × (ahead i b₀ ≡ b) × (ahead i d₀ ≡ d)
       on r = (suc r.0, omega (arith, r.1), ahead-next r.0 b₀ ∙ r.2, ahead-next r.0 d₀ ∙ r.3)
 
   of_run : (n : ℕ) (b d : Slot) (i : ℕ) → i < n → Memᴰ (slots (ahead i b) (ahead i d)) (pointers_from n b d)
   of_run zero b d i h = absurd (not-suc-le-zero h)
-  of_run (suc n) b d zero h = rw (ahead-zero b, ahead-zero d) (mathlib.Core.List.Memᴰ.head refl)
+  of_run (suc n) b d zero h = rw (ahead_zero b, ahead_zero d) (mathlib.Core.List.Memᴰ.head refl)
   of_run (suc n) b d (suc i) h = rw (ahead-next i b, ahead-next i d) (mathlib.Core.List.Memᴰ.tail (of_run n (next b) (next d) i (omega arith)))
 
   pub pair-from : (n : ℕ) (p : Pair) (b d : Slot) → inside old pool f n p ≡ true → (is_null pool p ≡ false → Formed f.machine old p)

@@ -1,9 +1,10 @@
 -- The stages of a plan, each by the tests that lead to it.
-use Prim.Native.Nat.{ℕ}
+use Prim.Native.Nat.{ℕ, ◌+◌, ◌-◌, ◌^◌, ◌≤◌, ◌<◌}
 use mathlib.Core.Path.{◌≡◌, refl, sym}
 use mathlib.Core.Bool.{Bool, true, false, cond, ◌&&◌}
 use mathlib.Core.List.{List}
-use borrow.Author.Tests.{eqb-true}
+use native.Mathlib.Omega.{arith}
+use borrow.Author.Tests.{eqb-true, le-leb, lt-leb}
 use lib.ListN.{length}
 use Rattle.stackmap.specs.Section.{Entry, is_old}
 use Rattle.stackmap.specs.Check.{Accepted}
@@ -17,13 +18,29 @@ use Rattle.moves.specs.Plan.{refuse}
 use Rattle.moves.specs.Code.{Follows}
 use Rattle.relocate.specs.declared.Cursor.{Cursor}
 use Rattle.relocate.specs.declared.Machine.{Machine}
-use Rattle.relocate.specs.Limits.{register_count}
+use Rattle.relocate.specs.declared.Machine.TheVariants.{Amd64, Aarch64}
+use Rattle.relocate.specs.Limits.{register_count, frame_pointer, stack_pointer}
 use Rattle.relocate.specs.declared.Settings.{Settings}
 use Rattle.relocate.specs.Restore.{Restore, restore, same_machine, allowed}
 use Rattle.relocate.specs.Stopped.{Stopped, registers_right, cursor}
 use Rattle.relocate.specs.Plan.{records_of, only, image_right, plan_pairs, plan_record, plan}
 use Rattle.relocate.specs.Relocation.{answer, moved, moved_registers}
 use Rattle.relocate.specs.Code.{limited, plan_entry, Relocates}
+
+-- 13
+
+module _ (first n : ℕ) where
+  pub image-long : 1048576 < n → false ≡ image_right first n
+  unfolding image_right
+  image-long h = rw (lt-leb n 1048576 h)
+
+  pub image_past : n ≤ 1048576 → 2 ^ 64 - 1 < first + n → false ≡ image_right first n
+  unfolding image_right
+  image_past l h = rw (le-leb n 1048576 l, lt-leb (first + n) (2 ^ 64 - 1) h)
+
+  pub image_fine : n ≤ 1048576 → first + n ≤ 2 ^ 64 - 1 → true ≡ image_right first n
+  unfolding image_right
+  image_fine l h = rw (le-leb n 1048576 l, le-leb (first + n) (2 ^ 64 - 1) h)
 
 -- 1 to 9, 33, 13, 14, 25
 
@@ -89,3 +106,12 @@ records-at s st f e = rw e
 pub registers_32 : (rs : List ℕ) → registers_right rs ≡ true → length rs ≡ register_count
 unfolding registers_right
 registers_32 rs h = eqb-true _ _ h
+
+-- a machine's frame pointer and stack pointer are two of them
+pub frame_below : (m : Machine) → frame_pointer m < register_count
+frame_below Amd64 = omega arith
+frame_below Aarch64 = omega arith
+
+pub stack-below : (m : Machine) → stack_pointer m < register_count
+stack-below Amd64 = omega arith
+stack-below Aarch64 = omega arith

@@ -1,26 +1,78 @@
 // The move of one frame.
-ghost use Rattle.std.specs.Prelude.{◌≡◌, true, false, ◌≤◌};
+ghost use Rattle.std.specs.Prelude.{◌≡◌, true, false, cond, ◌&&◌, ◌≤◌, length};
 ghost use Rattle.questions.specs.Kept.{searched, of_section};
 ghost use Rattle.moves.specs.Limits.{pairs_most};
-ghost use Rattle.relocate.specs.Restore.{restore};
+ghost use Rattle.relocate.specs.Limits.{register_count};
+ghost use Rattle.relocate.specs.Restore.{restore, same_machine};
 ghost use Rattle.relocate.specs.Restore as spec;
-ghost use Rattle.relocate.specs.Stopped.{stopped};
+ghost use Rattle.relocate.specs.Stopped as StoppedSpec;
+ghost use Rattle.relocate.specs.Stopped.{stopped, registers_right};
 ghost use Rattle.relocate.specs.Code.{Relocates};
 
 use moves::Move;
 use moves_table::table;
 use questions::Found;
 use questions_find::find;
-use relocate::{Frame, Settings};
+use relocate::{Cursor, Frame, Machine, REGISTERS, Settings};
+use relocate_slots::slots;
 use stackmap_tables::tables;
 
+pub mod extent;
 pub mod moving;
 
-// What comes before a frame's record is `relocate_start`, handed on.
-pub use relocate_start::{allowed, cursor, registers_right};
+// What a plan reads of a frame.
+pub fn cursor(frame: Frame, registers: &[u64]) -> Cursor
+    requires { length registers.now ≡ register_count }
+    ensures { result ≡ StoppedSpec.cursor (stopped frame registers.now) }
+{
+    let machine = frame.machine;
+    Cursor {
+        address: frame.address,
+        function: frame.function,
+        fp: registers[slots::frame_pointer(machine) as usize],
+        sp: registers[slots::stack_pointer(machine) as usize],
+        machine,
+    }
+}
 
-pub mod extent {
-    pub use relocate_start::image_right;
+// The test of refusal 25 of a single frame.
+pub fn registers_right(registers: &[u64]) -> bool
+    ensures { result ≡ registers_right registers.now }
+{
+    registers.len() == REGISTERS
+}
+
+// Whether two machines are the same.
+fn same_machine(a: Machine, b: Machine) -> bool
+    ensures { result ≡ same_machine a b }
+{
+    match a {
+        Machine::Amd64 => match b {
+            Machine::Amd64 => true,
+            Machine::Aarch64 => false,
+        },
+        Machine::Aarch64 => match b {
+            Machine::Amd64 => false,
+            Machine::Aarch64 => true,
+        },
+    }
+}
+
+// The test of refusal 33: `old` is true for a section of version 1.
+pub fn allowed(old: bool, machine: Machine, settings: Settings) -> bool
+    ensures { result ≡ (cond old settings.version1 settings.version3 && same_machine machine settings.machine) }
+{
+    let keeps = settings.machine;
+    if old {
+        if settings.version1 {
+            return same_machine(machine, keeps);
+        }
+        return false;
+    }
+    if settings.version3 {
+        return same_machine(machine, keeps);
+    }
+    false
 }
 
 // 13, 14, 25 and what follows, of an accepted section whose version is allowed, as the frame's machine is.

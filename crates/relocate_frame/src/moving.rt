@@ -6,6 +6,7 @@ ghost use Rattle.stackmap.specs.Check.{Accepted};
 ghost use Rattle.questions.specs.Questions.{first_of, sought};
 ghost use Rattle.moves.specs.Limits.{pairs_most};
 ghost use Rattle.moves.specs.Table.{table_right, look_up};
+ghost use Rattle.moves.specs.Settle.{refused_move};
 ghost use Rattle.moves.specs.Code.{Follows};
 ghost use Rattle.relocate.specs.Limits.{register_count};
 ghost use Rattle.relocate.specs.Restore.{restore};
@@ -16,7 +17,17 @@ use moves::Move;
 use questions::Found;
 use relocate::Cursor;
 use relocate_plan::plan;
-pub use relocate_start::refused;
+
+// A refusal, with count 0.
+pub fn refused(number: u8, place: usize) -> Move
+    ensures { result ≡ refused_move number place }
+{
+    Move {
+        number,
+        place,
+        count: 0,
+    }
+}
 
 // 10, 15 and what follows, of an accepted section.
 pub fn move_found(

@@ -20,7 +20,7 @@ use Rattle.moves.specs.Slots.{State, state}
 use Rattle.moves.specs.Pointers.{Pointer}
 use Rattle.moves.specs.Plan.{refuse, window, at_pair}
 use Rattle.moves.specs.Settle.{accepted_move, settled}
-use Rattle.moves.specs.Arrays.{AllPlaced, Judges, pointers_of}
+use Rattle.moves.specs.Arrays.{AllPlaced, pointers_of}
 use Rattle.moves.proofs.Order.{accepted-whole}
 use Rattle.relocate.specs.declared.Cursor.{Cursor}
 use Rattle.relocate.specs.declared.Frame.{Frame}
@@ -35,7 +35,7 @@ use Rattle.relocate.specs.Code.{record_of, pool_of, plan_slots, pair_number}
 use Rattle.relocate_plan.specs.declared.Outline.{Outline}
 use Rattle.relocate_plan.specs.Outlined.{Stands, refused_outline}
 use Rattle.relocate_plan.proofs.Following.{slots_19, slots_on}
-use Rattle.relocate_judge.specs.Judged.{Leads, pointers_in, Held, Judged, Valued}
+use Rattle.relocate_judge.specs.Judged.{Leads, pointers_in, Held, Judged}
 
 -- 19 and the window read nothing of the settings
 pub slots_any : (s olds news : List ℕ) (first : ℕ) (t u : Settings) (f : Cursor) (n : ℕ) (ps : List Pair)
@@ -64,10 +64,6 @@ module _ (R : Restore) (im : List ℕ) (st : Stopped) (f : Cursor) (live bases d
   pub refuses_at : (n p : ℕ) (o : Outline) → o ≡ refused_outline n p → plan R (length im) st ≡ refuse n p → (n ≡ 0 → ⊥) → Judged R im st f o live bases derived
   refuses_at n p o q e h = refuses o (rw q e) (rw q h)
 
-  -- a refused frame has no new contents
-  pub valued_refused : (o : Outline) (values : List ℕ) → (o.number ≡ 0 → ⊥) → Judged R im st f o live bases derived → Valued R im st f o live bases derived values
-  valued_refused o values h j = record { judged = j; renewed = λ z. absurd (h z) }
-
 -- by an equal cursor
 pub judged-cursor : (R : Restore) (im : List ℕ) (st : Stopped) (f h : Cursor) (o : Outline) (live bases derived : List ℕ) → f ≡ h
     → Judged R im st f o live bases derived → Judged R im st h o live bases derived
@@ -94,16 +90,15 @@ module _ (s olds news : List ℕ) (first : ℕ) (settings : Settings) (im : List
   abbrev v : State
   v = state (part im off (off + o.size - off)) rs
 
-  pub leads_19 : out < o.count → (r : Outline) → r ≡ refused_outline 19 out → (live bases derived values : List ℕ) → Valued R im st f r live bases derived values
-  leads_19 h r q live bases derived values =
-      valued_refused R im st f live bases derived r values (rw q (λ (z : ◌≡◌ {A = ℕ} 19 0). absurd (omega arith)))
-      (refuses_at R im st f live bases derived 19 out r q
+  pub leads_19 : out < o.count → (r : Outline) → r ≡ refused_outline 19 out → (live bases derived : List ℕ) → Judged R im st f r live bases derived
+  leads_19 h r q live bases derived =
+      refuses_at R im st f live bases derived 19 out r q
       (L.goes_on ∙ slots_19 R f o.size (record_of s o.at) o.count S.formed.paired.counted o.old S.formed.old_is out w h)
-      (λ z. absurd (omega arith)))
+      (λ z. absurd (omega arith))
 
   module _ (h : o.count ≤ out) (live bases derived : List ℕ) (held : pointers_of (length (flatten pss)) live bases derived ≡ flatten pss)
       (placed : AllPlaced o.size register_count (length (flatten pss)) live bases derived) (m j : Move) (a : m ≡ at_pair pss j)
-      (values : List ℕ) (s-j : Judges table v live bases derived o.pointers j values) where
+      (e : j ≡ settled table (pointers_of o.pointers live bases derived) v) where
     is : plan R (length im) st ≡ window off (off + o.size - off) pss
     is = L.goes_on ∙ slots_on R f o.size (record_of s o.at) o.count S.formed.paired.counted o.old S.formed.old_is out w h off refl
 
@@ -111,26 +106,25 @@ module _ (s olds news : List ℕ) (first : ℕ) (settings : Settings) (im : List
     holds = ap (λ (n : ℕ). pointers_of n live bases derived) S.formed.counted ∙ held
 
     settles : j ≡ settled table (flatten pss) v
-    settles = s-j.answer ∙ ap (λ (ps : List Pointer). settled table ps v) holds
+    settles = e ∙ ap (λ (ps : List Pointer). settled table ps v) holds
 
     answers : answer R im st ≡ m
     unfolding answer
     answers = rw is (sym (a ∙ ap (at_pair pss) settles))
 
-    pub leads_stop : (m.number ≡ 0 → ⊥) → (r : Outline) → r ≡ refused_outline m.number m.place → Valued R im st f r live bases derived values
+    pub leads_stop : (m.number ≡ 0 → ⊥) → (r : Outline) → r ≡ refused_outline m.number m.place → Judged R im st f r live bases derived
     leads_stop z r q =
         rw q
-        (valued_refused R im st f live bases derived (refused_outline m.number m.place) values z
-        (record { refused = λ y. (ap (λ (x : Move). x.number) answers, ap (λ (x : Move). x.place) answers); held = λ y. absurd (z y) }))
+        (record { refused = λ y. (ap (λ (x : Move). x.number) answers, ap (λ (x : Move). x.place) answers); held = λ y. absurd (z y) })
 
     accepts : m.number ≡ 0 → answer R im st ≡ accepted_move o.pointers
     accepts z =
         let n : (settled table (flatten pss) v).number ≡ 0 = sym (ap (λ (x : Move). x.number) (a ∙ ap (at_pair pss) settles)) ∙ z in
         answers ∙ a ∙ ap (at_pair pss) (settles ∙ accepted-whole table (flatten pss) v n) ∙ ap accepted_move (sym S.formed.counted)
 
-    leads_judged : m.number ≡ 0 → o.number ≡ 0 → table_right olds news ≡ true → length rs ≡ register_count → image_right first (length im) ≡ true
+    pub leads_held : m.number ≡ 0 → o.number ≡ 0 → table_right olds news ≡ true → length rs ≡ register_count → image_right first (length im) ≡ true
         → Judged R im st f o live bases derived
-    leads_judged z y t k i =
+    leads_held z y t k i =
         record {
           refused = λ x. absurd (x y);
           held = λ x.
@@ -147,8 +141,3 @@ module _ (s olds news : List ℕ) (first : ℕ) (settings : Settings) (im : List
                 answer_is = accepts z;
               };
         }
-
-    pub leads_held : m.number ≡ 0 → o.number ≡ 0 → table_right olds news ≡ true → length rs ≡ register_count → image_right first (length im) ≡ true
-        → Valued R im st f o live bases derived values
-    leads_held z y t k i =
-        record { judged = leads_judged z y t k i; renewed = λ x. let q : off + o.size - off ≡ o.size = omega arith in rw q at (s-j.contents (sym (ap (λ (x : Move). x.number) a) ∙ z)) }

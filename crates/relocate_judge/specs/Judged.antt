@@ -1,15 +1,13 @@
 -- For the code alone: nothing here has to be believed.
 -- What the judgement of a frame tells: its refusal, or that it is accepted and the arrays hold its pointers.
-use Rattle.std.specs.Prelude.{ℕ, ◌-◌, ◌≡◌, true, length, get_or}
+use Rattle.std.specs.Prelude.{ℕ, ◌-◌, ◌≡◌, true, length}
 use mathlib.Core.List.{List, flatten}
 use Rattle.stackmap.specs.Check.{Accepted}
-use Rattle.moves.specs.Table.{table_right, look_up}
-use Rattle.moves.specs.Window.{part}
-use Rattle.moves.specs.Slots.{state}
-use Rattle.moves.specs.Pointers.{Pointer, new_content}
+use Rattle.moves.specs.Table.{table_right}
+use Rattle.moves.specs.Pointers.{Pointer}
 use Rattle.moves.specs.Plan.{window}
 use Rattle.moves.specs.Settle.{accepted_move}
-use Rattle.moves.specs.Arrays.{slot_of, AllPlaced, Filled, pointers_of}
+use Rattle.moves.specs.Arrays.{AllPlaced, pointers_of}
 use Rattle.relocate.specs.declared.Cursor.{Cursor}
 use Rattle.relocate.specs.Limits.{register_count}
 use Rattle.relocate.specs.Restore.{Restore}
@@ -47,13 +45,3 @@ pub record Held (R : Restore) (im : List ℕ) (st : Stopped) (f : Cursor) (o : O
 pub record Judged (R : Restore) (im : List ℕ) (st : Stopped) (f : Cursor) (o : Outline) (live bases derived : List ℕ) : Type 0 where
   pub refused : (o.number ≡ 0 → ⊥) → ((answer R im st).number ≡ o.number) × ((answer R im st).place ≡ o.place)
   pub held : o.number ≡ 0 → Held R im st f o live bases derived
-
--- the new contents of the derived slots, worked out on this image and these registers
-abbrev pub new_at : Restore → List ℕ → Stopped → Cursor → Outline → List ℕ → List ℕ → ℕ → ℕ
-new_at R im st f o bases derived k =
-    new_content (look_up R.olds R.news) (state (part im (f.sp - R.first) o.size) st.registers) (slot_of (get_or bases k 0)) (slot_of (get_or derived k 0))
-
--- and where the frame is accepted, `values` has them
-pub record Valued (R : Restore) (im : List ℕ) (st : Stopped) (f : Cursor) (o : Outline) (live bases derived values : List ℕ) : Type 0 where
-  pub judged : Judged R im st f o live bases derived
-  pub renewed : o.number ≡ 0 → Filled (new_at R im st f o bases derived) live values o.pointers

@@ -17,15 +17,15 @@ ghost use Rattle.relocate.specs.Plan as PlanSpec;
 ghost use Rattle.relocate.specs.Plan.{image_right, only};
 ghost use Rattle.relocate.specs.Code.{limited, plan_entry};
 ghost use Rattle.relocate_plan.specs.Outlined.{Stands};
-ghost use Rattle.relocate_judge.specs.Judged.{Leads, Judged, Valued};
+ghost use Rattle.relocate_judge.specs.Judged.{Leads, Judged};
 
 use moves::PAIRS_MOST;
 use moves_table::table;
 use questions::Found;
 use questions_find::find;
 use relocate::{Cursor, Frame, Settings};
-use relocate_fill::fill;
 use relocate_frame::extent;
+use relocate_pairs::fill;
 use relocate_plan::{Outline, plan};
 use stackmap_tables::tables;
 
@@ -42,13 +42,12 @@ fn of_outline(
     live: &mut [u8; PAIRS_MOST],
     bases: &mut [usize; PAIRS_MOST],
     derived: &mut [usize; PAIRS_MOST],
-    values: &mut [u64; PAIRS_MOST],
 ) -> Outline
     requires { Stands s.now first (length image.now) frame outline × (outline.number ≡ 0) × (length registers.now ≡ register_count) × (table_right olds.now news.now ≡ true)
         × (image_right first (length image.now) ≡ true) }
     ensures { (g : FrameType.Frame) (settings : SettingsType.Settings)
         → Leads (restore s.now olds.now news.now first settings) image.now (stopped g registers.now) frame outline
-        → Valued (restore s.now olds.now news.now first settings) image.now (stopped g registers.now) frame result live.new bases.new derived.new values.new }
+        → Judged (restore s.now olds.now news.now first settings) image.now (stopped g registers.now) frame result live.new bases.new derived.new }
 {
     let out = fill::fill(
         live,
@@ -66,6 +65,7 @@ fn of_outline(
         return plan::refused(19, out);
     }
     let off = (frame.sp - first) as usize;
+    let mut values = [0u64; PAIRS_MOST];
     let m = moves_window::judge_window(
         image,
         registers,
@@ -74,7 +74,7 @@ fn of_outline(
         live,
         bases,
         derived,
-        values,
+        &mut values,
         outline.pointers,
         olds,
         news,
@@ -93,41 +93,7 @@ fn of_outline(
     outline
 }
 
-// 10, 15 and what follows, of an accepted section; where the frame is accepted, `values` has the new contents of its derived slots. `most` is the
-// largest pointer count.
-// No entry point: it requires what the stages before it have tested.
-pub fn judge_values(
-    s: &[u8],
-    found: Found,
-    image: &[u8],
-    registers: &[u64],
-    first: u64,
-    olds: &[u64],
-    news: &[u64],
-    frame: Cursor,
-    live: &mut [u8; PAIRS_MOST],
-    bases: &mut [usize; PAIRS_MOST],
-    derived: &mut [usize; PAIRS_MOST],
-    values: &mut [u64; PAIRS_MOST],
-    most: usize,
-) -> Outline
-    requires { Accepted s.now × (found ≡ first_of (sought s.now frame.function frame.address)) × (image_right first (length image.now) ≡ true) × (table_right olds.now news.now ≡ true)
-        × (most ≤ pairs_most) × (length registers.now ≡ register_count) }
-    ensures { (g : FrameType.Frame) (settings : SettingsType.Settings) → frame ≡ StoppedSpec.cursor (stopped g registers.now)
-        → PlanSpec.plan (restore s.now olds.now news.now first settings) (length image.now) (stopped g registers.now)
-        ≡ only (sought s.now frame.function frame.address) (plan_entry (restore s.now olds.now news.now first (limited most)) (length image.now) frame)
-        → Valued (restore s.now olds.now news.now first settings) image.now (stopped g registers.now) frame result live.new bases.new derived.new values.new }
-{
-    let outline = plan::outline_found(s, found, image.len(), first, frame, most);
-    if outline.number != 0 {
-        return outline;
-    }
-    of_outline(
-        s, outline, image, registers, first, olds, news, frame, live, bases, derived, values,
-    )
-}
-
-// The same, without the new contents.
+// 10, 15 and what follows, of an accepted section. `most` is the largest pointer count.
 // No entry point: it requires what the stages before it have tested.
 pub fn judge_found(
     s: &[u8],
@@ -150,21 +116,12 @@ pub fn judge_found(
         ≡ only (sought s.now frame.function frame.address) (plan_entry (restore s.now olds.now news.now first (limited most)) (length image.now) frame)
         → Judged (restore s.now olds.now news.now first settings) image.now (stopped g registers.now) frame result live.new bases.new derived.new }
 {
-    let mut values = [0u64; PAIRS_MOST];
-    judge_values(
-        s,
-        found,
-        image,
-        registers,
-        first,
-        olds,
-        news,
-        frame,
-        live,
-        bases,
-        derived,
-        &mut values,
-        most,
+    let outline = plan::outline_found(s, found, image.len(), first, frame, most);
+    if outline.number != 0 {
+        return outline;
+    }
+    of_outline(
+        s, outline, image, registers, first, olds, news, frame, live, bases, derived,
     )
 }
 

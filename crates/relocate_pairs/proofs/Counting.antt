@@ -2,7 +2,7 @@
 use Prim.Native.Nat.{ℕ, zero, suc, ◌+◌, ◌*◌, ◌-◌, ◌≤◌, ◌<◌}
 use mathlib.Core.Path.{◌≡◌, refl, sym, ap, ◌∙◌}
 use mathlib.Core.Bool.{Bool, true, false, cond}
-use mathlib.Core.List.{List, [], ◌∷◌, map, flatten}
+use mathlib.Core.List.{List, [], ◌∷◌, ◌++◌, map, flatten, append_assoc}
 use native.Mathlib.Omega.{arith}
 use native.Mathlib.Nat.{not-suc-le-zero}
 use borrow.Author.Tests.{lt-ltb, le-ltb}
@@ -18,6 +18,7 @@ use Rattle.relocate.specs.declared.Cursor.{Cursor}
 use Rattle.relocate.specs.Statepoint.{Pair, pairs, is_null, pointers_in, slot_at, next, pointers_from, pointers_of}
 use Rattle.relocate.specs.Code.{pair_number, pointers_by, count_of, total_of}
 use Rattle.relocate.proofs.Pairing.{no_pair, pair-at}
+use Rattle.relocate_pairs.proofs.Held.{append-nil}
 
 -- the pairs from number p on
 drop-cons : (ps : List Pair) (p : ℕ) → p < length ps → drop p ps ≡ get_or ps p no_pair ∷ drop (p + 1) ps
@@ -27,7 +28,7 @@ drop-cons (q ∷ ps) (suc p) h =
     let e : suc p + 1 ≡ suc (p + 1) = omega arith in
     rw e (drop-cons ps p (omega arith))
 
-pub drop-none : (ps : List Pair) (p : ℕ) → length ps ≤ p → drop p ps ≡ []
+drop-none : (ps : List Pair) (p : ℕ) → length ps ≤ p → drop p ps ≡ []
 drop-none [] zero h = refl
 drop-none [] (suc p) h = refl
 drop-none (q ∷ ps) zero h = absurd (not-suc-le-zero h)
@@ -120,3 +121,37 @@ module _ (old : Bool) (pool : List ℕ) (f : Cursor) (r : Record) (pointer : ℕ
   seek_end left p k h =
       let z : p + 0 ≡ pair_of (pointers_by old pool f r) pointer = rw (drop-none (pairs r) p h) at k.same in
       omega (arith, z)
+
+-- The pointers that the arrays hold and those that are ahead are all pointers.
+
+module _ (old : Bool) (pool : List ℕ) (f : Cursor) (r : Record) where
+  pub record Filling (held : List Pointer) (p : ℕ) : Type 0 where
+    pub same : held ++ flatten (map (pointers_of old pool f) (drop p (pairs r))) ≡ flatten (pointers_by old pool f r)
+
+  pub fill_start : Filling [] 0
+  fill_start = record { same = refl }
+
+  pub fill_long : (held : List Pointer) (p : ℕ) → Filling held p → p < length (pairs r)
+      → length held + count_of old pool (pair_number r p) ≤ length (flatten (pointers_by old pool f r))
+  unfolding flatten
+  fill_long held p k h =
+      let g = pointers_of old pool f in
+      let z : length (held ++ (g (pair_number r p) ++ flatten (map g (drop (p + 1) (pairs r))))) ≡ length (flatten (pointers_by old pool f r)) =
+      ap length (rw (next-pair r p h) at k.same) in
+      let y = length-append held (g (pair_number r p) ++ flatten (map g (drop (p + 1) (pairs r)))) in
+      let x = length-append (g (pair_number r p)) (flatten (map g (drop (p + 1) (pairs r)))) in
+      omega (arith, z, y, x, pair-length old pool f (pair_number r p))
+
+  pub fill_on : (held held' : List Pointer) (p : ℕ) → Filling held p → p < length (pairs r)
+      → held' ≡ held ++ pointers_of old pool f (pair_number r p) → Filling held' (p + 1)
+  unfolding flatten
+  fill_on held held' p k h e =
+      let g = pointers_of old pool f in
+      let z : held ++ (g (pair_number r p) ++ flatten (map g (drop (p + 1) (pairs r)))) ≡ flatten (pointers_by old pool f r) = rw (next-pair r p h) at k.same in
+      record { same = rw e (append_assoc held (g (pair_number r p)) (flatten (map g (drop (p + 1) (pairs r)))) ∙ z) }
+
+  pub fill_end : (held : List Pointer) (p : ℕ) → Filling held p → length (pairs r) ≤ p → held ≡ flatten (pointers_by old pool f r)
+  unfolding flatten
+  fill_end held p k h =
+      let z : held ++ [] ≡ flatten (pointers_by old pool f r) = rw (drop-none (pairs r) p h) at k.same in
+      sym (append-nil held) ∙ z

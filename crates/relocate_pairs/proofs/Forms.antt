@@ -17,9 +17,9 @@ use Rattle.relocate.specs.Code.{pair_from, pair_number, location_of, zero_said, 
 
 -- what the reader says of a location is said of the location
 module _ (a : LocationAnswer) (pool : List ℕ) (l : Location) (e : a ≡ this_location pool l) where
-  pub zero-said : zero_said a ≡ is_zero pool l
+  pub zero_said_lem : zero_said a ≡ is_zero pool l
   unfolding zero_said is_zero
-  zero-said = ap zero_said e
+  zero_said_lem = ap zero_said e
 
   pub location_said : location_of a ≡ l
   location_said = ap location_of e
@@ -31,7 +31,7 @@ module _ (a : LocationAnswer) (pool : List ℕ) (l : Location) (e : a ≡ this_l
 module _ (b d : LocationAnswer) (pool : List ℕ) (p : Pair) (eb : b ≡ this_location pool p.base) (ed : d ≡ this_location pool p.derived) where
   pub null-said : null_said b d ≡ is_null pool p
   unfolding null_said is_null
-  null-said = rw (zero-said b pool p.base eb, zero-said d pool p.derived ed)
+  null-said = rw (zero_said_lem b pool p.base eb, zero_said_lem d pool p.derived ed)
 
   pub form_said_lem : (m : Machine) (old : Bool) → form_said m old b d ≡ right_form m old pool p
   unfolding form_said right_form same_size

@@ -1,2 +1,5 @@
-// The pairs of statepoints (refusals 17 and 18).
+// Statepoints (refusal 12) and their pairs (refusals 18 and 19).
+pub mod fill;
 pub mod pairs;
+mod reader;
+pub mod statepoint;

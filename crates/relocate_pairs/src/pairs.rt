@@ -10,10 +10,10 @@ ghost use Rattle.relocate.specs.Statepoint as spec;
 ghost use Rattle.relocate.specs.Statepoint.{right_form};
 ghost use Rattle.relocate.specs.Code.{record_of, pool_of, RecordInside, pair_from, pair_number, Paired, null_said, form_said, pointers_by, count_of, total_of};
 
+use crate::reader;
 use questions::LocationAnswer;
 use relocate::Machine;
 use relocate_slots::slots;
-use relocate_statepoint::reader;
 
 // Whether both locations are constants equal to 0.
 pub fn null_said(base: LocationAnswer, derived: LocationAnswer) -> bool

@@ -15,8 +15,7 @@ ghost use Rattle.relocate_plan.specs.Outlined.{refused_outline, OutlinesPairs, O
 use crate::{Outline, extent};
 use questions::Found;
 use relocate::Cursor;
-use relocate_pairs::pairs;
-use relocate_statepoint::statepoint;
+use relocate_pairs::{pairs, statepoint};
 use stackmap_tables::tables;
 
 // A refusal, with nothing known of the record.

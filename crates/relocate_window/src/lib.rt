@@ -18,8 +18,7 @@ ghost use Rattle.relocate.specs.Code.{limited, record_of, pool_of, plan_slots, p
 
 use moves::{Move, PAIRS_MOST};
 use relocate::Cursor;
-use relocate_fill::fill;
-use relocate_pairs::pairs;
+use relocate_pairs::{fill, pairs};
 
 // The answer of a window names a pointer; a move's names its pair.
 pub fn at_pair(m: Move, old: bool, s: &[u8], at: usize, start: usize, count: usize) -> Move

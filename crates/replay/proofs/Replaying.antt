@@ -90,8 +90,8 @@ module _ (t : List ℕ) (n : ℕ) (m : Move) where
 -- all steps are left at the start, and none at the end
 
 module _ (R : Restore) (t : List ℕ) (n : ℕ) where
-  pub done-start : (im : List ℕ) → Done R t n 0 Same im 0 Same im
-  done-start im = record { outcome = refl; image = refl; long = refl }
+  pub done_start : (im : List ℕ) → Done R t n 0 Same im 0 Same im
+  done_start im = record { outcome = refl; image = refl; long = refl }
 
   pub done_join : {i j k : ℕ} {a b c : Outcome} {x y z : List ℕ} → Done R t n i a x j b y → Done R t n j b y k c z → Done R t n i a x k c z
   done_join p q = record { outcome = p.outcome ∙ q.outcome; image = p.image ∙ q.image; long = q.long ∙ p.long }

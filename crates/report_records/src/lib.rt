@@ -12,7 +12,7 @@ ghost use Rattle.report.specs.Totals.{total_most, plus_kinds, one, of_kind, kind
 ghost use Rattle.report.specs.Bounds.{KindsMost};
 ghost use Rattle.report_records.specs.Counts.{as_totals, grown, Most};
 
-use relocate_statepoint::statepoint;
+use relocate_pairs::statepoint;
 use report::Kinds;
 use report_walker::Step;
 use stackmap::layout;

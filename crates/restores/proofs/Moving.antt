@@ -41,13 +41,13 @@ abbrev stopped_with : Machine → Numbered → Stopped
 stopped_with m g = stopped (record { machine = m; address = g.address; function = g.function }) g.registers
 
 module _ (Q : Request) (im : List ℕ) (g : Numbered) (b : Begun) (begins : Begins Q.store Q.edition g.machine Q.section b) where
-  pub moves-passed : (r : Move) (after registers : List ℕ) → Relocates (with_settings Q b.settings) im (stopped_with b.machine g) r after registers
+  pub moves_passed : (r : Move) (after registers : List ℕ) → Relocates (with_settings Q b.settings) im (stopped_with b.machine g) r after registers
       → b.passed ≡ true → MovesUnder Q im g r after registers
-  moves-passed r after registers moves t =
+  moves_passed r after registers moves t =
       let k : Relocates (with_settings Q b.settings) im (stopped_of g) r after registers =
       subst (λ (m : Machine). Relocates (with_settings Q b.settings) im (stopped_with m g) r after registers) (machine-is Q g.machine b begins t) moves
       in
       gives-passed Q g.machine b begins im g.registers _ _ _ r after registers t k.answer_is k.image_is k.registers_is
 
-  pub moves-refused : (r : Move) → r ≡ refused_move b.number b.place → b.passed ≡ false → MovesUnder Q im g r im g.registers
-  moves-refused = gives-refused Q g.machine b begins im g.registers _ _ _
+  pub moves_refused : (r : Move) → r ≡ refused_move b.number b.place → b.passed ≡ false → MovesUnder Q im g r im g.registers
+  moves_refused = gives-refused Q g.machine b begins im g.registers _ _ _

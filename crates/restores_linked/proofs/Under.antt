@@ -21,19 +21,19 @@ use Rattle.restores.specs.Restores.{Request, with_settings}
 use Rattle.restores_thread.specs.Threads.{NumberedThread, thread_by}
 use Rattle.restores_linked.specs.Code.{LinkedUnder}
 
-module _ (Q : Request) (pieces im : List ℕ) (t : NumberedThread) (n : NamedSettings) (names : Names Q.store Q.edition n) where
+module _ (Q : Request) (im : List ℕ) (t : NumberedThread) (n : NamedSettings) (names : Names Q.store Q.edition n) where
   -- what is given with settings
   abbrev answer_with : Settings → Move
   answer_with settings =
-      cond (machine_known t.machine) (linked_answer (with_settings Q settings) pieces im (thread_by t)) (ask refused_move (refused_move 33 0) (linked_check Q.section))
+      cond (machine_known t.machine) (linked_answer (with_settings Q settings) im (thread_by t)) (ask refused_move (refused_move 33 0) (linked_check Q.section))
 
   abbrev image_with : Settings → List ℕ
-  image_with settings = left_of t.machine im (linked_image (with_settings Q settings) pieces im (thread_by t))
+  image_with settings = left_of t.machine im (linked_image (with_settings Q settings) im (thread_by t))
 
   abbrev registers_with : Settings → List ℕ
-  registers_with settings = left_of t.machine t.registers (linked_registers (with_settings Q settings) pieces im (thread_by t))
+  registers_with settings = left_of t.machine t.registers (linked_registers (with_settings Q settings) im (thread_by t))
 
-  pub under_31 : {r : Move} → r ≡ refused_move 31 0 → 0 < n.number → LinkedUnder Q pieces im t r im t.registers
+  pub under_31 : {r : Move} → r ≡ refused_move 31 0 → 0 < n.number → LinkedUnder Q im t r im t.registers
   under_31 is h =
       record {
         answer_is = is ∙ sym (under-refused names h (refused_move 31 0) answer_with);
@@ -42,7 +42,7 @@ module _ (Q : Request) (pieces im : List ℕ) (t : NumberedThread) (n : NamedSet
       }
 
   pub under_33 : {r : Move} (v : Verdict) → r ≡ ask refused_move (refused_move 33 0) v → v ≡ linked_check Q.section → n.number ≡ 0 → machine_known t.machine ≡ false
-      → LinkedUnder Q pieces im t r im t.registers
+      → LinkedUnder Q im t r im t.registers
   under_33 v is checked z unknown =
       record {
         answer_is = is ∙ ap (λ (w : Verdict). ask refused_move (refused_move 33 0) w) checked ∙ sym (under-found names z (refused_move 31 0) answer_with ∙ rw unknown);
@@ -51,10 +51,10 @@ module _ (Q : Request) (pieces im : List ℕ) (t : NumberedThread) (n : NamedSet
       }
 
   pub under_moved : {r : Move} {after registers : List ℕ} (m : Machine) → m ≡ machine_of t.machine → n.number ≡ 0 → machine_known t.machine ≡ true
-      → LinkedThreads (with_settings Q n.settings) pieces im (thread_of m t.list t.registers) r after registers → LinkedUnder Q pieces im t r after registers
+      → LinkedThreads (with_settings Q n.settings) im (thread_of m t.list t.registers) r after registers → LinkedUnder Q im t r after registers
   under_moved {r} {after} {registers} m is z known moves =
-      let k : LinkedThreads (with_settings Q n.settings) pieces im (thread_by t) r after registers =
-      subst (λ (x : Machine). LinkedThreads (with_settings Q n.settings) pieces im (thread_of x t.list t.registers) r after registers) is moves
+      let k : LinkedThreads (with_settings Q n.settings) im (thread_by t) r after registers =
+      subst (λ (x : Machine). LinkedThreads (with_settings Q n.settings) im (thread_of x t.list t.registers) r after registers) is moves
       in
       record {
         answer_is = k.answer_is ∙ sym (under-found names z (refused_move 31 0) answer_with ∙ rw known);

@@ -6,7 +6,7 @@ use Rattle.restores.specs.Restores.{Request}
 use Rattle.restores_thread.specs.Threads.{NumberedThread}
 use Rattle.restores_linked.specs.Linked.{linked_answer_under, linked_image_under, linked_registers_under}
 
-pub record LinkedUnder (Q : Request) (pieces im : List ℕ) (t : NumberedThread) (r : Move) (after registers : List ℕ) : Type 0 where
-  pub answer_is : r ≡ linked_answer_under Q pieces im t
-  pub image_is : after ≡ linked_image_under Q pieces im t
-  pub registers_is : registers ≡ linked_registers_under Q pieces im t
+pub record LinkedUnder (Q : Request) (im : List ℕ) (t : NumberedThread) (r : Move) (after registers : List ℕ) : Type 0 where
+  pub answer_is : r ≡ linked_answer_under Q im t
+  pub image_is : after ≡ linked_image_under Q im t
+  pub registers_is : registers ≡ linked_registers_under Q im t

@@ -1,5 +1,5 @@
 // The move of a whole thread over a linked section by the edition that it names, with the machine as a number.
-ghost use Rattle.std.specs.Prelude.{ℕ, ◌≡◌};
+ghost use Rattle.std.specs.Prelude.{◌≡◌};
 ghost use Rattle.questions.specs.Questions.{ask};
 ghost use Rattle.moves.specs.Settle.{refused_move};
 ghost use Rattle.restores.specs.Restores.{request};
@@ -27,21 +27,20 @@ fn unknown_machine(v: Verdict) -> Move
 }
 
 // Relocates the frames of a list over a linked section under an edition of the store: 31 first, and any machine but 0 and 1 is 33 after the maps'
-// refusals and 27; then as `linked_call::relocate_linked` does with the edition's settings. The pieces stand in the place
-// of the request's first address, which is not read.
+// refusals and 27; then as `linked_call::relocate_linked` does with the edition's settings.
 pub fn relocate_linked(
     store: Store,
     edition: u64,
     section: &[u8],
     image: &mut [u8],
-    pieces: &[u64],
+    first: u64,
     olds: &[u64],
     news: &[u64],
     machine: u64,
     list: &[u64],
     registers: &mut [u64],
 ) -> Move
-    ensures { (first : ℕ) → LinkedUnder (request store edition section.now olds.now news.now first) pieces.now image.old (numbered_thread machine list.now registers.old) result image.new registers.new }
+    ensures { LinkedUnder (request store edition section.now olds.now news.now first) image.old (numbered_thread machine list.now registers.old) result image.new registers.new }
 {
     let named = editions_settings::named(store, edition);
     if named.number != 0 {
@@ -53,6 +52,6 @@ pub fn relocate_linked(
     let known = editions_settings::machine_of(machine);
     let settings = named.settings;
     linked_call::relocate_linked(
-        section, image, pieces, olds, news, known, list, registers, settings,
+        section, image, first, olds, news, known, list, registers, settings,
     )
 }

@@ -26,7 +26,7 @@ unfolding address_right
 same_test true a offset h k = let z = h refl in sym (le-leb (a + offset) (2 ^ 64 - 1) (omega arith))
 same_test false a offset h k = refl
 
-pub owner-zero : (old : Bool) (s : List ℕ) (i : ℕ) → old ≡ true → (owner_by old s i).function.address ≡ 0
+pub owner_zero : (old : Bool) (s : List ℕ) (i : ℕ) → old ≡ true → (owner_by old s i).function.address ≡ 0
 unfolding owner_by
-owner-zero true s i h = refl
-owner-zero false s i h = absurd (true≢false (sym h))
+owner_zero true s i h = refl
+owner_zero false s i h = absurd (true≢false (sym h))

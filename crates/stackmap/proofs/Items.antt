@@ -41,9 +41,9 @@ pub byte_word : (s : List ℕ) (a : ℕ) → word 1 s a ≡ get_or s a 0
 unfolding word
 byte_word s a = omega arith
 
-pub zero-bytes : (s : List ℕ) (a : ℕ) → word 2 s a ≡ 0 → (get_or s a 0 ≡ 0) × (get_or s (a + 1) 0 ≡ 0)
+pub zero_bytes : (s : List ℕ) (a : ℕ) → word 2 s a ≡ 0 → (get_or s a 0 ≡ 0) × (get_or s (a + 1) 0 ≡ 0)
 unfolding word
-zero-bytes s a h = (omega arith, omega arith)
+zero_bytes s a h = (omega arith, omega arith)
 
 pub zeros-back : (n : ℕ) (s : List ℕ) (a : ℕ) → word n s a ≡ 0 → zeros n s a ≡ Valid (a + n)
 unfolding zeros word must
@@ -99,7 +99,7 @@ location_fault_lem false s c l a h =
     let k : word 1 s a ≡ l.kind = rw add-zero at h.0 in
     let k₀ : get_or s a 0 ≡ l.kind = sym (byte_word s a) ∙ k in
     let z₁ : get_or s (a + 1) 0 ≡ 0 = sym (byte_word s (a + 1)) ∙ h.1.0 in
-    let z = zero-bytes s (a + 6) h.1.1.1.1.0 in
+    let z = zero_bytes s (a + 6) h.1.1.1.1.0 in
     let p : a + 6 + 1 ≡ a + 7 = omega arith in
     let z₇ : get_or s (a + 7) 0 ≡ 0 = rw p at z.1 in
     rw (k₀, h.1.1.1.1.1.0, eq-eqb _ _ z₁, eq-eqb _ _ z.0, eq-eqb _ _ z₇)

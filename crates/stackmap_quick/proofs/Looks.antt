@@ -199,8 +199,8 @@ module _ (s : List ℕ) (at e next : ℕ) (i : at ≤ next) (r : Ending s (at + 
 
 -- The two looks.
 
-part-zero : (s : List ℕ) (at k : ℕ) → k ≤ 8 → word 8 s at ≡ 0 → word k s at ≡ 0
-part-zero s at k h z =
+part_zero : (s : List ℕ) (at k : ℕ) → k ≤ 8 → word 8 s at ≡ 0 → word k s at ≡ 0
+part_zero s at k h z =
     let e : k + (8 - k) ≡ 8 = omega arith in
     let w = rw e at (word-add k (8 - k) s at) in
     omega arith
@@ -209,7 +209,7 @@ pub closed : (s : List ℕ) (pad padding : ℕ) → padding ≤ 4 → pad + padd
     → Closed s pad padding (pad + padding + 8)
 closed s pad padding h i z =
     let b = or_none _ _ z in
-    record { zeros = part-zero s pad padding (omega arith) b.0; ending = no_outs s (pad + padding) i b.1 }
+    record { zeros = part_zero s pad padding (omega arith) b.0; ending = no_outs s (pad + padding) i b.1 }
 
 -- no padding, after no locations
 pub closed_none : (old : Bool) (s : List ℕ) (at next : ℕ) → Closed s (at + 16) 0 next → Closed s (at + 16 + location_size old * 0) (locations_padding old 0) next

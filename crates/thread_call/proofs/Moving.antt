@@ -27,7 +27,6 @@ use Rattle.thread.specs.Thread.{Thread, thread_of, frame_at, stopped_at, frames_
 use Rattle.thread.specs.Code.{moved_if, registers_if}
 use Rattle.thread.proofs.Frames.{frames_step, frames-end, frames-start}
 use Rattle.thread.proofs.Parts.{own_registers, moved-registers}
-use Rattle.thread_call.specs.Moving.{Moving}
 
 -- One frame, moved or only judged.
 
@@ -93,13 +92,21 @@ module _ (R : Restore) (im : List ℕ) (m : Machine) (ns lent : List ℕ) (n : �
   abbrev th : Thread
   th = thread_of m ns lent
 
-  pub moving-start : Moving R im m ns lent n 0 im lent
-  moving-start =
+  pub record Moving (k : ℕ) (now rs : List ℕ) : Type 0 where
+    pub same : final R (frames_from th n 0) im ≡ final R (frames_from th (n - k) k) now
+    pub done : flatten (final_registers R (frames_from th n 0) im) ≡ take (32 * k) rs ++ flatten (final_registers R (frames_from th (n - k) k) now)
+    pub ahead : drop (32 * k) rs ≡ drop (32 * k) lent
+    pub long : length now ≡ length im
+    pub wide : length rs ≡ length lent
+    pub most : k ≤ n
+
+  pub moving_start : Moving 0 im lent
+  moving_start =
       record { same = rw (frames-start th n); done = rw (frames-start th n); ahead = refl; long = refl; wide = refl; most = omega arith }
 
-  module _ (each : length lent ≡ 32 * n) {k : ℕ} {now rs : List ℕ} (g : Moving R im m ns lent n k now rs) where
+  module _ (each : length lent ≡ 32 * n) {k : ℕ} {now rs : List ℕ} (g : Moving k now rs) where
     -- the next frame is as it was lent
-    pub as_lent : stopped_at (thread_of m ns rs) k ≡ stopped_at th k
+    as_lent : stopped_at (thread_of m ns rs) k ≡ stopped_at th k
     unfolding stopped_at
     as_lent = rw g.ahead
 
@@ -113,7 +120,7 @@ module _ (R : Restore) (im : List ℕ) (m : Machine) (ns lent : List ℕ) (n : �
       next-registers = rw (frames_step th n k l)
 
       pub moving_on : {after rs' : List ℕ} → after ≡ moved R now (stopped_at (thread_of m ns rs) k) → rs' ≡ registers_if true R now (thread_of m ns rs) k
-          → length after ≡ length now → length rs' ≡ length rs → Moving R im m ns lent n (k + 1) after rs'
+          → length after ≡ length now → length rs' ≡ length rs → Moving (k + 1) after rs'
       moving_on {after} {rs'} e d p q =
           let z : 32 * (k + 1) ≡ 32 * k + 32 = omega arith in
           let fits : 32 * k + 32 ≤ length rs = omega (arith, g.wide) in
@@ -133,10 +140,10 @@ module _ (R : Restore) (im : List ℕ) (m : Machine) (ns lent : List ℕ) (n : �
             most = omega arith;
           }
 
-    pub moving-end : n ≤ k
+    pub moving_end : n ≤ k
         → (now ≡ final R (frames_from th n 0) im) × (rs ≡ flatten (final_registers R (frames_from th n 0) im))
     unfolding flatten
-    moving-end l = (
+    moving_end l = (
       sym (g.same ∙ rw (frames-end th n k l)),
       sym (g.done ∙ rw (frames-end th n k l, take_all (32 * k) rs (omega (arith, g.wide))) (append-nil rs)),
     )

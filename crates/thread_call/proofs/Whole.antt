@@ -29,7 +29,7 @@ use Rattle.thread.proofs.Judged.{judged_tells, judged-passes}
 use Rattle.thread_call.proofs.Sited.{accepted-sited}
 
 -- a frame of the list, by its position
-pub frame_in : (ns : Thread) (n i k : ℕ) → i ≤ k → k < i + n → Memᴰ (stopped_at ns k) (frames_from ns n i)
+frame_in : (ns : Thread) (n i k : ℕ) → i ≤ k → k < i + n → Memᴰ (stopped_at ns k) (frames_from ns n i)
 frame_in ns zero i k a b = absurd (omega arith)
 frame_in ns (suc n) i k a b = go (frame_in ns n (suc i) k) (ℕ_discrete i k)
   where

@@ -13,21 +13,11 @@ use relocate_frame::{extent, moving};
 use stackmap::Verdict;
 use stackmap_tables::tables;
 use thread::FRAMES_MOST;
-use thread_log::LOG_MOST;
 use thread_search::{addresses, list, search};
 
 mod frames;
 
-// After all frames are judged: the answer, and how many entries the log has, of how many frames.
-#[derive(Drop)]
-pub struct Pass {
-    pub answer: Move,
-    pub entries: usize,
-    pub frames: usize,
-}
-
-// The frames of a right list: all are judged, and what they write is kept in a log; then their extents are compared; then the log is written, and the
-// frames that had no room in it are moved.
+// The frames of a right list: all are judged, then their extents are compared, then all are moved.
 fn move_frames(
     s: &[u8],
     image: &mut [u8],
@@ -45,25 +35,9 @@ fn move_frames(
     requires { Ready (restore s.now olds.now news.now first settings) machine (length image.old) (length registers.old) list.now count keys.now hits.now }
     ensures { Framed (restore s.now olds.now news.now first settings) image.old (frames_from (thread_of machine list.now registers.old) count 0) registers.old result image.new registers.new }
 {
-    let mut places = [0usize; LOG_MOST];
-    let mut contents = [0u64; LOG_MOST];
-    let pass = frames::judge(
-        s,
-        image,
-        registers,
-        first,
-        olds,
-        news,
-        machine,
-        list,
-        count,
-        keys,
-        hits,
-        &mut places,
-        &mut contents,
-        settings,
+    let judged = frames::judge(
+        s, image, registers, first, olds, news, machine, list, count, keys, hits, settings,
     );
-    let judged = pass.answer;
     if judged.number != 0 {
         return judged;
     }
@@ -71,21 +45,8 @@ fn move_frames(
     if shared < count {
         return moving::refused(26, shared);
     }
-    thread_log::write(image, registers, &places, &contents, pass.entries);
-    frames::move_rest(
-        s,
-        image,
-        registers,
-        first,
-        olds,
-        news,
-        machine,
-        list,
-        count,
-        keys,
-        hits,
-        pass.frames,
-        settings,
+    frames::move_all(
+        s, image, registers, first, olds, news, machine, list, count, keys, hits, settings,
     );
     judged
 }

@@ -91,8 +91,8 @@ module _ (ext : Stopped → Extent) (ns : Thread) where
       unfolding apart
       goes_on h m = let z : k + 1 ≡ suc k = omega arith in g.same m ∙ rw (frames_step ns n k l, shared_is, h, z)
 
-      pub keeping-empty : shares_any starts ends kept a b ≡ false → b ≤ a → Keeping (k + 1) kept starts ends
-      keeping-empty h e =
+      pub keeping_empty : shares_any starts ends kept a b ≡ false → b ≤ a → Keeping (k + 1) kept starts ends
+      keeping_empty h e =
           let z : k + 1 ≡ suc k = omega arith in
           record {
             same = goes_on h;
@@ -102,9 +102,9 @@ module _ (ext : Stopped → Extent) (ns : Thread) where
             most = omega arith;
           }
 
-      pub keeping-kept : (starts' ends' : List ℕ) → shares_any starts ends kept a b ≡ false → Apart starts' ends' (kept + 1)
+      pub keeping_kept : (starts' ends' : List ℕ) → shares_any starts ends kept a b ≡ false → Apart starts' ends' (kept + 1)
           → ((c d : ℕ) → shares_any starts' ends' (kept + 1) c d ≡ (share c d a b || shares_any starts ends kept c d)) → Keeping (k + 1) (kept + 1) starts' ends'
-      keeping-kept starts' ends' h o q =
+      keeping_kept starts' ends' h o q =
           let z : k + 1 ≡ suc k = omega arith in
           record {
             same = goes_on h;
@@ -114,9 +114,9 @@ module _ (ext : Stopped → Extent) (ns : Thread) where
             most = omega arith;
           }
 
-    pub keeping-end : {k kept : ℕ} {starts ends : List ℕ} → Keeping k kept starts ends → n ≤ k → (m : Move) → whole m ≡ cond (ltb k n) (refused_move 26 k) m
+    pub keeping_end : {k kept : ℕ} {starts ends : List ℕ} → Keeping k kept starts ends → n ≤ k → (m : Move) → whole m ≡ cond (ltb k n) (refused_move 26 k) m
     unfolding apart
-    keeping-end {k} g l m = g.same m ∙ rw (frames-end ns n k l, le-ltb k n l)
+    keeping_end {k} g l m = g.same m ∙ rw (frames-end ns n k l, le-ltb k n l)
 
     -- Where no two share a byte, none is refused.
     module _ (c : AllApart (λ j. (ext (stopped_at ns j)).start) (λ j. (ext (stopped_at ns j)).end) n) where
@@ -131,6 +131,6 @@ module _ (ext : Stopped → Extent) (ns : Thread) where
           let z : k + 1 ≡ suc k = omega arith in
           up_to k (omega arith) m ∙ rw (frames_step ns n k l, none_earlier k k l (omega arith), z)
 
-      pub none_shared_lem : (m : Move) → whole m ≡ cond (ltb n n) (refused_move 26 n) m
+      pub none_shared : (m : Move) → whole m ≡ cond (ltb n n) (refused_move 26 n) m
       unfolding apart
-      none_shared_lem m = up_to n (omega arith) m ∙ rw (frames-end ns n n (omega arith), le-ltb n n (omega arith))
+      none_shared m = up_to n (omega arith) m ∙ rw (frames-end ns n n (omega arith), le-ltb n n (omega arith))

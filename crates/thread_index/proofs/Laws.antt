@@ -109,5 +109,5 @@ module _ (R : Restore) (im index : List ℕ) (ns : Thread) where
           unfolding thread_by_index_answer
           by_call o r = asked refused_move _ R.section h ∙ rw (w, a, b, o, r)
 
-pub index-moves : IndexMoves
-index-moves = record { same_answer = with_index; same_image = left_so; same_registers = registers_so }
+pub index_moves : IndexMoves
+index_moves = record { same_answer = with_index; same_image = left_so; same_registers = registers_so }

@@ -19,7 +19,7 @@ use Rattle.stackmap.specs.Record.{record_check}
 use Rattle.stackmap.specs.Check.{header_check, tables_check, records_check, section_check}
 use Rattle.stackmap.specs.Walk.{owner_at, entry_at}
 use Rattle.stackmap.proofs.Verdicts.{never, must-held, chain-rest, shift-valid}
-use Rattle.stackmap.proofs.Addresses.{same_test, owner-zero}
+use Rattle.stackmap.proofs.Addresses.{same_test, owner_zero}
 use Rattle.stackmap.proofs.OneWalk.{fold}
 use Rattle.questions.specs.declared.Hits.{Hits}
 use Rattle.questions.specs.declared.Found.{Found}
@@ -39,7 +39,7 @@ unfolding record_check address read_record
 address-fits s c number function p q w v =
     let x = shift-valid _ _ _ v in
     let k : word 4 (drop p s) 8 < 2 ^ 32 = rw word-drop (word_bound 4 s (p + 8) w) in
-    let e = same_test (is_old s) (owner_at s function).function.address (word 4 (drop p s) 8) (owner-zero (is_old s) s function) k in
+    let e = same_test (is_old s) (owner_at s function).function.address (word 4 (drop p s) 8) (owner_zero (is_old s) s function) k in
     let m : (owner_at s function).function.address + word 4 (drop p s) 8 ≤ 2 ^ 64 - 1 = leb-true _ _ (sym e ∙ must-held _ _ _ _ _ (chain-rest _ _ _ x.1)) in
     omega arith
 

@@ -1,5 +1,5 @@
 // The addresses of a list's frames, in order, with equal ones side by side.
-// No entry point: it requires a list that holds so many frames, which `thread_list::count` ensures.
+// No entry point: it requires a list that holds so many frames, which `list::count` ensures.
 ghost use Rattle.std.specs.Prelude.{◌≡◌, ℕ, ◌*◌, ◌≤◌, ◌<◌, length, get_or};
 ghost use Rattle.thread.specs.Thread.{frames_most, frame_numbers};
 ghost use Rattle.thread.specs.Code.{Gathered};

@@ -19,7 +19,7 @@ use treskibben_answers as answers;
 pub extern "C" fn treskibben_controller_check(section: &[u8]) -> answers::Answer
     ensures { result ≡ answer (profile_check Amd64 section.now) }
 {
-    answers::check_answer(controller_walk::check(section, Machine::Amd64))
+    answers::check_answer(controller_profile::check(section, Machine::Amd64))
 }
 
 // The move of one frame under an edition, as `treskibben_edition_relocate`, with 50 between 1 to 9 and 33.

@@ -1,5 +1,5 @@
 // The exported functions on linked sections, several stack maps one after the other, for C and Rust, and nothing else.
-ghost use Rattle.std.specs.Prelude.{◌≡◌, [], ◌∷◌, length};
+ghost use Rattle.std.specs.Prelude.{◌≡◌};
 ghost use Rattle.linked.specs.Linked.{maps_of};
 ghost use Rattle.linked.specs.Find.{by_address_in};
 ghost use Rattle.restores.specs.Restores.{request};
@@ -33,7 +33,6 @@ pub extern "C" fn treskibben_linked_find(section: &[u8], address: u64) -> Linked
 
 // The move of a whole thread over a linked section under an edition, as `treskibben_edition_thread`: 10 and 15 count over all maps, and all else is as
 // in the frame's own map. After 31 come the maps' refusals, at their places in the whole, and 27 at the first byte of a map of version 1.
-// The stack is one piece.
 #[unsafe(no_mangle)]
 pub extern "C" fn treskibben_edition_linked_thread(
     store: Store,
@@ -47,36 +46,11 @@ pub extern "C" fn treskibben_edition_linked_thread(
     frames: &[u64],
     registers: &mut [u64],
 ) -> Answer
-    ensures { (result ≡ move_answer (linked_answer_under (request store edition section.now olds.now news.now first) (first ∷ length image.old ∷ []) image.old (numbered_thread machine frames.now registers.old)))
-        × (image.new ≡ linked_image_under (request store edition section.now olds.now news.now first) (first ∷ length image.old ∷ []) image.old (numbered_thread machine frames.now registers.old))
-        × (registers.new ≡ linked_registers_under (request store edition section.now olds.now news.now first) (first ∷ length image.old ∷ []) image.old (numbered_thread machine frames.now registers.old)) }
-{
-    let one = [first, image.len() as u64];
-    treskibben_answers::move_answer(restores_linked::relocate_linked(
-        store, edition, section, image, &one, olds, news, machine, frames, registers,
-    ))
-}
-
-// The same on a stack in several pieces, whose bytes stand one after the other in the image: the list has two numbers a piece, its first address and
-// its size. Each frame is moved on the piece that its extent is inside.
-#[unsafe(no_mangle)]
-pub extern "C" fn treskibben_edition_split_thread(
-    store: Store,
-    edition: u64,
-    section: &[u8],
-    image: &mut [u8],
-    pieces: &[u64],
-    olds: &[u64],
-    news: &[u64],
-    machine: u64,
-    frames: &[u64],
-    registers: &mut [u64],
-) -> Answer
-    ensures { (result ≡ move_answer (linked_answer_under (request store edition section.now olds.now news.now 0) pieces.now image.old (numbered_thread machine frames.now registers.old)))
-        × (image.new ≡ linked_image_under (request store edition section.now olds.now news.now 0) pieces.now image.old (numbered_thread machine frames.now registers.old))
-        × (registers.new ≡ linked_registers_under (request store edition section.now olds.now news.now 0) pieces.now image.old (numbered_thread machine frames.now registers.old)) }
+    ensures { (result ≡ move_answer (linked_answer_under (request store edition section.now olds.now news.now first) image.old (numbered_thread machine frames.now registers.old)))
+        × (image.new ≡ linked_image_under (request store edition section.now olds.now news.now first) image.old (numbered_thread machine frames.now registers.old))
+        × (registers.new ≡ linked_registers_under (request store edition section.now olds.now news.now first) image.old (numbered_thread machine frames.now registers.old)) }
 {
     treskibben_answers::move_answer(restores_linked::relocate_linked(
-        store, edition, section, image, pieces, olds, news, machine, frames, registers,
+        store, edition, section, image, first, olds, news, machine, frames, registers,
     ))
 }

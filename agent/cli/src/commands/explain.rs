@@ -4,7 +4,7 @@ use crate::explain::{objects, text, Report};
 use crate::inputs::{Given, Inputs};
 use crate::numbers::{count, whole};
 use crate::trouble::{Status, Trouble, Voice};
-use crate::{files, found, output};
+use crate::{files, found, library, listing, output};
 
 /// Tell why each slot of stopped frames moves or stays, and write nothing
 ///
@@ -44,14 +44,14 @@ pub struct Arguments {
 
 const USAGE: &str = "\
 treskibben explain --section FILE --image FILE --first ADDRESS
-           [--image FILE --first ADDRESS..] --moves FILE [--moves FILE..] --frames FILE
+           --moves FILE [--moves FILE..] --frames FILE
            [--frame POSITION [--slot SLOT]] [OPTIONS]";
 
 pub fn run(arguments: &Arguments, voice: Voice) -> Result<Status, Trouble> {
     let given = &arguments.given;
-    let mut inputs = Inputs::read(given)?;
-    let image = inputs.lay(files::images(&given.image)?);
-    if inputs.all_at_zero() {
+    let inputs = Inputs::read(given)?;
+    let image = files::read(&given.image, files::IMAGE)?;
+    if listing::all_at_zero([&inputs.section[..]]) && library::check(&inputs.section).is_ok() {
         found::warn_of_zeros(&given.section, voice);
     }
     let Some(frame) = arguments.frame else {
@@ -80,8 +80,8 @@ fn position(inputs: &Inputs, frame: u64, image: &[u8]) -> Result<usize, Trouble>
     if let Some(position) = position.filter(|position| *position < frames) {
         return Ok(position);
     }
-    let shared = inputs.shared(image);
-    shared.map_err(|refusal| inputs.refused(refusal, None, image))?;
+    let shared = inputs.restore().explain_thread(image, &[], &[]);
+    shared.map_err(|(refusal, _)| inputs.refused(refusal, None, image))?;
     let why = format!("it has {}, counted from 0", count(frames as u64, "frame"));
     let what = format!("has no frame {frame}");
     Err(Trouble::file(&inputs.given.frames, &what, why))

@@ -3,7 +3,6 @@
 mod many;
 mod over_maps;
 
-use crate::inputs::Maps;
 use crate::library::{Found, Index, LinkedFound, Refusal};
 use crate::listing::Listing;
 use crate::numbers::{address, in_function};
@@ -20,7 +19,7 @@ use std::path::{Path, PathBuf};
 /// Looks for the first record of a section that has the address, and tells how many have it; then
 /// what the section says of the record and of its function. 10 is said where no record has it.
 ///
-/// With --addresses all addresses of a list are looked up at once, through an index of each map. A
+/// With --addresses all addresses of a list are looked up at once, through an index of the section. A
 /// line tells what is found at each; where there is no record, 10 is said on standard error, with the
 /// record that lies nearest. The worst answer is the exit status.
 ///
@@ -30,8 +29,8 @@ use std::path::{Path, PathBuf};
 /// the question is that of the other version.
 ///
 /// A linker puts the maps of several objects one after the other. An address is looked for in all of
-/// them: the first record in their order is told, with its map, and how many of all maps have it.
-/// FUNCTION+OFFSET is of one map.
+/// them: the first record in their order is told, with its map, and how many of all maps have it. An
+/// index, and FUNCTION+OFFSET, are of one map.
 #[derive(clap::Args)]
 pub struct Arguments {
     /// The section
@@ -74,15 +73,8 @@ fn one(
     voice: Voice,
 ) -> Result<Status, Trouble> {
     let file = &arguments.file;
+    let machine = arguments.machine.unwrap_or_default();
     let section = files::read(file, files::SECTION)?;
-    if let (Some(kept), Asked::At(address), true) = (kept, asked, Maps::of(&section).linked) {
-        let found = over_maps::one(file, &section, kept, *address)?;
-        let there = There::among(&section, found);
-        let told = |refusal| linked::refused(file, &section, refusal);
-        return there
-            .map_err(told)
-            .and_then(|there| tell(arguments, asked, &there, voice));
-    }
     let index = kept.map(|kept| asked.index(&section, kept)).transpose()?;
     let told = |refusal: Refusal| match refusal.number {
         10 => {
@@ -93,22 +85,10 @@ fn one(
         _ => asked.refused(file, &section, refusal),
     };
     let there = asked.find(&section, index.as_ref()).map_err(told)?;
-    tell(arguments, asked, &there, voice)
-}
-
-/// Tells all of a record that is found.
-fn tell(
-    arguments: &Arguments,
-    asked: &Asked,
-    there: &There,
-    voice: Voice,
-) -> Result<Status, Trouble> {
-    let (file, machine) = (&arguments.file, arguments.machine.unwrap_or_default());
-    let listing = library::listing_of(there.bytes)
-        .map_err(|refusal| linked::refused(file, there.bytes, refusal))?;
+    let listing = library::listing_of(there.bytes).map_err(told)?;
     let listing = Listing::read(&listing);
     output::to(None, |out| match voice {
-        Voice::Text => describe(out, &listing, asked, there, machine),
+        Voice::Text => describe(out, &listing, asked, &there, machine),
         Voice::Json => {
             let (asked, found) = (asked.to_string(), &there.found);
             json::found(out, file, &asked, there.map, &listing, found, machine)

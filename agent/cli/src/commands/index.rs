@@ -1,18 +1,14 @@
 //! `index`: the address index of a section.
 
-use crate::indexes::Indexes;
 use crate::trouble::{Status, Trouble};
-use crate::{files, found, index, library, linked, output};
-use std::path::{Path, PathBuf};
+use crate::{files, found, index, library, output};
+use std::path::PathBuf;
 
 /// Write the address index of a section, for 'treskibben find --index'
 ///
 /// The index has the address and the number of each record, ordered by address and then by number: 16
 /// bytes a record, two numbers of 64 bits, little-endian, and nothing else. It is right for this
 /// section alone, and whoever uses it tests that.
-///
-/// That of a linked section is the indexes of its maps, one after the other; records are counted anew in
-/// each map.
 ///
 /// Only a section of version 3 has addresses: 27 is said of version 1.
 #[derive(clap::Args)]
@@ -31,23 +27,11 @@ pub fn run(arguments: &Arguments) -> Result<Status, Trouble> {
     output::not_a_terminal(&arguments.output, instead)?;
     let file = &arguments.file;
     let section = files::read(file, files::SECTION)?;
-    let bytes = index::bytes(&entries(file, &section)?);
-    output::to(output, |out| out.write_all(&bytes))?;
-    Ok(Status::Done)
-}
-
-/// The entries of the index, or of those of all maps.
-fn entries(file: &Path, section: &[u8]) -> Result<Vec<u64>, Trouble> {
-    let told = |refusal| linked::refused(file, section, refusal);
-    let maps = library::maps(section).map_err(told)?;
-    if maps.len() > 1 {
-        linked::all_of_version_3(file, section)?;
-        let indexes = Indexes::of(section, &maps).map_err(told)?;
-        return Ok(indexes.entries());
-    }
-    let filled = library::index_of(section).map_err(|refusal| {
-        let found = found::of_indexed(file, section, refusal);
+    let filled = library::index_of(&section).map_err(|refusal| {
+        let found = found::of_indexed(file, &section, refusal);
         Trouble::refused(file, refusal, found)
     })?;
-    Ok(filled.into_entries())
+    let bytes = index::bytes(filled.entries());
+    output::to(output, |out| out.write_all(&bytes))?;
+    Ok(Status::Done)
 }

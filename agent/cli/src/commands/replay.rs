@@ -4,12 +4,11 @@ mod told;
 
 use crate::files;
 use crate::frames::{Line, Naming};
-use crate::inputs::{Chosen, Given, Inputs, Maps, Stack};
+use crate::inputs::{Chosen, Given, Inputs};
 use crate::library::{self, Difference, Refusal, Step};
 use crate::lists::Entry;
 use crate::moves::Moves;
 use crate::numbers::{address, whole};
-use crate::registers::Machine;
 use crate::trace;
 use crate::trouble::{Status, Trouble, Voice};
 use std::path::PathBuf;
@@ -94,8 +93,8 @@ impl Arguments {
     fn given(&self) -> Given {
         Given {
             section: self.section.clone(),
-            image: vec![self.image.clone()],
-            first: vec![self.first],
+            image: self.image.clone(),
+            first: self.first,
             moves: self.moves.clone(),
             frames: self.trace.clone(),
             machine: None,
@@ -105,36 +104,32 @@ impl Arguments {
     }
 }
 
-/// The machine of a trace: that of its first frame.
-fn machine_of(steps: &[Step]) -> Machine {
-    let machine = steps.first().map(|step| library::machine_of(step.machine));
-    machine.unwrap_or_default()
-}
-
 impl<'a> Replay<'a> {
     fn read(arguments: &'a Arguments, given: &'a Given) -> Result<Replay<'a>, Trouble> {
-        let (section, moves, frames) = (&given.section, &given.moves, &given.frames);
+        let Given {
+            section,
+            image,
+            moves,
+            frames,
+            ..
+        } = given;
         let others = moves.iter().chain(&given.store).chain(&arguments.restored);
-        let all = [section, &arguments.image, frames]
-            .into_iter()
-            .chain(others);
-        files::standard_input_once(all)?;
+        files::standard_input_once([section, image, frames].into_iter().chain(others))?;
         let section = files::read(section, files::SECTION)?;
-        let image = files::read(&arguments.image, files::IMAGE)?;
+        let image = files::read(image, files::IMAGE)?;
         let moves = Moves::read(moves)?;
         let restored = arguments.restored.as_deref();
         let restored = restored.map(|path| files::read(path, files::IMAGE));
         let restored = restored.transpose()?;
         let trace = trace::read(frames)?;
         let steps = trace::steps(frames, &trace)?;
-        let machine = machine_of(&steps);
+        let machine = steps.first().map(|step| library::machine_of(step.machine));
+        let machine = machine.unwrap_or_default();
         let inputs = Inputs {
             given,
             moves,
             frames_text: Vec::new(),
             naming: Naming::of(&section),
-            maps: Maps::one(&section),
-            stack: Stack::of(&given.first, [image.len()]),
             section,
             machine,
             chosen: Chosen::of(given.store.as_deref(), given.edition, machine)?,

@@ -1,23 +1,24 @@
 //! `restore`: a stack image whose frames are moved, all of them or none.
 
-mod again;
 mod ahead;
 mod left;
 mod place;
 mod single;
-mod told;
 mod trace;
 
 use super::explain;
 use crate::explain::{text, Report};
-use crate::found;
 use crate::inputs::{Given, Inputs, Moved};
+use crate::library;
 use crate::names::shown;
+use crate::numbers::count;
 use crate::profile::Profile;
+use crate::receipt::{self, Receipt};
 use crate::trouble::{say, Refused, Status, Trouble, Voice};
-use left::Leaves;
+use crate::{files, found, json, listing, output};
+use left::{Leaves, Left};
 use place::Target;
-use std::path::PathBuf;
+use std::path::{Path, PathBuf};
 
 /// Move the frames of a stopped thread on its stack image
 ///
@@ -28,16 +29,13 @@ use std::path::PathBuf;
 /// Numbers are hexadecimal, with or without 0x; a function's number is decimal, as 'list --text'
 /// tells it. In the lists, '#' begins a comment, and blank lines are passed over.
 ///
-/// The section may be linked: each frame is moved by the map that has its record. A stack in several pieces has
-/// an --image and a --first for each, and they are moved together, into one folder.
-///
 /// Refusals come in this order: an image that was restored already; 31 of the edition; 1 to 9 of the
-/// section, and 27 of a map of version 1 among several, or with several images; 50 where --profile is said; 33 of
-/// a version or a machine that the edition doesn't allow; 13 of the images, 14 of the moves, 25 of the frames as a list; a frame with a pair in a register that its line
+/// section; 50 where --profile is said; 33 of a version or a machine that the edition doesn't allow; 13 of
+/// the image, 14 of the moves, 25 of the frames as a list; a frame with a pair in a register that its line
 /// doesn't tell; then the first frame of the list that is refused by itself, by 10, 15, 12, 16, 18, 17 (of
 /// version 1 17, 18), or 19 to 21; then 26 at the first frame whose extent shares a byte with an earlier
 /// one's; with several --moves the first frame that has a base slot which is not listed with itself; a list of
-/// no frames; a register that would change, where no --into is said; last --trace with several maps. The place of a frame's refusal is
+/// no frames; last a register that would change, where no --into is said. The place of a frame's refusal is
 /// its position in the list, counted from 0.
 #[derive(clap::Args)]
 #[command(override_usage = USAGE)]
@@ -50,8 +48,7 @@ pub struct Arguments {
     /// step, and never touch the old ones
     ///
     /// It is made, or is empty. In it are the files 'image', 'frames' and 'image.receipt.json'. It is the
-    /// only way where a register changes: image and registers are of one moment; and with several images,
-    /// which are 'image.0', 'image.1' and so on there.
+    /// only way where a register changes: image and registers are of one moment.
     #[arg(long, value_name = "DIR", conflicts_with_all = ["output", "in_place"])]
     into: Option<PathBuf>,
     /// Write the new image to a file that must not exist yet, and never touch the old one
@@ -84,8 +81,7 @@ pub struct Arguments {
     /// Record the restore: each frame with its registers and its answer, in a file that must not exist yet
     ///
     /// It is there before the new image is, and not at all where the restore is refused. Where it is in the
-    /// folder of --into, it gets its name with it. 'treskibben replay' replays it on the old image. It is for
-    /// one map and one image.
+    /// folder of --into, it gets its name with it. 'treskibben replay' replays it on the old image.
     #[arg(long, value_name = "FILE")]
     trace: Option<PathBuf>,
     /// Hold the section against a profile too, and refuse by 50 what is outside
@@ -101,26 +97,8 @@ pub struct Arguments {
 
 const USAGE: &str = "\
 treskibben restore --section FILE --image FILE --first ADDRESS
-           [--image FILE --first ADDRESS..] --moves FILE [--moves FILE..]
-           --frames FILE
+           --moves FILE [--moves FILE..] --frames FILE
            --into DIR | --output NEW | --in-place | --dry-run [OPTIONS]";
-
-impl Arguments {
-    /// Sees that nothing is asked for which a stack in several pieces can't have.
-    fn in_one_piece(&self) -> Result<(), Trouble> {
-        if self.given.image.len() < 2 {
-            return Ok(());
-        }
-        let why = match (&self.trace, self.profile) {
-            (Some(_), _) => "--trace is for one image: a replay takes no other",
-            (None, Some(_)) => {
-                "--profile is for one image: 'treskibben check --profile' says whether the section is inside"
-            }
-            (None, None) => return Ok(()),
-        };
-        Err(Trouble::Usage(why.to_string()))
-    }
-}
 
 /// A call, and all that it reads but for the image.
 struct Call<'a> {
@@ -129,13 +107,12 @@ struct Call<'a> {
 }
 
 pub fn run(arguments: &Arguments, voice: Voice) -> Result<Status, Trouble> {
-    arguments.in_one_piece()?;
     let mut inputs = Inputs::read(&arguments.given)?;
     inputs.profile = arguments.profile;
+    let call = Call { arguments, inputs };
     let mut target = Target::open(arguments)?;
     let mut left = Leaves::open(arguments, &target)?;
-    let image = inputs.lay(target.read()?);
-    let call = Call { arguments, inputs };
+    let image = target.read()?;
     match call.move_frames(image, voice) {
         Ok(moved) if arguments.dry_run => {
             explain::tell(&Report::of_thread(&call.inputs, &moved)?, voice)
@@ -143,9 +120,7 @@ pub fn run(arguments: &Arguments, voice: Voice) -> Result<Status, Trouble> {
         Ok(moved) => {
             call.write_down(&moved, &mut left)?;
             let receipt = call.receipt(&moved, &target, &left);
-            let pieces = call.inputs.stack.pieces.iter();
-            let images: Vec<&[u8]> = pieces.map(|piece| piece.bytes(&moved.after)).collect();
-            target.put(&images, &moved.frames_after, &receipt, &left)?;
+            target.put(&moved.after, &moved.frames_after, &receipt, &left)?;
             call.tell(&moved, &target, &left, voice);
             Ok(Status::Done)
         }
@@ -166,7 +141,8 @@ impl Call<'_> {
     /// Moves all frames on copies of the image and of their registers, or says why not.
     fn move_frames(&self, before: Vec<u8>, voice: Voice) -> Result<Moved, Trouble> {
         self.not_twice(&before)?;
-        if self.inputs.all_at_zero() {
+        let section = &self.inputs.section;
+        if listing::all_at_zero([&section[..]]) && library::check(section).is_ok() {
             found::warn_of_zeros(&self.arguments.given.section, voice);
         }
         let moved = self.inputs.move_frames(before)?;
@@ -179,19 +155,7 @@ impl Call<'_> {
             ));
         }
         self.changes_no_register(&moved)?;
-        self.can_be_recorded()?;
         Ok(moved)
-    }
-
-    /// A trace is replayed by one map, so that none is recorded over several.
-    fn can_be_recorded(&self) -> Result<(), Trouble> {
-        let (Some(_), Some(maps)) = (&self.arguments.trace, self.inputs.maps.several()) else {
-            return Ok(());
-        };
-        let way = "leave --trace out, or cut the section and give each map a call of its own, with --again";
-        let why = format!("it has {maps} maps, and a replay takes one: {way}");
-        let section = &self.arguments.given.section;
-        Err(Trouble::declined(section, "a trace is of one map", why))
     }
 
     /// Only a folder takes image and registers in one step, so that without one a change of a register is
@@ -213,6 +177,42 @@ impl Call<'_> {
         })))
     }
 
+    /// An image that the receipt beside it tells to be restored already is refused, and so are frames
+    /// whose registers were changed.
+    fn not_twice(&self, image: &[u8]) -> Result<(), Trouble> {
+        if self.arguments.again {
+            return Ok(());
+        }
+        let Given {
+            image: path,
+            frames,
+            ..
+        } = &self.arguments.given;
+        let declined = |file: &Path, beside: &Path, field: &str| {
+            let beside = shown(&receipt::path_of(beside));
+            let why =
+                format!("its SHA-256 is '{field}' in {beside}; --again restores it once more");
+            Err(Trouble::declined(file, "it was restored already", why))
+        };
+        if !files::is_standard_input(path) {
+            match receipt::beside(path)? {
+                Some(receipt) if receipt.made(&receipt::digest(image)) => {
+                    return declined(path, path, "after");
+                }
+                _ => {}
+            }
+        }
+        let beside = frames.with_file_name(place::IMAGE);
+        match receipt::beside(&beside) {
+            Ok(Some(receipt))
+                if receipt.made_frames(&receipt::digest(&self.inputs.frames_text)) =>
+            {
+                declined(frames, &beside, "frames_after")
+            }
+            _ => Ok(()),
+        }
+    }
+
     /// Puts down what is left with the new image.
     fn write_down(&self, moved: &Moved, left: &mut Leaves) -> Result<(), Trouble> {
         if let Some(trace) = &mut left.trace {
@@ -224,5 +224,68 @@ impl Call<'_> {
             written.map_err(|error| Trouble::file(left.path, "cannot be written", error))?;
         }
         Ok(())
+    }
+
+    fn receipt(&self, moved: &Moved, target: &Target, left: &Leaves) -> Receipt {
+        let (entry, inputs) = (receipt::Entry::of, &self.inputs);
+        let (given, frames) = (inputs.given, moved.frames_after.as_bytes());
+        let [section, moves, frames_before] = inputs.entries();
+        let of_left = |left: &Option<Left>| left.as_ref().map(|own| entry(own.path, &own.bytes));
+        Receipt {
+            treskibben: library::VERSION.to_string(),
+            section,
+            moves,
+            joined: inputs.moves.joined_of(),
+            frames: frames_before,
+            machine: inputs.machine.name().to_string(),
+            edition: inputs.chosen.told(),
+            first: format!("{:#x}", given.first),
+            before: entry(&given.image, &moved.before),
+            after: entry(&target.image(), &moved.after),
+            frames_after: target.frames().map(|path| entry(&path, frames)),
+            report: of_left(&left.report),
+            profile: inputs.profile.map(|profile| profile.name().to_string()),
+            trace: of_left(&left.trace),
+            moved_frames: moved.frames,
+            moved_pointers: moved.pointers,
+            moved_registers: moved.changed.len() as u64,
+        }
+    }
+
+    /// Tells what was done. It is done, whether anybody hears of it or not.
+    fn tell(&self, moved: &Moved, target: &Target, left: &Leaves, voice: Voice) {
+        let (new_frames, registers) = (target.frames(), moved.changed.len() as u64);
+        let trace = left.trace.as_ref();
+        let _ = match voice {
+            Voice::Text => {
+                let frames = count(moved.frames, "frame");
+                let pointers = count(moved.pointers, "pointer");
+                let changed = match new_frames {
+                    Some(_) => format!(", {} changed", count(registers, "register")),
+                    None => String::new(),
+                };
+                let edition = self.inputs.chosen.number();
+                let edition = edition.map(|number| format!(", by edition {number}"));
+                let (named, edition) = (shown(target.named()), edition.unwrap_or_default());
+                let recorded =
+                    trace.map(|trace| format!("\n{}: {frames} recorded", shown(trace.path)));
+                let recorded = recorded.unwrap_or_default();
+                output::line(&format!(
+                    "{named}: {frames} moved, {pointers}{changed}{edition}{recorded}"
+                ))
+            }
+            Voice::Json => output::object(&json::Answer::Restored {
+                image: &json::name(&self.arguments.given.image),
+                output: &json::name(&target.image()),
+                new_frames: new_frames.map(|path| json::name(&path)),
+                receipt: &json::name(&target.receipt()),
+                trace: trace.map(|trace| json::name(trace.path)),
+                frames: moved.frames,
+                pointers: moved.pointers,
+                registers,
+                edition: self.inputs.chosen.told(),
+                report: left.report.as_ref().map(|left| json::name(left.path)),
+            }),
+        };
     }
 }

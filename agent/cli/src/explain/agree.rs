@@ -1,7 +1,7 @@
 //! That a report and a new image are of one move: what each slot holds in the report is what the image and the
 //! registers hold. Both are the library's, and somebody signs the one for the other.
 
-use crate::inputs::{Inputs, Moved, Stack};
+use crate::inputs::{Inputs, Moved};
 use crate::library::{ExplainedPointer, Registers, Slot};
 use crate::trouble::Trouble;
 
@@ -16,11 +16,11 @@ pub fn with_the_move(
         let (_, derived) = pointer.slots.as_ref()?;
         Some((pointer.frame, derived.slot, derived.new_content()))
     });
-    put(derived, &inputs.stack, &mut image, &mut registers);
+    put(derived, inputs.given.first, &mut image, &mut registers);
     match image == moved.after && registers == moved.registers {
         true => Ok(()),
         false => Err(Trouble::file(
-            &inputs.given.image[0],
+            &inputs.given.image,
             "cannot be explained",
             "the report of its slots and the new image differ, and nothing is written",
         )),
@@ -30,7 +30,7 @@ pub fn with_the_move(
 /// Puts what slots hold now where they are. Each is told with the position of its frame among the registers.
 pub fn put(
     slots: impl Iterator<Item = (usize, Slot, u64)>,
-    stack: &Stack,
+    first: u64,
     image: &mut [u8],
     registers: &mut [Registers],
 ) {
@@ -44,9 +44,9 @@ pub fn put(
                 }
             }
             Slot::Address(address) => {
-                let place = stack.place(address);
-                let own = place.and_then(|place| image.get_mut(place));
-                let bytes = own.and_then(<[u8]>::first_chunk_mut);
+                let at = usize::try_from(address.wrapping_sub(first));
+                let end = at.ok().and_then(|at| image.get_mut(at..));
+                let bytes = end.and_then(<[u8]>::first_chunk_mut);
                 if let Some(bytes) = bytes {
                     *bytes = content.to_le_bytes();
                 }
@@ -71,8 +71,7 @@ mod tests {
             (0, Slot::Register(32), 1),
             (0, Slot::Address(0), 1),
         ];
-        let stack = Stack::of(&[0x7000], [image.len()]);
-        put(slots.into_iter(), &stack, &mut image, &mut registers);
+        put(slots.into_iter(), 0x7000, &mut image, &mut registers);
         assert_eq!(image, [0, 0x94e20, 7].map(u64::to_le_bytes).concat());
         assert_eq!(registers[0][3], 0x8ffff);
         assert_eq!(registers[0].iter().filter(|own| **own != 0).count(), 1);

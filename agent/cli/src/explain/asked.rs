@@ -3,7 +3,7 @@
 use super::{agree, OfFrame, OfSlot, Report};
 use crate::frames::Line;
 use crate::inputs::slots::Place;
-use crate::inputs::{Inputs, Stack};
+use crate::inputs::Inputs;
 use crate::library::{Reason, Registers, Slot};
 use crate::lists::is_not;
 use crate::numbers::hexadecimal;
@@ -21,7 +21,8 @@ impl Report<'_> {
         let line = &inputs.lines[frame.position].value;
         let asked = asked(inputs.machine, line, text);
         let (slot, named) = asked.map_err(|why| Trouble::Usage(format!("--slot: {why}")))?;
-        let reason = inputs.explain_slot(frame.position, slot, image);
+        let restore = inputs.restore();
+        let reason = restore.explain(image, line.frame, &line.registers, slot);
         let reason =
             reason.map_err(|refusal| inputs.refused_alone(refusal, frame.position, image))?;
         let listed = frame.slots.iter().find(|own| own.slot == slot);
@@ -81,22 +82,23 @@ fn contents(inputs: &Inputs, frame: &OfFrame, slot: Slot, image: &[u8]) -> Optio
     let (mut after, mut registers) = (image.to_vec(), [line.registers]);
     let listed = frame.slots.iter();
     let new = listed.filter_map(|own| Some((0, own.slot, own.content?[1])));
-    agree::put(new, &inputs.stack, &mut after, &mut registers);
+    agree::put(new, inputs.given.first, &mut after, &mut registers);
     let told = match slot {
         Slot::Register(number) => u16::try_from(number).is_ok_and(|number| line.tells(number)),
         Slot::Address(_) => true,
     };
-    let before = content(&inputs.stack, image, &line.registers, slot);
-    let after = content(&inputs.stack, &after, &registers[0], slot);
+    let before = content(inputs.given.first, image, &line.registers, slot);
+    let after = content(inputs.given.first, &after, &registers[0], slot);
     Some([before?, after?]).filter(|_| told)
 }
 
 /// What a slot holds, if it is in the image or a register.
-fn content(stack: &Stack, image: &[u8], registers: &Registers, slot: Slot) -> Option<u64> {
+fn content(first: u64, image: &[u8], registers: &Registers, slot: Slot) -> Option<u64> {
     match slot {
         Slot::Register(number) => registers.get(usize::try_from(number).ok()?).copied(),
         Slot::Address(address) => {
-            let bytes = image.get(stack.place(address)?)?.first_chunk()?;
+            let at = usize::try_from(address.checked_sub(first)?).ok()?;
+            let bytes = image.get(at..)?.first_chunk()?;
             Some(u64::from_le_bytes(*bytes))
         }
     }

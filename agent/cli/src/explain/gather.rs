@@ -17,7 +17,6 @@ pub fn stands(at: &At) -> (Stands, Pairs) {
     let functions = &at.listing.functions;
     let owner = at.owner.map(|owner| (owner, &functions[owner]));
     let stands = Stands {
-        map: at.map,
         record: at.number,
         function: owner.map_or(0, |(number, _)| number as u64),
         stack_size: owner.map_or(0, |(_, function)| function.stack_size),

@@ -15,7 +15,7 @@ use std::io::{self, Write};
 #[serde(tag = "answer", rename_all = "kebab-case")]
 enum Answer<'a> {
     /// What went in, before the rest.
-    Explained(Box<Head<'a>>),
+    Explained(Head<'a>),
     ExplainedFrame(Frame<'a>),
     Slot(OneSlot),
     /// The counts, and what the move leaves.
@@ -26,16 +26,8 @@ enum Answer<'a> {
 struct Head<'a> {
     treskibben: &'a str,
     section: Entry,
-    /// How many maps it has, where they are several.
-    #[serde(skip_serializing_if = "Option::is_none")]
-    maps: Option<u64>,
-    #[serde(skip_serializing_if = "Option::is_none")]
-    image: Option<&'a Entry>,
-    #[serde(skip_serializing_if = "Option::is_none")]
-    first: Option<Hex>,
-    /// Instead of the two, where the stack is in several pieces.
-    #[serde(skip_serializing_if = "Vec::is_empty")]
-    pieces: Vec<Piece<'a>>,
+    image: &'a Entry,
+    first: Hex,
     moves: Entry,
     #[serde(skip_serializing_if = "Vec::is_empty")]
     joined: Vec<Entry>,
@@ -46,25 +38,12 @@ struct Head<'a> {
     profile: Option<&'a str>,
 }
 
-/// A piece of the stack before the move.
-#[derive(Serialize)]
-struct Piece<'a> {
-    first: Hex,
-    #[serde(flatten)]
-    image: &'a Entry,
-}
-
 #[derive(Serialize)]
 struct Frame<'a> {
     frame: usize,
     line: usize,
     #[serde(skip_serializing_if = "Option::is_none")]
     address: Option<Hex>,
-    /// The map that has the record, and the piece that has the extent, where there are several.
-    #[serde(skip_serializing_if = "Option::is_none")]
-    map: Option<u64>,
-    #[serde(skip_serializing_if = "Option::is_none")]
-    piece: Option<u64>,
     record: u64,
     function: u64,
     /// Of version 1, whose frames stand at one.
@@ -112,11 +91,7 @@ struct Total<'a> {
 #[derive(Serialize)]
 struct Left<'a> {
     registers: u64,
-    #[serde(skip_serializing_if = "Option::is_none")]
-    after: Option<Content<'a>>,
-    /// Instead of it, where the stack is in several pieces.
-    #[serde(skip_serializing_if = "Vec::is_empty")]
-    pieces_after: Vec<Content<'a>>,
+    after: Content<'a>,
     #[serde(skip_serializing_if = "Option::is_none")]
     frames_after: Option<Content<'a>>,
 }
@@ -140,7 +115,7 @@ impl<'a> Content<'a> {
 /// Writes a report.
 pub fn report(out: &mut dyn Write, report: &Report) -> io::Result<()> {
     let inputs = report.inputs;
-    write(out, &Answer::Explained(Box::new(head(report))))?;
+    write(out, &Answer::Explained(head(report)))?;
     for frame in &report.frames {
         write(out, &Answer::ExplainedFrame(of_frame(inputs, frame)))?;
         for slot in &frame.slots {
@@ -190,21 +165,11 @@ pub fn slot(
 fn head<'a>(report: &'a Report) -> Head<'a> {
     let inputs = report.inputs;
     let [section, moves, frames] = inputs.entries();
-    let only = inputs.stack.only();
-    let pieces = inputs.stack.pieces.iter().zip(&report.images);
-    let pieces = pieces.filter(|_| only.is_none());
     Head {
         treskibben: library::VERSION,
         section,
-        maps: inputs.maps.several(),
-        image: only.and(report.images.first()),
-        first: only.map(|only| Hex(only.first)),
-        pieces: pieces
-            .map(|(piece, image)| Piece {
-                first: Hex(piece.first),
-                image,
-            })
-            .collect(),
+        image: &report.image,
+        first: Hex(inputs.given.first),
         moves,
         joined: inputs.moves.joined_of(),
         frames,
@@ -223,8 +188,6 @@ fn of_frame<'a>(inputs: &Inputs, frame: &'a OfFrame) -> Frame<'a> {
         frame: frame.position,
         line: entry.line,
         address: (inputs.naming == Naming::Address).then_some(at),
-        map: frame.map(inputs),
-        piece: frame.piece(inputs),
         record: stands.record,
         function: stands.function,
         offset: (inputs.naming == Naming::InFunction).then_some(at),
@@ -237,17 +200,10 @@ fn of_frame<'a>(inputs: &Inputs, frame: &'a OfFrame) -> Frame<'a> {
 }
 
 fn total<'a>(report: &'a Report) -> Total<'a> {
-    let left = report.after.as_ref().map(|after| {
-        let (only, pieces) = match &after.images[..] {
-            [only] => (Some(only), &[][..]),
-            pieces => (None, pieces),
-        };
-        Left {
-            registers: after.registers,
-            after: only.map(Content::of),
-            pieces_after: pieces.iter().map(Content::of).collect(),
-            frames_after: after.frames.as_ref().map(Content::of),
-        }
+    let left = report.after.as_ref().map(|after| Left {
+        registers: after.registers,
+        after: Content::of(&after.image),
+        frames_after: after.frames.as_ref().map(Content::of),
     });
     Total {
         counts: Counts::of(report),

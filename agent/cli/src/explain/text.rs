@@ -38,8 +38,7 @@ pub fn report(out: &mut dyn Write, report: &Report) -> io::Result<()> {
     writeln!(out)?;
     if let Some(after) = &report.after {
         let frames = after.frames.iter().map(|entry| ("new frames", entry));
-        let images = after.images.iter().map(|entry| ("new image", entry));
-        entries(out, images.chain(frames))?;
+        entries(out, [("new image", &after.image)].into_iter().chain(frames))?;
     }
     writeln!(out, "{}", total(report))
 }
@@ -72,8 +71,7 @@ fn head(out: &mut dyn Write, report: &Report) -> io::Result<()> {
     let edition = inputs.chosen.told();
     let store = edition.as_ref().and_then(|edition| edition.store.as_ref());
     let joined = inputs.moves.joined_of();
-    let mut all = vec![("section", &section)];
-    all.extend(report.images.iter().map(|entry| ("image", entry)));
+    let mut all = vec![("section", &section), ("image", &report.image)];
     all.extend(joined.iter().map(|entry| ("moves", entry)));
     all.push(match joined.is_empty() {
         true => ("moves", &moves),
@@ -82,9 +80,9 @@ fn head(out: &mut dyn Write, report: &Report) -> io::Result<()> {
     all.push(("frames", &frames));
     all.extend(store.map(|store| ("store", store)));
     entries(out, all.into_iter())?;
-    for piece in &inputs.stack.pieces {
-        writeln!(out, "{:10}  {}", "addresses", piece.words())?;
-    }
+    let first = inputs.given.first;
+    let end = u128::from(first) + u128::from(report.image.bytes);
+    writeln!(out, "{:10}  {first:#x} to {end:#x}", "addresses")?;
     writeln!(out, "{:10}  {}", "machine", inputs.machine.name())?;
     writeln!(out, "{:10}  {}", "edition", inputs.chosen.line())?;
     match inputs.profile {
@@ -126,14 +124,9 @@ fn frame(out: &mut dyn Write, inputs: &Inputs, frame: &OfFrame, widths: &Widths)
     writeln!(out, "{}", title(inputs, frame.position))?;
     let stands = &frame.stands;
     let [first, end] = frame.extent(inputs);
-    let map = frame.map(inputs).map(|map| format!(" of map {map}"));
-    let piece = frame
-        .piece(inputs)
-        .map(|piece| format!(" in piece {piece}"));
-    let (map, piece) = (map.unwrap_or_default(), piece.unwrap_or_default());
     writeln!(
         out,
-        "  record {} of function {}{map}, {} of {}, extent {first:#x} to {end:#x}{piece}",
+        "  record {} of function {}, {} of {}, extent {first:#x} to {end:#x}",
         stands.record,
         stands.function,
         count(frame.pointers, "pointer"),

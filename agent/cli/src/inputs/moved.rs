@@ -1,7 +1,7 @@
 //! The frames moved, on copies of the image and of their registers.
 
 use super::Inputs;
-use crate::library::{Frame, OfThread, Registers};
+use crate::library::Registers;
 use crate::profile::Profile;
 use crate::trouble::Trouble;
 
@@ -31,7 +31,12 @@ impl Inputs<'_> {
     pub fn move_frames(&self, before: Vec<u8>) -> Result<Moved, Trouble> {
         let frames = self.frames();
         let (mut after, mut registers) = (before.clone(), self.registers());
-        let moved = self.thread(&mut after, &frames, &mut registers);
+        let restore = self.restore();
+        let (image, own) = (&mut after, &mut registers);
+        let moved = match self.profile {
+            None => restore.relocate_thread(image, &frames, own),
+            Some(Profile::Bench) => restore.relocate_thread_in_profile(image, &frames, own),
+        };
         if !matches!(moved, Err((_, None))) {
             self.all_told(0..frames.len())?;
         }
@@ -47,25 +52,6 @@ impl Inputs<'_> {
             frames: frames.len() as u64,
             pointers,
         })
-    }
-
-    /// Moves frames, all of them or none, by the call of the library that is for this section and this stack.
-    pub fn thread(
-        &self,
-        image: &mut [u8],
-        frames: &[Frame],
-        registers: &mut [Registers],
-    ) -> Result<u64, OfThread> {
-        let restore = self.restore();
-        match self.profile {
-            Some(Profile::Bench) => restore.relocate_thread_in_profile(image, frames, registers),
-            None if self.stack.is_split() => {
-                let pieces = self.stack.split();
-                restore.relocate_split_thread(image, &pieces, frames, registers)
-            }
-            None if self.maps.linked => restore.relocate_linked_thread(image, frames, registers),
-            None => restore.relocate_thread(image, frames, registers),
-        }
     }
 
     /// The registers that hold another number than before.

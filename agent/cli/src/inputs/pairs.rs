@@ -182,8 +182,8 @@ impl Inputs<'_> {
         match slot {
             Slot::Register(register) => line.registers.get(usize::from(register)).copied(),
             Slot::Memory(address) => {
-                let place = self.stack.place(u64::try_from(address).ok()?)?;
-                let bytes = image.get(place)?.first_chunk()?;
+                let at = usize::try_from(address - i128::from(self.given.first)).ok()?;
+                let bytes = image.get(at..)?.first_chunk()?;
                 Some(u64::from_le_bytes(*bytes))
             }
         }

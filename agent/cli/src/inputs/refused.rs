@@ -5,24 +5,15 @@ use crate::found::{self, Sizes};
 use crate::frames::Line;
 use crate::library::{self, Refusal};
 use crate::numbers::count;
+use crate::profile;
 use crate::trouble::{place, Refused, Trouble};
-use crate::{files, linked, profile};
 
 /// How the frames of several maps are moved.
 const BY_MAPS: &str = "the frames of each map have a call of their own, a restore on the image of the one before with --again";
 
-/// What 27 found where the section is one map.
-const OLD_PIECES: &str = "a stack in several pieces is for sections of version 3";
-
-/// The most pieces of a stack.
-const MOST_PIECES: usize = 4_096;
-
 impl Inputs<'_> {
     /// The refusal of a frame, by its position, or of what all frames share.
     pub fn refused(&self, refusal: Refusal, position: Option<usize>, image: &[u8]) -> Trouble {
-        if matches!(refusal.number, 1..=8 | 27) && position.is_none() {
-            return self.of_maps(refusal);
-        }
         let refused = match position {
             Some(position) => self.of_frame(refusal, position, image),
             None => self.of_file(refusal, image),
@@ -56,7 +47,10 @@ impl Inputs<'_> {
     fn of_file(&self, refusal: Refusal, image: &[u8]) -> Refused {
         let given = self.given;
         let (file, found) = match refusal.number {
-            13 => return self.of_image(image),
+            13 => {
+                let found = found::of_image(&given.image, image, given.first);
+                (&given.image, Some(found))
+            }
             14 => return self.moves.at_fault(),
             25 => {
                 let frames = count(self.lines.len() as u64, "frame");
@@ -87,59 +81,6 @@ impl Inputs<'_> {
         }
     }
 
-    /// A refusal of the section's maps, or 27 of one.
-    fn of_maps(&self, refusal: Refusal) -> Trouble {
-        let mut trouble = linked::refused(&self.given.section, &self.section, refusal);
-        if let (27, Trouble::Refused(refused)) = (refusal.number, &mut trouble) {
-            let found = refused.found.take();
-            let found = found.map(|found| format!("{found}; {BY_MAPS}"));
-            refused.found = Some(found.unwrap_or_else(|| OLD_PIECES.to_string()));
-        }
-        trouble
-    }
-
-    /// What 13 found: the image, or of several the one at fault.
-    fn of_image(&self, image: &[u8]) -> Refused {
-        let given = self.given;
-        let (number, found) = match self.stack.only() {
-            Some(only) => (0, found::of_image(&given.image[0], image, only.first)),
-            None => self.of_pieces(image),
-        };
-        Refused {
-            file: given.image.get(number).cloned().unwrap_or_default(),
-            found: Some(found),
-            ..Refused::default()
-        }
-    }
-
-    /// What 13 found of a stack in several pieces: the number of the one at fault, and what is wrong with it.
-    fn of_pieces(&self, image: &[u8]) -> (usize, String) {
-        let stack = &self.stack;
-        let all = stack.pieces.len();
-        let words = |number: usize| format!("piece {number} is {}", stack.pieces[number].words());
-        if all > MOST_PIECES {
-            let found = format!("{all} pieces, and at most {MOST_PIECES} are taken");
-            return (MOST_PIECES, found);
-        }
-        if image.len() as u64 > files::IMAGE {
-            // No byte of a piece is read after the one too many.
-            let last = stack.pieces.iter().rposition(|piece| piece.length > 0);
-            let (last, most) = (last.unwrap_or_default(), files::IMAGE);
-            let found = format!("with it the pieces have more than {most} bytes");
-            return (last, found);
-        }
-        if let Some(past) = stack.past() {
-            return (past, words(past));
-        }
-        match stack.shared() {
-            Some((later, earlier)) => {
-                let both = [later, earlier].map(words).join(", and ");
-                (later, format!("{both}: they share addresses"))
-            }
-            None => (0, format!("{all} pieces")),
-        }
-    }
-
     /// What was found of a linked section, and how its frames are moved.
     fn by_maps(&self, found: String) -> String {
         match library::maps(&self.section) {
@@ -161,7 +102,8 @@ impl Inputs<'_> {
     /// A frame of the list: its line, the pair at fault, and what was found there.
     fn of_frame(&self, refusal: Refusal, position: usize, image: &[u8]) -> Refused {
         let line = &self.lines[position].value;
-        let pair = self.pair_at_fault(position, image);
+        let (frame, registers) = (line.frame, line.registers);
+        let pair = self.restore().pair_at_fault(image, frame, registers);
         let more = match refusal.number {
             26 => self.sizes().shared(&self.lines, position).map(|earlier| {
                 let line = self.lines[earlier].line;
@@ -176,27 +118,17 @@ impl Inputs<'_> {
     fn at_line(&self, number: u64, line: &Line, pair: Option<u64>, image: &[u8]) -> Option<String> {
         match number {
             10 => Some(self.naming.not_there(&self.section, &line.frame)),
-            15 => self.sharing(line),
-            16 => self.sizes().outside(line, &self.stack),
+            16 => {
+                let first = self.given.first;
+                self.sizes().outside(line, first, image.len())
+            }
             number => self.at_pair(number, line, pair, image),
         }
     }
 
-    /// What 15 found over several maps: the first record, and how many there are.
-    fn sharing(&self, line: &Line) -> Option<String> {
-        let found = self.maps.linked.then_some(line.frame.address);
-        let found = library::find_linked(&self.section, found?).ok()?;
-        let (own, sharing) = (library::found_in_map(found), found.sharing);
-        let record = linked::record(&own, Some(found.map));
-        Some(format!(
-            "{sharing} records of all maps, the first is {record}"
-        ))
-    }
-
     /// The stack sizes that the frames stand in.
     pub fn sizes(&self) -> Sizes<'_> {
-        let maps = self.map_bytes().collect();
-        Sizes::of(maps, self.naming, self.machine)
+        Sizes::of(&self.section, self.naming, self.machine)
     }
 
     /// What is said of a frame of the list: its line, the pair at fault, and what more was found.
@@ -204,16 +136,12 @@ impl Inputs<'_> {
         let entry = &self.lines[position];
         let more = more.map(|more| format!(": {more}")).unwrap_or_default();
         let words = self.naming.words(self.machine, &entry.value);
-        let map = self.map_of(position);
-        let of_map = map.map(|(map, _)| format!(" of map {map}"));
-        let of_map = of_map.unwrap_or_default();
         Refused {
             file: self.given.frames.clone(),
             line: Some(entry.line),
             frame: Some(position as u64),
             pair,
-            map,
-            found: Some(format!("frame {position} ({words}){of_map}{more}")),
+            found: Some(format!("frame {position} ({words}){more}")),
             ..Refused::default()
         }
     }

@@ -9,8 +9,6 @@ use std::collections::{HashMap, HashSet};
 
 /// A record where a frame stands.
 pub struct At<'a> {
-    /// The number of its map.
-    pub map: usize,
     pub listing: &'a Listing<'a>,
     /// The record's number, and that of its function, which version 1 doesn't tell.
     pub number: u64,
@@ -42,40 +40,32 @@ pub struct Place {
 
 impl Inputs<'_> {
     /// What the records say at the addresses, or of version 1 at the offsets, of the frames: nothing where more
-    /// than one record is there, which the library refuses by 15. Each map of the section is gone through once.
+    /// than one record is there, which the library refuses by 15. The section is gone through once.
     pub fn at_frames<T>(&self, say: impl Fn(&At) -> T) -> HashMap<u64, Option<T>> {
         let mut listed: HashMap<u64, Option<T>> = HashMap::new();
         let frames = self.frames().into_iter();
         let asked: HashSet<u64> = frames.map(|frame| frame.address).collect();
-        for (map, bytes) in self.map_bytes().enumerate() {
-            let listing = library::listing_of(bytes).unwrap_or_default();
-            let listing = &Listing::read(&listing);
-            for (number, (owner, record)) in (0..).zip(listing.records()) {
-                let place = self.place_of(listing, owner, &record);
-                if asked.contains(&place) {
-                    let record = &record;
-                    let own = say(&At {
-                        map,
-                        listing,
-                        number,
-                        owner,
-                        record,
-                    });
-                    let there = listed.entry(place);
-                    there.and_modify(|there| *there = None).or_insert(Some(own));
-                }
+        let listing = library::listing_of(&self.section).unwrap_or_default();
+        let listing = &Listing::read(&listing);
+        for (number, (owner, record)) in (0..).zip(listing.records()) {
+            let start = match (self.naming, owner) {
+                (Naming::Address, Some(owner)) => listing.functions[owner].address,
+                _ => 0,
+            };
+            let place = start.wrapping_add(record.offset.into());
+            if asked.contains(&place) {
+                let record = &record;
+                let own = say(&At {
+                    listing,
+                    number,
+                    owner,
+                    record,
+                });
+                let there = listed.entry(place);
+                there.and_modify(|there| *there = None).or_insert(Some(own));
             }
         }
         listed
-    }
-
-    /// The address of a record, or of version 1 its offset.
-    fn place_of(&self, listing: &Listing, owner: Option<usize>, record: &Record) -> u64 {
-        let start = match (self.naming, owner) {
-            (Naming::Address, Some(owner)) => listing.functions[owner].address,
-            _ => 0,
-        };
-        start.wrapping_add(record.offset.into())
     }
 }
 

@@ -3,9 +3,7 @@
 use super::{machine, Refusal, Table};
 use crate::registers;
 use treskibben::editions::Edition;
-use treskibben::{
-    ExplainedPointer, Frame, MoveTable, Piece, Reason, Registers, Slot, ThreadRefusal,
-};
+use treskibben::{ExplainedPointer, Frame, MoveTable, Reason, Registers, Slot, ThreadRefusal};
 
 /// All that stays the same throughout a restore.
 #[derive(Clone, Copy, Debug)]
@@ -38,38 +36,6 @@ impl Restore<'_> {
         let edition = &self.edition;
         let moved =
             edition.relocate_thread(section, image, first, moves, machine, frames, registers);
-        moved.map(|pointers| pointers as u64).map_err(of_thread)
-    }
-
-    /// The same over all maps of a linked section.
-    pub fn relocate_linked_thread(
-        &self,
-        image: &mut [u8],
-        frames: &[Frame],
-        registers: &mut [Registers],
-    ) -> Result<u64, OfThread> {
-        let (section, first, moves) = (self.section, self.first, self.moves());
-        let (machine, registers) = (machine(self.machine), registers.as_flattened_mut());
-        let edition = &self.edition;
-        let moved = edition
-            .relocate_linked_thread(section, image, first, moves, machine, frames, registers);
-        moved.map(|pointers| pointers as u64).map_err(of_thread)
-    }
-
-    /// The same on a stack in several pieces, which the image holds one after the other. The restore's own first
-    /// address is not read.
-    pub fn relocate_split_thread(
-        &self,
-        image: &mut [u8],
-        pieces: &[Piece],
-        frames: &[Frame],
-        registers: &mut [Registers],
-    ) -> Result<u64, OfThread> {
-        let (section, moves) = (self.section, self.moves());
-        let (machine, registers) = (machine(self.machine), registers.as_flattened_mut());
-        let edition = &self.edition;
-        let moved = edition
-            .relocate_split_thread(section, image, pieces, moves, machine, frames, registers);
         moved.map(|pointers| pointers as u64).map_err(of_thread)
     }
 

@@ -1,15 +1,9 @@
-//! Linked sections: the maps of several objects one after the other, taken as they come, and named where one map is
-//! wanted.
+//! Linked sections: the maps of several objects one after the other, taken as they come by `check`, `list`, `find` and
+//! `report`, and named where one map is wanted.
 
-mod counted;
-mod explained;
-mod indexed;
-pub mod moved;
-mod random;
-
-use crate::fixtures::{one_function, row_h, statepoint, with, C};
+use crate::fixtures::{one_function, row_h, statepoint, with, words, C};
 use crate::list::NO_RECORD;
-use crate::report::{lines, OF_REFUSED};
+use crate::report::{last_object, lines, object, of_sizes, sum, OF_C, OF_H, OF_REFUSED};
 use crate::run::{sample, Folder, Ran};
 use serde_json::{json, Value};
 use std::fs;
@@ -368,15 +362,67 @@ fn a_map_of_version_1_is_named() {
     assert_eq!(ran.refused(27, 0, &format!("all: {OTHER_VERSION}")), "");
 }
 
+/// Each map of a file is a section of the report; a refused one makes the file one refused section.
+#[test]
+fn each_map_counts_as_a_section() {
+    let folder = Folder::new();
+    folder.put("two", [row_h(), C.to_vec()].concat());
+    folder.put("h", row_h());
+    folder.put("bad", [row_h(), row_h(), with(C.to_vec(), 3, 9)].concat());
+    let totals = sum(&[OF_H, OF_C, OF_REFUSED, OF_H]);
+    for threads in ["1", "3"] {
+        let call = ["report", "two", "bad", "h", "--threads", threads];
+        folder.run(call).done(&lines(totals));
+    }
+    let ran = folder.run(["report", "--json", "two", "bad", "h"]);
+    assert_eq!(last_object(&ran)["totals"], object(totals));
+    // In parts it is the same.
+    folder.run(["cut", "two", "--into", "parts"]).done(
+        "part 0 from byte 0: 152 bytes, accepted\npart 1 from byte 152: 16 bytes, accepted\n",
+    );
+    folder
+        .run(["report", "parts"])
+        .done(&lines(sum(&[OF_H, OF_C])));
+}
+
+/// The position of 34 is that of the map, counted over all files.
+#[test]
+fn a_map_that_passes_is_told_at_its_position() {
+    let folder = Folder::new();
+    folder.put("two", [row_h(), C.to_vec()].concat());
+    folder.put(
+        "large",
+        [C.to_vec(), of_sizes(&[u64::MAX - 30]), row_h()].concat(),
+    );
+    folder.put("deep", [C.to_vec(), of_sizes(&[1 << 63, 1 << 63])].concat());
+    let cause = "a total of the report would pass 2^64 - 1";
+    for threads in ["1", "2"] {
+        let ran = folder.run(["report", "two", "large", "two", "--threads", threads]);
+        let found = ran.refused(34, 4, &format!("large: {cause}"));
+        let passes = "stack is 18446744073709551609 before, and 24 more are to be added";
+        assert_eq!((found, ran.text()), (&*format!("map 2: {passes}"), ""));
+        let ran = folder.run(["report", "two", "deep", "two", "--threads", threads]);
+        let found = ran.refused(34, 3, &format!("deep: {cause}"));
+        assert_eq!(
+            found,
+            "map 1: the known stack sizes of this section alone pass it"
+        );
+    }
+}
+
 /// Where one map is wanted, 9 says that the section is linked, and what takes it apart.
 #[test]
 fn where_one_map_is_wanted_that_is_said() {
     let folder = Folder::new();
     folder.put("two", [row_h(), C.to_vec()].concat());
+    folder.put("kept", words(&[0x1020, 0]));
     for call in [
         &["list", "two"][..],
+        &["index", "two"],
         &["check", "--profile", "bench", "two"],
         &["find", "two", "0+20"],
+        &["find", "two", "1020", "--index", "kept"],
+        &["find", "two", "--addresses", "/dev/null", "--index", "kept"],
     ] {
         let ran = folder.run(call);
         assert_eq!(ran.refused(9, 152, &format!("two: {AFTER}")), ONE_IS_WANTED);
@@ -384,10 +430,39 @@ fn where_one_map_is_wanted_that_is_said() {
     }
     // What comes after the first map is none.
     folder.put("two", [row_h(), vec![0; 3]].concat());
-    let ran = folder.run(["list", "two"]);
+    let ran = folder.run(["index", "two"]);
     let found = ran.refused(9, 152, &format!("two: {AFTER}"));
     assert_eq!(
         found,
         "3 bytes from there on, where no map begins: 'treskibben check' says why"
+    );
+}
+
+/// A restore and an explanation tell how the frames of several maps are moved.
+#[test]
+fn a_restore_tells_how_it_goes_on() {
+    let folder = Folder::new();
+    folder.put("two", [row_h(), C.to_vec()].concat());
+    for name in ["i.image", "i.moves", "i.frames"] {
+        folder.put(name, fs::read(sample(name)).unwrap());
+    }
+    let given = ["--section", "two", "--image", "i.image", "--first", "7000"];
+    let lists = ["--moves", "i.moves", "--frames", "i.frames"];
+    let call = |command: &'static str, more: &[&'static str]| {
+        folder.run([&[command], &given[..], &lists, more].concat())
+    };
+    let way = "the frames of each map have a call of their own, a restore on the image of the one before with --again";
+    for ran in [call("explain", &[]), call("restore", &["--dry-run"])] {
+        let start = format!("two: refused 9 at 152: {AFTER}; {ONE_IS_WANTED}; {way}\n");
+        assert!(ran.err.starts_with(&start), "{}", ran.err);
+        assert_eq!((ran.status, ran.text()), (Some(1), ""));
+    }
+    folder.put("two", [row_h(), vec![0; 3]].concat());
+    let ran = call("explain", &[]);
+    assert!(
+        ran.err
+            .ends_with("where no map begins: 'treskibben check' says why\n"),
+        "{}",
+        ran.err
     );
 }

@@ -10,7 +10,6 @@ pub mod killed;
 mod lists;
 mod machines;
 mod output;
-mod pieces;
 pub mod receipts;
 mod refusals;
 pub mod registers;

@@ -9,9 +9,6 @@ use crate::rng::Rng;
 use std::ops::Range;
 pub use wrong::Wrong;
 
-/// The most pieces of a stack.
-pub const MOST_PIECES: usize = 4_096;
-
 /// The bytes of a piece.
 #[derive(Clone, Debug, PartialEq, Eq)]
 enum Source {
@@ -78,10 +75,12 @@ impl Split {
         if rng.one_in(6) {
             pieces.remove(rng.below(pieces.len()));
         }
-        for _ in 0..empty_ones(rng, pieces.len()) {
+        for _ in 0..rng.pick(&[0, 0, 1, 3]) {
+            let first = near(rng, scene);
+            let empty = Source::Other(Vec::new());
             pieces.push(Piece {
-                first: near(rng, scene),
-                source: Source::Other(Vec::new()),
+                first,
+                source: empty,
             });
         }
         if rng.one_in(3) {
@@ -150,7 +149,7 @@ impl Split {
     }
 
     /// The number of a frame: 10, 15 and 12 as on the whole image, then 16 where it isn't inside one piece.
-    pub(crate) fn of_frame(&self, scene: &Scene, stop: usize, most: usize) -> Option<u64> {
+    fn of_frame(&self, scene: &Scene, stop: usize, most: usize) -> Option<u64> {
         let (number, _) = plain::own_refusal_under(scene, stop, most);
         if [10, 15, 12].contains(&number) {
             return Some(number);
@@ -208,15 +207,6 @@ fn cuts(rng: &mut Rng, scene: &Scene) -> Vec<usize> {
         cuts.push(rng.below(length + 1));
     }
     cuts
-}
-
-/// How many empty pieces are added to so many: few, or with them nearly as many as there can be.
-fn empty_ones(rng: &mut Rng, pieces: usize) -> usize {
-    match rng.below(96) {
-        0 => MOST_PIECES - 1 - rng.below(2) - pieces,
-        1..9 => rng.below(400),
-        _ => rng.pick(&[0, 0, 1, 3]),
-    }
 }
 
 /// The address of a byte of the image, of one beside it, or any.

@@ -6,8 +6,7 @@ use crate::frames::named::Named;
 use crate::frames::thread::Thread;
 use reference::editions::{Edition, Settings, Store};
 use reference::restore::Restore;
-use reference::split::SplitRestore;
-use threads::{LinkedThread, SplitThread};
+use threads::LinkedThread;
 
 const CASES: u64 = 30_000;
 
@@ -217,46 +216,4 @@ fn threads_over_linked_sections_are_answered_as_known() {
     ]) {
         assert!(numbers[number] >= 20, "{number}: {numbers:?}");
     }
-}
-
-/// What is known of a list over a random linked section on a split stack is what the second implementation
-/// answers.
-#[test]
-fn threads_on_split_stacks_are_answered_as_known() {
-    let mut rng = Rng::new(25);
-    let (mut numbers, mut open) = ([0; 34], 0);
-    for _ in 0..8_000 {
-        let case = SplitThread::any(&mut rng);
-        let SplitThread { of, split } = &case;
-        let (thread, scene) = (&of.thread, &of.thread.scene);
-        let named = Named::any(&mut rng, scene);
-        let Some(known) = case.answer(named.settings()) else {
-            open += 1;
-            continue;
-        };
-        let store = store(&named);
-        let restore = SplitRestore {
-            store: &store,
-            edition: named.edition,
-            section: &of.linked.bytes,
-            pieces: &split.list(),
-            old_starts: &scene.table.olds,
-            new_starts: &scene.table.news,
-        };
-        let (mut buffer, mut registers) = (split.buffer(&scene.image), thread.registers());
-        let (list, machine) = (thread.list(), scene.machine);
-        let answer = restore.linked_thread(&mut buffer, machine, &list, &mut registers);
-        numbers[known.0 as usize] += 1;
-        let told = answer.map_or_else(|refusal| (refusal.number, refusal.place), |_| (0, 0));
-        assert_eq!(told, known);
-        if known == (0, 0) {
-            assert_eq!(buffer, split.buffer(&thread.moved()));
-        }
-    }
-    for number in (1..=8).chain([
-        0, 10, 12, 13, 14, 15, 16, 17, 18, 19, 20, 21, 25, 26, 27, 31, 33,
-    ]) {
-        assert!(numbers[number] >= 20, "{number}: {numbers:?}");
-    }
-    assert!(open < 2_000, "{open} with no word on their answer");
 }

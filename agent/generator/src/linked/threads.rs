@@ -5,7 +5,6 @@
 use super::{addresses, case_of, dealt, kin, start, whole, Linked, MOST_MAPS};
 use crate::editions::Settings;
 use crate::frames::faults::{aim, other_machine, scatter_of};
-use crate::frames::split::{Split, Wrong};
 use crate::frames::thread::Thread;
 use crate::frames::{plain, Scene};
 use crate::layout::{Section, Version};
@@ -24,11 +23,6 @@ pub struct LinkedThread {
 impl LinkedThread {
     /// A random list over a random linked section, which mostly has the records of its frames.
     pub fn any(rng: &mut Rng) -> LinkedThread {
-        LinkedThread::with(rng, &[14, 13, 33])
-    }
-
-    /// One with these of the numbers that all frames share, each now and then.
-    fn with(rng: &mut Rng, numbers: &[u64]) -> LinkedThread {
         let version = match rng.one_in(12) {
             true => Version::One,
             false => Version::Three,
@@ -42,7 +36,7 @@ impl LinkedThread {
             other_machine(&mut thread.scene);
         }
         let mut shared = 0;
-        for &number in numbers {
+        for number in [14, 13, 33] {
             if rng.one_in(18) && aim(rng, number, &mut thread.scene, 0).is_some() && number != 33 {
                 shared = number;
             }
@@ -73,11 +67,6 @@ impl LinkedThread {
     /// The answer under an edition with these settings, or with none where it is unknown: number and place, both
     /// 0 where the list is accepted. `None` where it isn't known beforehand.
     pub fn answer(&self, settings: Option<Settings>) -> Option<(u64, u64)> {
-        self.answer_on(None, settings)
-    }
-
-    /// The answer on these pieces, or on the whole image.
-    fn answer_on(&self, split: Option<&Split>, settings: Option<Settings>) -> Option<(u64, u64)> {
         let Some(own) = settings else {
             return Some((31, 0));
         };
@@ -91,11 +80,8 @@ impl LinkedThread {
         if !own.version_3 || own.machine != self.thread.scene.machine {
             return Some((33, 0));
         }
-        if split.is_some_and(|split| split.wrong().is_some()) {
-            return Some((13, 0));
-        }
         match (self.shared, self.thread.fits()) {
-            (0, true) => self.of_frames(split, own.largest_count as usize),
+            (0, true) => self.of_frames(own.largest_count as usize),
             (0, false) => Some((25, 0)),
             (number, _) => Some((number, 0)),
         }
@@ -107,9 +93,9 @@ impl LinkedThread {
     }
 
     /// The answer where nothing but a frame is to blame.
-    fn of_frames(&self, split: Option<&Split>, most: usize) -> Option<(u64, u64)> {
+    fn of_frames(&self, most: usize) -> Option<(u64, u64)> {
         for (position, stop) in self.thread.order.iter().enumerate() {
-            let number = self.of_frame(split, *stop, most)?;
+            let number = self.of_frame(*stop, most)?;
             if number != 0 {
                 return Some((number, position as u64));
             }
@@ -119,54 +105,18 @@ impl LinkedThread {
     }
 
     /// The number of a frame: 10 and 15 by the records of all maps, the rest as on the scene's own section, of
-    /// which the one record is. `None` where the scene has none or several, or its pieces have no answer.
-    fn of_frame(&self, split: Option<&Split>, stop: usize, most: usize) -> Option<u64> {
+    /// which the one record is. `None` where the scene has none or several.
+    fn of_frame(&self, stop: usize, most: usize) -> Option<u64> {
         let scene = &self.thread.scene;
         let address = scene.stops[stop].address;
         match self.sharing(address) {
             0 => Some(10),
-            1 if has(&scene.section, address) != 1 => None,
-            1 => match split {
-                Some(split) => split.of_frame(scene, stop, most),
-                None => Some(plain::own_refusal_under(scene, stop, most).0),
-            },
+            1 => {
+                let one = has(&scene.section, address) == 1;
+                one.then(|| plain::own_refusal_under(scene, stop, most).0)
+            }
             _ => Some(15),
         }
-    }
-}
-
-/// A list of frames over a linked section, on a stack in pieces.
-#[derive(Clone, Debug)]
-pub struct SplitThread {
-    pub of: LinkedThread,
-    pub split: Split,
-}
-
-impl SplitThread {
-    /// A random list over a random linked section on random pieces: one, several, or some that can't be.
-    pub fn any(rng: &mut Rng) -> SplitThread {
-        let mut of = LinkedThread::with(rng, &[14]);
-        let scene = &mut of.thread.scene;
-        let mut split = match rng.one_in(8) {
-            true => Split::one(scene),
-            false => Split::any(rng, scene),
-        };
-        let wrong = rng.pick(&Wrong::ALL);
-        // Images over their limit are large: there are few of them.
-        let many = if wrong == Wrong::Large { 6 } else { 4 };
-        if rng.one_in(many) {
-            split = split.spoil(rng, &scene.image, wrong);
-        }
-        // Where no machine is, no frame has a place: so this comes last.
-        if rng.one_in(18) {
-            aim(rng, 33, scene, 0);
-        }
-        SplitThread { of, split }
-    }
-
-    /// The answer under an edition with these settings, as [`LinkedThread::answer`] has it.
-    pub fn answer(&self, settings: Option<Settings>) -> Option<(u64, u64)> {
-        self.of.answer_on(Some(&self.split), settings)
     }
 }
 

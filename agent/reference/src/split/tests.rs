@@ -216,47 +216,6 @@ fn an_image_over_its_limit_is_13() {
     );
 }
 
-/// 4,096 pieces are taken, of one byte each or most of them empty, and not one
-/// more, whatever it is.
-#[test]
-fn more_than_4096_pieces_are_13() {
-    let empty = |count| [0x9000, 0].repeat(count);
-    let one_byte = |count: u64| (0..count).flat_map(|nth| [0x9000 + 2 * nth, 1]);
-    let own = || vec![0x7000, 24];
-    let mut image = vec![0; 24 + 4_096];
-    for (pieces, length, taken) in [
-        ([own(), empty(4_095)].concat(), 24, true),
-        ([empty(4_095), own()].concat(), 24, true),
-        ([own(), empty(4_096)].concat(), 24, false),
-        ([empty(4_096), own()].concat(), 24, false),
-        ([own(), empty(65_536)].concat(), 24, false),
-        (
-            [own(), one_byte(4_095).collect()].concat(),
-            24 + 4_095,
-            true,
-        ),
-        (
-            [own(), one_byte(4_096).collect()].concat(),
-            24 + 4_096,
-            false,
-        ),
-    ] {
-        let answer = run_on(&row_h(), &mut image[..length], &pieces, &[0x7000]);
-        let expected = if taken { Ok(2) } else { refusal(13, 0) };
-        assert_eq!(answer, expected, "{} pieces", pieces.len() / 2);
-        assert_eq!(
-            run_on(&row_h(), &mut image[..length], &pieces, &[]),
-            expected.map(|_| 0)
-        );
-    }
-    // None of the pieces holds a byte.
-    assert_eq!(run_on(&row_h(), &mut [], &empty(4_096), &[]), Ok(0));
-    assert_eq!(
-        run_on(&row_h(), &mut [], &empty(4_097), &[]),
-        refusal(13, 0)
-    );
-}
-
 /// Frames without bytes: they start inside a piece, or at its end.
 #[test]
 fn empty_extents_start_inside_a_piece_or_at_its_end() {

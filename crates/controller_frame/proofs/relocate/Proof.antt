@@ -1,18 +1,54 @@
--- The walk of quick looks, and then the move, or the exact way.
+use mathlib.Core.Path.{sym, ◌∙◌}
+use Rattle.questions.proofs.Searched.{section-accepted}
 use Rattle.relocate.specs.Restore.{restore}
 use Rattle.relocate.specs.Stopped.{stopped}
-use Rattle.controller.proofs.Steps.{control_base}
+use Rattle.controller.proofs.Profiles.{profile_searched}
+use Rattle.controller.proofs.Steps.{control_refused, control_base}
 use borrow.Author.Rules.{rules}
 use Rattle.controller_frame.proofs.relocate.Statement.{statement}
 use Rattle.controller_frame.proofs.relocate.Tie as tie
 
-search-requires : tie.Need-search-requires
-search-requires c κs = search rules
+records-requires : tie.Need-records-requires
+records-requires c κs = search rules
+
+of-section-requires : tie.Need-of-section-requires
+of-section-requires c κs = search rules
+
+refused-requires : tie.Need-refused-requires
+refused-requires c κs = search rules
+
+returns : tie.Need-returns
+returns c =
+    let a = c.before.before.before.before.before.before.before.before.before.args in
+    let r = c.before.before.before.records in
+    let R = restore a.section.now a.olds.now a.news.now a.first a.settings in
+    let h = profile_searched _ a.section.now a.frame.address r.result r.ensures (sym c.before.before.of-section.ensures ∙ c.before.if1.true) in
+    control_refused R a.image.now (stopped a.frame a.registers.now) h c.refused.ensures
+
+of-accepted-requires : tie.Need-of-accepted-requires
+of-accepted-requires c κs =
+    let r = c.before.before.records in
+    section-accepted _ _ r.result r.ensures (sym c.before.of-section.ensures ∙ c.if1.false)
+
+enum-known-n : tie.Need-enum-known-n
+enum-known-n c = search rules
+
+refused-requires-2 : tie.Need-refused-requires-2
+refused-requires-2 c κs = search rules
+
+enum_told : tie.Need-enum-told
+enum_told c = search rules
 
 relocate-found-requires : tie.Need-relocate-found-requires
 relocate-found-requires c κs =
-    let t = c.before.before.before.search.ensures c.before.before.if1.true in
-    (t.found_is, t.unrefused, c.before.before.before.before.before.before.before.before.before.requires)
+    let i = c.before.before.before.before.before in
+    (i.before.before.records.ensures, sym i.before.of-section.ensures ∙ i.if1.false, i.before.before.before.before.before.before.before.before.requires)
+
+returns-2 : tie.Need-returns-2
+returns-2 c =
+    let a = c.before.before.before.before.before.before.before.before.before.before.before.before.before.args in
+    let R = restore a.section.now a.olds.now a.news.now a.first a.settings in
+    control_refused R a.image.now (stopped a.frame a.registers.now) (sym c.before.before.before.before.of-accepted.ensures ∙ c.before.before.n.given.1) c.refused2.ensures
 
 same_length : tie.Need-same-length
 same_length c = search rules
@@ -20,36 +56,28 @@ same_length c = search rules
 same-length-2 : tie.Need-same-length-2
 same-length-2 c = search rules
 
-returns : tie.Need-returns
-returns c =
-    let i = c.before.before.before.before.before.before.before in
-    let a = i.before.before.before.before.before.before.before.args in
+returns-3 : tie.Need-returns-3
+returns-3 c =
+    let t = c.before.before.before.before.before.before.before in
+    let a = t.before.before.before.before.before.before.before.before.before.before.before.args in
     let R = restore a.section.now a.olds.now a.news.now a.first a.settings in
-    let t = i.before.search.ensures i.if1.true in
-    control_base R a.image.now (stopped a.frame a.registers.now) t.valid c.before.before.before.before.relocate-found.ensures
-
-exactly-requires : tie.Need-exactly-requires
-exactly-requires c κs = c.before.before.before.before.before.before.before.before.before.requires
-
-same-length-3 : tie.Need-same-length-3
-same-length-3 c = search rules
-
-same-length-4 : tie.Need-same-length-4
-same-length-4 c = search rules
-
-returns-2 : tie.Need-returns-2
-returns-2 c = c.before.before.before.before.exactly.ensures
+    let h = sym t.before.before.of-accepted.ensures ∙ t.enum_told.given.1 in
+    control_base R a.image.now (stopped a.frame a.registers.now) h c.before.before.before.before.relocate-found.ensures
 
 pub relocate-spec : {M : Type 1} → statement M
 relocate-spec =
     tie.close
     (tie.spec
-    search-requires
+    records-requires
+    of-section-requires
+    refused-requires
+    returns
+    of-accepted-requires
+    enum-known-n
+    refused-requires-2
+    enum_told
     relocate-found-requires
+    returns-2
     same_length
     same-length-2
-    returns
-    exactly-requires
-    same-length-3
-    same-length-4
-    returns-2)
+    returns-3)

@@ -28,7 +28,7 @@ returns : tie.Need-returns invariant-loop decreases-loop
 returns c =
     let a = c.before.before.before.before.before.before.args in
     let l = c.before.before.before.loop in
-    sym (low-hit (moves_at (state a.window.now a.registers.now) a.live.now a.bases.now a.derived.now a.x) a.pointers l.k (omega arith) (sym c.before.moves-at.ensures ∙ c.if1.true)) ∙ l.invariant.1
+    sym (low-hit (moves_at (state a.window.now a.registers.now) a.live.now a.bases.now a.derived.now a.x) a.pointers l.k (omega arith) (sym c.before.moves_at_lem.ensures ∙ c.if1.true)) ∙ l.invariant.1
 
 add-k : tie.Need-overflow-add-k invariant-loop decreases-loop
 add-k c = search rules
@@ -40,7 +40,7 @@ loop-again : tie.Need-loop-preserved invariant-loop decreases-loop
 loop-again c =
     let a = c.before.before.before.before.before.before.args in
     let l = c.before.before.before.loop in
-    (omega arith, sym (low_step (moves_at (state a.window.now a.registers.now) a.live.now a.bases.now a.derived.now a.x) a.pointers l.k (omega arith) (sym c.before.moves-at.ensures ∙ c.if1.false)) ∙ l.invariant.1)
+    (omega arith, sym (low_step (moves_at (state a.window.now a.registers.now) a.live.now a.bases.now a.derived.now a.x) a.pointers l.k (omega arith) (sym c.before.moves_at_lem.ensures ∙ c.if1.false)) ∙ l.invariant.1)
 
 returns-2 : tie.Need-returns-2 invariant-loop decreases-loop
 returns-2 c =

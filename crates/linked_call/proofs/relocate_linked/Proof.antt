@@ -28,9 +28,9 @@ enum_told c = search rules
 returns : tie.Need-returns
 returns c =
     let f = c.before.before.before.before in
-    let a = f.before.before.before.before.before.before.before.before.before.before.before.before.before.before.before.args in
+    let a = f.before.before.before.before.before.before.before.before.before.before.before.before.before.before.args in
     rw c.refused.ensures
-    (linked_refused (restore a.section.now a.olds.now a.news.now 0 a.settings) a.pieces.now a.image.now (thread_of a.machine a.list.now a.registers.now) _ _
+    (linked_refused (restore a.section.now a.olds.now a.news.now a.first a.settings) a.image.now (thread_of a.machine a.list.now a.registers.now) _ _
     (sym f.find-all.ensures.0 ∙ c.before.before.n.given.1))
 
 of-maps-requires : tie.Need-of-maps-requires
@@ -46,7 +46,7 @@ of-maps-requires c κs =
         found = (f.find-all.ensures.1 _ v).0;
       },
       n.2,
-      f.before.before.before.before.before.before.before.before.before.before.before.before.before.before.before.requires,
+      f.before.before.before.before.before.before.before.before.before.before.before.before.before.before.requires,
     )
 
 same_length : tie.Need-same-length
@@ -62,8 +62,8 @@ returns-2 : tie.Need-returns-2
 returns-2 c =
     let t = c.before.before.before.before.before.before.before.before.before.before in
     let f = t.before.before in
-    let a = f.before.before.before.before.before.before.before.before.before.before.before.before.before.before.before.args in
-    linked_moved (restore a.section.now a.olds.now a.news.now 0 a.settings) a.pieces.now a.image.now (thread_of a.machine a.list.now a.registers.now) _
+    let a = f.before.before.before.before.before.before.before.before.before.before.before.before.before.before.args in
+    linked_moved (restore a.section.now a.olds.now a.news.now a.first a.settings) a.image.now (thread_of a.machine a.list.now a.registers.now) _
     (sym f.find-all.ensures.0 ∙ t.enum_told.given.1) c.before.before.before.before.of-maps.ensures
 
 pub relocate-linked-spec : {M : Type 1} → statement M

@@ -6,7 +6,8 @@ use mathlib.Core.List.{[]}
 use Rattle.relocate.specs.Restore.{restore, everything}
 use Rattle.thread.specs.Thread.{thread_of, stopped_at}
 use Rattle.linked_moves.specs.Code.{maps_in}
-use Rattle.linked_sites.proofs.Lent.{map-accepted, map_found, site_at, frame_is}
+use Rattle.linked_frames.proofs.ByMap.{map-accepted, map_found}
+use Rattle.linked_frames.proofs.Positions.{site_at, frame_is}
 use Rattle.linked_extents.proofs.Extents.{sited_site, sited-there, extent-there}
 use borrow.Author.Rules.{rules}
 use Rattle.linked_extents.proofs.extent.Statement.{statement}

@@ -2,7 +2,7 @@ use Prim.Native.Nat.{◌-◌}
 use mathlib.Core.Path.{sym, ◌∙◌}
 use mathlib.Core.Logic.{⊎_elim}
 use native.Mathlib.Omega.{arith}
-use Rattle.thread_extents.proofs.Earlier.{Keeping, keeping_start, keeping_stop, keeping-empty, keeping-kept, keeping-end}
+use Rattle.thread_extents.proofs.Earlier.{Keeping, keeping_start, keeping_stop, keeping_empty, keeping_kept, keeping_end}
 use Rattle.linked_moves.specs.Thread.{extent_over}
 use Rattle.linked_moves.specs.Code.{maps_in}
 use Rattle.thread.specs.Thread.{thread_of}
@@ -81,12 +81,12 @@ loop-again c =
     let a = q.args in
     let no = sym c.before.before.shares.ensures ∙ c.before.if1.false in
     ⊎_elim
-    (λ w. rw (w.4, w.5, w.6) (keeping-kept (extent_over (maps_in a.s.now)) (thread_of a.machine a.frames.now a.registers.now) a.count
+    (λ w. rw (w.4, w.5, w.6) (keeping_kept (extent_over (maps_in a.s.now)) (thread_of a.machine a.frames.now a.registers.now) a.count
     c.before.before.before.before.before.before.before.loop.invariant c.before.before.before.before.before.before.loop-test.true
     c.before.before.before.before.before.extent.result.start c.before.before.before.before.before.extent.result.end
     c.before.before.before.before.before.extent.ensures.0 c.before.before.before.before.before.extent.ensures.1 _ _ no
     w.3.ensures.0 w.3.ensures.1))
-    (λ w. rw (w.1, w.2, w.3) (keeping-empty (extent_over (maps_in a.s.now)) (thread_of a.machine a.frames.now a.registers.now) a.count
+    (λ w. rw (w.1, w.2, w.3) (keeping_empty (extent_over (maps_in a.s.now)) (thread_of a.machine a.frames.now a.registers.now) a.count
     c.before.before.before.before.before.before.before.loop.invariant c.before.before.before.before.before.before.loop-test.true
     c.before.before.before.before.before.extent.result.start c.before.before.before.before.before.extent.result.end
     c.before.before.before.before.before.extent.ensures.0 c.before.before.before.before.before.extent.ensures.1 no
@@ -97,7 +97,7 @@ returns-2 : tie.Need-returns-2 invariant-loop decreases-loop
 returns-2 c =
     let q = c.before.before.before.before.before in
     let a = q.args in
-    (omega (arith, c.before.loop.invariant.most), keeping-end (extent_over (maps_in a.s.now)) (thread_of a.machine a.frames.now a.registers.now) a.count c.before.loop.invariant c.loop-test.false)
+    (omega (arith, c.before.loop.invariant.most), keeping_end (extent_over (maps_in a.s.now)) (thread_of a.machine a.frames.now a.registers.now) a.count c.before.loop.invariant c.loop-test.false)
 
 pub first-of-spec : {M : Type 1} → statement M
 first-of-spec =

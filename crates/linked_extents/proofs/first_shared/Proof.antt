@@ -1,5 +1,5 @@
 use native.Mathlib.Omega.{arith}
-use Rattle.thread_extents.proofs.Earlier.{none_shared_lem}
+use Rattle.thread_extents.proofs.Earlier.{none_shared}
 use Rattle.linked_moves.specs.Thread.{extent_over}
 use Rattle.linked_moves.specs.Code.{maps_in}
 use Rattle.thread.specs.Thread.{thread_of}
@@ -13,7 +13,7 @@ all-apart-requires c κs = search rules
 returns : tie.Need-returns
 returns c =
     let a = c.before.before.before.before.before.args in
-    (omega arith, none_shared_lem (extent_over (maps_in a.s.now)) (thread_of a.machine a.frames.now a.registers.now) a.count (c.before.all_apart.ensures c.if1.true))
+    (omega arith, none_shared (extent_over (maps_in a.s.now)) (thread_of a.machine a.frames.now a.registers.now) a.count (c.before.all_apart.ensures c.if1.true))
 
 first-of-requires : tie.Need-first-of-requires
 first-of-requires c κs = search rules

@@ -5,7 +5,7 @@ use native.Mathlib.Omega.{arith}
 use lib.ListN.{length, drop, length-drop}
 use Rattle.stackmap.proofs.Within.{part-from}
 use Rattle.questions_find.specs.Scan.{scanned}
-use Rattle.linked_find.proofs.Turns.{place_inside, front_least, Asking, ask-start, turn-refused, turn_last, sums_fit, turn_grows, turn_on}
+use Rattle.linked_find.proofs.Turns.{place_inside, front_least, Asking, ask-start, turn_refused, turn_last, sums_fit, turn_grows, turn_on}
 use borrow.Author.Rules.{rules}
 use Rattle.linked_find.proofs.find.Statement.{statement}
 use Rattle.linked_find.proofs.find.Tie as tie
@@ -40,7 +40,7 @@ returns : tie.Need-returns invariant-loop decreases-loop
 returns c =
     let a = c.before.before.before.before.before.before.before.before.before.args in
     let b = c.before.before.before.before in
-    c.refused2.ensures ∙ turn-refused a.section.now a.address b.before.before.loop.invariant b.scan.result (said b) c.before.before.if1.true
+    c.refused2.ensures ∙ turn_refused a.section.now a.address b.before.before.loop.invariant b.scan.result (said b) c.before.before.if1.true
 
 returns-2 : tie.Need-returns-2 invariant-loop decreases-loop
 returns-2 c =

@@ -9,51 +9,51 @@ use Rattle.linked_thread.proofs.move_frames.Tie as tie
 
 returns : tie.Need-returns
 returns c =
-    let q = c.before.before.before.before.before.before.before.before.before.before.before.before in
+    let q = c.before.before.before.before.before.before.before.before.before.before.before in
     let a = q.args in
-    let R = restore a.s.now a.olds.now a.news.now 0 a.settings in
+    let R = restore a.s.now a.olds.now a.news.now a.first a.settings in
     let ms = maps_in a.s.now in
     let th = thread_of a.machine a.list.now a.registers.now in
     let j = c.before.before.judge in
-    frames-refused R a.pieces.now ms a.image.now (frames_from th a.count 0) a.registers.now j.result j.ensures c.if1.true refl refl
+    frames-refused R ms a.image.now (frames_from th a.count 0) a.registers.now j.result j.ensures c.if1.true refl refl
 
 returns-2 : tie.Need-returns-2
 returns-2 c =
-    let q = c.before.before.before.before.before.before.before.before.before.before.before.before.before.before.before.before in
+    let q = c.before.before.before.before.before.before.before.before.before.before.before.before.before.before.before in
     let a = q.args in
-    let R = restore a.s.now a.olds.now a.news.now 0 a.settings in
+    let R = restore a.s.now a.olds.now a.news.now a.first a.settings in
     let ms = maps_in a.s.now in
     let th = thread_of a.machine a.list.now a.registers.now in
     let j = c.before.before.before.before.before.before.judge in
     rw c.refused.ensures
-    (frames_26 R a.pieces.now ms a.image.now (frames_from th a.count 0) a.registers.now j.result j.ensures c.before.before.before.before.if1.false a.count _ c.before.before.first-shared.ensures.1 c.before.if2.true refl refl)
+    (frames_26 R ms a.image.now (frames_from th a.count 0) a.registers.now j.result j.ensures c.before.before.before.before.if1.false a.count _ c.before.before.first-shared.ensures.1 c.before.if2.true refl refl)
 
 returns-3 : tie.Need-returns-3
 returns-3 c =
-    let q = c.before.before.before.before.before.before.before.before.before.before.before.before.before.before.before.before.before.before.before.before.before.before in
+    let q = c.before.before.before.before.before.before.before.before.before.before.before.before.before.before.before.before.before.before.before.before.before in
     let a = q.args in
-    let R = restore a.s.now a.olds.now a.news.now 0 a.settings in
+    let R = restore a.s.now a.olds.now a.news.now a.first a.settings in
     let ms = maps_in a.s.now in
     let th = thread_of a.machine a.list.now a.registers.now in
     let j = c.before.before.before.before.before.before.before.before.before.before.before.before.judge in
     let m = c.before.before.before.before.move_all.ensures in
-    frames-moved R a.pieces.now ms a.image.now (frames_from th a.count 0) a.registers.now j.result j.ensures c.before.before.before.before.before.before.before.before.before.before.if1.false a.count _ c.before.before.before.before.before.before.before.before.first-shared.ensures.1 c.before.before.before.before.before.before.before.if2.false m.0 m.1
+    frames-moved R ms a.image.now (frames_from th a.count 0) a.registers.now j.result j.ensures c.before.before.before.before.before.before.before.before.before.before.if1.false a.count _ c.before.before.before.before.before.before.before.before.first-shared.ensures.1 c.before.before.before.before.before.before.before.if2.false m.0 m.1
 
 judge-requires : tie.Need-judge-requires
-judge-requires c κs = c.before.before.before.before.before.before.before.before.before.requires
+judge-requires c κs = c.before.before.before.before.before.before.before.before.requires
 
 first-shared-requires : tie.Need-first-shared-requires
 first-shared-requires c κs =
-    let q = c.before.before.before.before.before.before.before.before.before.before.before.before.before in
+    let q = c.before.before.before.before.before.before.before.before.before.before.before.before in
     let a = q.args in
-    let R = restore a.s.now a.olds.now a.news.now 0 a.settings in
+    let R = restore a.s.now a.olds.now a.news.now a.first a.settings in
     let ms = maps_in a.s.now in
     let th = thread_of a.machine a.list.now a.registers.now in
     let j = c.before.before.before.judge in
-    (q.requires.looked, q.requires.registers_right, each-sited R a.pieces.now ms a.image.now q.requires.looked.standing q.requires.pieces_right th a.count j.result j.ensures c.before.if1.false)
+    (q.requires.looked, q.requires.registers_right, each-sited R ms a.image.now q.requires.looked.standing q.requires.image_right th a.count j.result j.ensures c.before.if1.false)
 
 move-all-requires : tie.Need-move-all-requires
-move-all-requires c κs = c.before.before.before.before.before.before.before.before.before.before.before.before.before.before.before.before.before.requires
+move-all-requires c κs = c.before.before.before.before.before.before.before.before.before.before.before.before.before.before.before.before.requires
 
 refused-requires : tie.Need-refused-requires
 refused-requires c κs = search rules

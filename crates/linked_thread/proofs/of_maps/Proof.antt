@@ -12,21 +12,21 @@ returns c = search rules
 
 returns-2 : tie.Need-returns-2
 returns-2 c =
-    let q = c.before.before.before.before.before.before.before.before.before.before in
+    let q = c.before.before.before.before.before.before.before.before.before in
     let a = q.args in
-    let R = restore a.s.now a.olds.now a.news.now 0 a.settings in
+    let R = restore a.s.now a.olds.now a.news.now a.first a.settings in
     let ms = maps_in a.s.now in
     let th = thread_of a.machine a.list.now a.registers.now in
-    rw c.refused.ensures (thread_33 R a.pieces.now ms a.image.now th q.requires.0.standing (allowed-is R a.machine _ c.before.before.allowed.ensures ∙ c.before.if1.false))
+    rw c.refused.ensures (thread_33 R ms a.image.now th q.requires.0.standing (allowed-is R a.machine _ c.before.before.allowed.ensures ∙ c.before.if1.false))
 
 allowed-requires : tie.Need-allowed-requires
 allowed-requires c κs = search rules
 
 of-allowed-requires : tie.Need-of-allowed-requires
 of-allowed-requires c κs =
-    let q = c.before.before.before.before.before.before.before.before.before.before.before in
+    let q = c.before.before.before.before.before.before.before.before.before.before in
     let a = q.args in
-    let R = restore a.s.now a.olds.now a.news.now 0 a.settings in
+    let R = restore a.s.now a.olds.now a.news.now a.first a.settings in
     (q.requires.0, q.requires.1, allowed-is R a.machine _ c.before.before.before.allowed.ensures ∙ c.before.before.if1.true, q.requires.2)
 
 refused-requires : tie.Need-refused-requires

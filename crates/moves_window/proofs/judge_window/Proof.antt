@@ -27,7 +27,7 @@ same_length : tie.Need-same-length
 same_length c = search rules
 
 returns : tie.Need-returns
-returns c = c.before.before.judge.ensures
+returns c = c.before.before.judge.ensures.answer
 
 pub judge-window-spec : {M : Type 1} → statement M
 judge-window-spec =

@@ -19,7 +19,7 @@ returns c g settings l =
     let a = s.args in
     let i = c.before.before.before.fill in
     leads_19 a.s.now a.olds.now a.news.now a.first settings a.image.now g a.registers.now a.frame a.outline s.requires.0 l
-    i.result i.ensures.0 c.before.if1.true _ c.refused.ensures _ _ _ _
+    i.result i.ensures.0 c.before.if1.true _ c.refused.ensures _ _ _
 
 sub-off : tie.Need-overflow-sub-off
 sub-off c =
@@ -33,6 +33,9 @@ add-judge-window c =
     let a = s.args in
     omega (arith, extent_tells a.first (length a.image.now) a.frame.sp a.outline.size s.requires.0.extent)
 
+slice-aggregate-judge-window : tie.Need-slice-aggregate-judge-window
+slice-aggregate-judge-window c = search rules
+
 judge-window-requires : tie.Need-judge-window-requires
 judge-window-requires c κs =
     let s = c.before.before.before.before.before.before.before.before.before.before.before.before.before.before.before.before.before in
@@ -42,7 +45,7 @@ judge-window-requires c κs =
       omega arith,
       omega arith,
       o.formed.few,
-      omega (arith, o.formed.few, s.well-formed),
+      o.formed.few,
       omega (arith, o.small),
       omega (arith, s.requires.2),
       rw s.requires.2 (placed_end (a.frame.sp - a.first) a.outline.size _ _ _ _ _ o.formed.counted
@@ -51,33 +54,33 @@ judge-window-requires c κs =
     )
 
 at-pair-requires : tie.Need-at-pair-requires
-at-pair-requires c κs = c.before.before.before.before.before.before.before.before.before.before.before.before.before.before.before.before.before.before.requires.0.formed.paired
+at-pair-requires c κs = c.before.before.before.before.before.before.before.before.before.before.before.before.before.before.before.before.before.before.before.requires.0.formed.paired
 
 refused-requires-2 : tie.Need-refused-requires-2
 refused-requires-2 c κs = search rules
 
 returns-2 : tie.Need-returns-2
 returns-2 c g settings l =
-    let s = c.before.before.before.before.before.before.before.before.before.before.before.before.before.before.before.before.before.before.before.before.before.before in
+    let s = c.before.before.before.before.before.before.before.before.before.before.before.before.before.before.before.before.before.before.before.before.before.before.before in
     let a = s.args in
-    let i = c.before.before.before.before.before.before.before.before.before.before.before.before.before.fill in
+    let i = c.before.before.before.before.before.before.before.before.before.before.before.before.before.before.fill in
     let p = c.before.before.before.at_pair in
-    let j = c.before.before.before.before.judge-window in
-    let in_all = c.before.before.before.before.before.before.before.before.before.before.before.if1.false in
+    let j = c.before.before.before.before.before.judge-window in
+    let in_all = c.before.before.before.before.before.before.before.before.before.before.before.before.if1.false in
     leads_stop a.s.now a.olds.now a.news.now a.first settings a.image.now g a.registers.now a.frame a.outline s.requires.0 l
-    i.result i.ensures.0 in_all _ _ _ (i.ensures.2 in_all) (i.ensures.3 in_all) p.result j.result (p.ensures a.frame) _ j.ensures
+    i.result i.ensures.0 in_all _ _ _ (i.ensures.2 in_all) (i.ensures.3 in_all) p.result j.result (p.ensures a.frame) j.ensures
     (λ z. omega arith) _ c.refused2.ensures
 
 returns-3 : tie.Need-returns-3
 returns-3 c g settings l =
-    let s = c.before.before.before.before.before.before.before.before.before.before.before.before.before.before.before.before.before.before.before.before.before in
+    let s = c.before.before.before.before.before.before.before.before.before.before.before.before.before.before.before.before.before.before.before.before.before.before in
     let a = s.args in
-    let i = c.before.before.before.before.before.before.before.before.before.before.before.before.fill in
+    let i = c.before.before.before.before.before.before.before.before.before.before.before.before.before.fill in
     let p = c.before.before.at_pair in
-    let j = c.before.before.before.judge-window in
-    let in_all = c.before.before.before.before.before.before.before.before.before.before.if1.false in
+    let j = c.before.before.before.before.judge-window in
+    let in_all = c.before.before.before.before.before.before.before.before.before.before.before.if1.false in
     leads_held a.s.now a.olds.now a.news.now a.first settings a.image.now g a.registers.now a.frame a.outline s.requires.0 l
-    i.result i.ensures.0 in_all _ _ _ (i.ensures.2 in_all) (i.ensures.3 in_all) p.result j.result (p.ensures a.frame) _ j.ensures
+    i.result i.ensures.0 in_all _ _ _ (i.ensures.2 in_all) (i.ensures.3 in_all) p.result j.result (p.ensures a.frame) j.ensures
     (omega arith) s.requires.1 s.requires.3 s.requires.2 s.requires.4
 
 pub of-outline-spec : {M : Type 1} → statement M
@@ -89,6 +92,7 @@ of-outline-spec =
     returns
     sub-off
     add-judge-window
+    slice-aggregate-judge-window
     judge-window-requires
     at-pair-requires
     refused-requires-2

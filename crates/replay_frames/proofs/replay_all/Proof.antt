@@ -6,7 +6,7 @@ use lib.ListN.{length}
 use Rattle.relocate.specs.Restore.{restore}
 use Rattle.replay.specs.declared.Outcome.TheVariants.{Same}
 use Rattle.replay.specs.Code.{Done, fault}
-use Rattle.replay.proofs.Replaying.{done-start, done_join, done_end}
+use Rattle.replay.proofs.Replaying.{done_start, done_join, done_end}
 use Rattle.replay_frames.proofs.replay_all.Statement.{statement}
 use Rattle.replay_frames.proofs.replay_all.Tie as tie
 
@@ -24,7 +24,7 @@ loop-holds : tie.Need-loop-init invariant-loop decreases-loop
 loop-holds c =
     let q = c.before.before.before.before.before.before.before in
     let a = q.args in
-    (done-start (restore a.s.now a.olds.now a.news.now a.first a.settings) a.t.now a.all a.image.now, omega arith, c.fault.ensures a.s.now a.settings)
+    (done_start (restore a.s.now a.olds.now a.news.now a.first a.settings) a.t.now a.all a.image.now, omega arith, c.fault.ensures a.s.now a.settings)
 
 replay-part-requires : tie.Need-replay-part-requires invariant-loop decreases-loop
 replay-part-requires c κs =

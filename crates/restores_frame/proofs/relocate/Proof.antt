@@ -1,6 +1,6 @@
 use Rattle.restores.specs.Restores.{request}
 use Rattle.restores.specs.Moves.{numbered}
-use Rattle.restores.proofs.Moving.{moves-refused, moves-passed}
+use Rattle.restores.proofs.Moving.{moves_refused, moves_passed}
 use borrow.Author.Rules.{rules}
 use Rattle.restores_frame.proofs.relocate.Statement.{statement}
 use Rattle.restores_frame.proofs.relocate.Tie as tie
@@ -23,7 +23,7 @@ returns c =
     let a = s.before.before.before.before.before.before.before.args in
     let Q = request a.store a.edition a.section.now a.olds.now a.news.now a.first in
     let g = numbered a.machine a.address a.function a.registers.now in
-    moves-passed Q a.image.now g _ s.before.begin.ensures _ _ _ c.before.before.before.before.relocate.ensures s.if1.true
+    moves_passed Q a.image.now g _ s.before.begin.ensures _ _ _ c.before.before.before.before.relocate.ensures s.if1.true
 
 refused-requires : tie.Need-refused-requires
 refused-requires c κs = search rules
@@ -33,7 +33,7 @@ returns-2 c =
     let a = c.before.before.before.before.before.before.before.before.args in
     let Q = request a.store a.edition a.section.now a.olds.now a.news.now a.first in
     let g = numbered a.machine a.address a.function a.registers.now in
-    moves-refused Q a.image.now g _ c.before.before.begin.ensures _ c.refused.ensures c.before.if1.false
+    moves_refused Q a.image.now g _ c.before.before.begin.ensures _ c.refused.ensures c.before.if1.false
 
 pub relocate-spec : {M : Type 1} → statement M
 relocate-spec =

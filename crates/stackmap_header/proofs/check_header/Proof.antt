@@ -25,7 +25,7 @@ zero-bytes-requires c κs = search rules
 
 returns-3 : tie.Need-returns-3
 unfolding header_check must
-returns-3 c = rw (← c.zero-bytes.ensures, sym c.before.before.version-right.ensures ∙ c.before.if3.true) (search tests)
+returns-3 c = rw (← c.zero_bytes.ensures, sym c.before.before.version-right.ensures ∙ c.before.if3.true) (search tests)
 
 returns-4 : tie.Need-returns-4
 unfolding header_check must

@@ -1,5 +1,5 @@
 use native.Mathlib.Omega.{arith}
-use Rattle.thread_extents.proofs.Earlier.{none_shared_lem}
+use Rattle.thread_extents.proofs.Earlier.{none_shared}
 use Rattle.relocate.specs.Relocation.{extent_of}
 use Rattle.thread.specs.Thread.{thread_of}
 use borrow.Author.Rules.{rules}
@@ -12,7 +12,7 @@ all-apart-requires c κs = search rules
 returns : tie.Need-returns
 returns c =
     let a = c.before.before.before.before.before.args in
-    (omega arith, none_shared_lem (extent_of a.s.now) (thread_of a.machine a.frames.now a.registers.now) a.count (c.before.all_apart.ensures c.if1.true))
+    (omega arith, none_shared (extent_of a.s.now) (thread_of a.machine a.frames.now a.registers.now) a.count (c.before.all_apart.ensures c.if1.true))
 
 first-of-requires : tie.Need-first-of-requires
 first-of-requires c κs = search rules

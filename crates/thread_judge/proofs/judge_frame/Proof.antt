@@ -7,7 +7,7 @@ use Rattle.relocate.specs.Stopped.{cursor}
 use Rattle.relocate.specs.Plan.{records_of}
 use Rattle.thread.specs.Thread.{thread_of, frame_at}
 use Rattle.thread.proofs.Parts.{stopped-at}
-use Rattle.thread_step.proofs.Frames.{frame-plan, frame-judged}
+use Rattle.thread_judge.proofs.Frames.{frame-plan, frame-judged}
 use borrow.Author.Rules.{rules}
 use Rattle.thread_judge.proofs.judge_frame.Statement.{statement}
 use Rattle.thread_judge.proofs.judge_frame.Tie as tie

@@ -1,7 +1,6 @@
 //! The records at the addresses of a list.
 
-use super::over_maps::OverMaps;
-use super::{first_line, refused, Asked};
+use super::{first_line, over_maps, refused, Asked};
 use crate::library::{Found, Index, Refusal};
 use crate::lists::{self, Entry, Numbers};
 use crate::trouble::{Refused, Status, Trouble, Voice};
@@ -16,16 +15,14 @@ pub fn run(file: &Path, kept: Option<&Path>, list: &Path, voice: Voice) -> Resul
     let section = files::read(file, files::SECTION)?;
     let entries = kept.map(index::read).transpose()?;
     let lines: Vec<Line> = lists::read(list, &lists::text(list)?, &Numbers("ADDRESS"))?;
-    let told = |refusal| linked::refused(file, &section, refusal);
-    let maps = library::maps(&section).map_err(told)?;
-    if maps.len() > 1 {
-        let kept = kept.zip(entries.as_deref());
-        let all = OverMaps::of(file, &section, &maps, kept)?;
-        return all.tell_all(list, &lines, voice);
-    }
     let index = match entries {
         Some(entries) => Index::from_entries(&section, entries),
         None => {
+            let told = |refusal| linked::refused(file, &section, refusal);
+            let maps = library::maps(&section).map_err(told)?;
+            if maps.len() > 1 {
+                return over_maps::run(file, &section, &maps, list, &lines, voice);
+            }
             library::index_of(&section).map_err(|refusal| refused(file, None, &section, refusal))?
         }
     };

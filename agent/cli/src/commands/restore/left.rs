@@ -51,9 +51,12 @@ impl<'a> Leaves<'a> {
             let left = path.map(|path| Left::open(what, path, arguments, others));
             left.transpose()
         };
-        let mut others = target.images();
-        others.push(target.receipt());
-        others.extend(target.frames());
+        let others = [
+            Some(target.image()),
+            Some(target.receipt()),
+            target.frames(),
+        ];
+        let mut others: Vec<PathBuf> = others.into_iter().flatten().collect();
         let trace = open(What::Trace, arguments.trace.as_deref(), &others)?;
         others.extend(trace.iter().map(|trace| trace.path.to_path_buf()));
         let report = open(What::Report, arguments.report.as_deref(), &others)?;

@@ -12,12 +12,10 @@ use crate::{files, system};
 use std::ffi::OsStr;
 use std::fs::{File, Metadata, OpenOptions, Permissions};
 use std::io::{self, Write};
-use std::mem;
 use std::os::unix::fs::{MetadataExt, OpenOptionsExt, PermissionsExt};
 use std::path::{Path, PathBuf};
 
-/// The names of the files in a folder: the receipt's is that of an image of this name. Of a stack in several pieces
-/// each has its number behind the name, and the receipt is that of all.
+/// The names of the files in a folder: the receipt's is that of an image of this name.
 pub const IMAGE: &str = "image";
 const FRAMES: &str = "frames";
 const RECEIPT: &str = "image.receipt.json";
@@ -28,81 +26,56 @@ pub enum Target<'a> {
     Single(Single<'a>),
     /// The new image, the frames with their registers and the receipt are in a new folder, which gets its
     /// name when all of them are in it and flushed: they are of one moment, whatever ends the program. The
-    /// old image is only read. A stack in several pieces has an image for each.
-    Folder(Folder, Vec<Old<'a>>),
+    /// old image is only read.
+    Folder(Folder, Old<'a>),
     /// Nothing is written.
-    Nowhere(Vec<Old<'a>>),
+    Nowhere(Old<'a>),
 }
 
-/// An old image, where it is only read.
+/// The old image, where it is only read.
 pub struct Old<'a> {
     path: &'a Path,
-    bytes: Vec<u8>,
+    file: File,
     pub metadata: Option<Metadata>,
 }
 
 impl<'a> Old<'a> {
-    /// Reads an image, up to one byte more than the limit.
     pub fn open(path: &'a Path) -> Result<Old<'a>, Trouble> {
-        Old::within(path, files::IMAGE + 1)
-    }
-
-    /// Reads images, all together up to one byte more than the limit.
-    fn all(paths: &'a [PathBuf]) -> Result<Vec<Old<'a>>, Trouble> {
-        let mut room = files::IMAGE + 1;
-        let open = |path: &'a PathBuf| {
-            let old = Old::within(path, room)?;
-            room -= old.bytes.len() as u64;
-            Ok(old)
-        };
-        paths.iter().map(open).collect()
-    }
-
-    fn within(path: &'a Path, room: u64) -> Result<Old<'a>, Trouble> {
-        let mut file = files::open(path)?;
+        let file = files::open(path)?;
         let metadata = file.metadata().ok().filter(|there| there.is_file());
         Ok(Old {
             path,
-            bytes: files::read_up_to(path, &mut file, room)?,
+            file,
             metadata,
         })
     }
 
-    /// The bytes, which are taken out.
-    pub fn read(&mut self) -> Vec<u8> {
-        mem::take(&mut self.bytes)
+    /// The bytes of the old image, up to one more than the limit.
+    pub fn read(&mut self) -> Result<Vec<u8>, Trouble> {
+        files::read_up_to(self.path, &mut self.file, files::IMAGE + 1)
     }
 }
 
 impl<'a> Target<'a> {
     pub fn open(arguments: &'a Arguments) -> Result<Target<'a>, Trouble> {
-        let images = &arguments.given.image;
+        let image = &arguments.given.image;
         match &arguments.into {
             None if arguments.output.is_none() && !arguments.in_place => {
-                Ok(Target::Nowhere(Old::all(images)?))
+                Ok(Target::Nowhere(Old::open(image)?))
             }
-            None => match &images[..] {
-                [only] => Ok(Target::Single(Single::open(arguments, only)?)),
-                _ => {
-                    let why =
-                        "several images need --into DIR: all pieces get their names in one step";
-                    Err(Trouble::Usage(why.to_string()))
-                }
-            },
+            None => Ok(Target::Single(Single::open(arguments)?)),
             Some(folder) => {
                 let folder = Folder::at(folder)?;
-                Ok(Target::Folder(folder, Old::all(images)?))
+                Ok(Target::Folder(folder, Old::open(image)?))
             }
         }
     }
 
-    /// The bytes of the old images, all together up to one more than the limit.
-    pub fn read(&mut self) -> Result<Vec<Vec<u8>>, Trouble> {
+    /// The bytes of the old image, up to one more than the limit.
+    pub fn read(&mut self) -> Result<Vec<u8>, Trouble> {
         match self {
-            Target::Single(single) => Ok(vec![single.read()?]),
-            Target::Folder(_, old) | Target::Nowhere(old) => {
-                Ok(old.iter_mut().map(Old::read).collect())
-            }
+            Target::Single(single) => single.read(),
+            Target::Folder(_, old) | Target::Nowhere(old) => old.read(),
         }
     }
 
@@ -111,19 +84,16 @@ impl<'a> Target<'a> {
         match self {
             Target::Single(single) => single.named(),
             Target::Folder(folder, _) => &folder.named,
-            Target::Nowhere(old) => old.first().map_or(Path::new(""), |old| old.path),
+            Target::Nowhere(old) => old.path,
         }
     }
 
-    /// The names of the new images, one for each piece of the stack.
-    pub fn images(&self) -> Vec<PathBuf> {
+    /// The name of the new image.
+    pub fn image(&self) -> PathBuf {
         match self {
-            Target::Single(single) => vec![single.named().to_path_buf()],
-            Target::Folder(folder, old) => {
-                let names = names(old.len()).into_iter();
-                names.map(|name| folder.named.join(name)).collect()
-            }
-            Target::Nowhere(old) => old.iter().map(|old| old.path.to_path_buf()).collect(),
+            Target::Single(single) => single.named().to_path_buf(),
+            Target::Folder(folder, _) => folder.named.join(IMAGE),
+            Target::Nowhere(old) => old.path.to_path_buf(),
         }
     }
 
@@ -148,19 +118,14 @@ impl<'a> Target<'a> {
         match self {
             Target::Single(single) => single.untouched(),
             Target::Folder(folder, _) => format!("{}: is not made", shown(&folder.named)),
-            Target::Nowhere(old) => {
-                let old = old
-                    .iter()
-                    .map(|old| format!("{}: is as it was", shown(old.path)));
-                old.collect::<Vec<String>>().join("\n")
-            }
+            Target::Nowhere(old) => format!("{}: is as it was", shown(old.path)),
         }
     }
 
-    /// Puts images and receipt in place, in a folder the frames too, and before them what is left with them.
+    /// Puts image and receipt in place, in a folder the frames too, and before them what is left with them.
     pub fn put(
         &self,
-        images: &[&[u8]],
+        image: &[u8],
         frames: &str,
         receipt: &Receipt,
         left: &Leaves,
@@ -168,49 +133,33 @@ impl<'a> Target<'a> {
         // From here on the program goes on to its end, with its message and its status.
         system::hold_signals();
         match self {
-            Target::Single(single) => {
-                let image = images.first().copied().unwrap_or_default();
-                single.put(image, receipt, left)
-            }
-            Target::Folder(folder, old) => fill(folder, old, images, frames, receipt, left),
+            Target::Single(single) => single.put(image, receipt, left),
+            Target::Folder(folder, old) => fill(folder, old, image, frames, receipt, left),
             Target::Nowhere(_) => Ok(()),
         }
     }
 }
 
-/// The names of the images in a folder: the only one's, or that of each piece, with its number.
-fn names(pieces: usize) -> Vec<String> {
-    match pieces {
-        1 => vec![IMAGE.to_string()],
-        _ => (0..pieces)
-            .map(|piece| format!("{IMAGE}.{piece}"))
-            .collect(),
-    }
-}
-
-/// Makes the folder with all that belongs in it. What is not an image itself is like the first one.
+/// Makes the folder with all that belongs in it.
 fn fill(
     folder: &Folder,
-    olds: &[Old],
-    images: &[&[u8]],
+    old: &Old,
+    image: &[u8],
     frames: &str,
     receipt: &Receipt,
     left: &Leaves,
 ) -> Result<(), Trouble> {
-    let old = olds.first();
-    let mut ahead = left.prepare(old.and_then(|old| old.metadata.as_ref()))?;
+    let mut ahead = left.prepare(old.metadata.as_ref())?;
     let beside = folder.begin()?;
     let put = |name: &OsStr, bytes: io::Result<&[u8]>, like: Option<&Old>| {
         let put = bytes.and_then(|bytes| write(&beside.path().join(name), bytes, like));
         let path = folder.named.join(name);
         put.map_err(|error| Trouble::file(&path, "cannot be written", error))
     };
-    for ((name, image), old) in names(olds.len()).iter().zip(images).zip(olds) {
-        put(name.as_ref(), Ok(image), Some(old))?;
-    }
-    put(FRAMES.as_ref(), Ok(frames.as_bytes()), old)?;
+    put(IMAGE.as_ref(), Ok(image), Some(old))?;
+    put(FRAMES.as_ref(), Ok(frames.as_bytes()), Some(old))?;
     for (name, bytes) in left.iter().filter_map(Left::inside) {
-        put(name, Ok(bytes), old)?;
+        put(name, Ok(bytes), Some(old))?;
     }
     let receipt = receipt.text();
     put(

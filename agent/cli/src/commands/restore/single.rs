@@ -28,7 +28,8 @@ pub enum Single<'a> {
 }
 
 impl<'a> Single<'a> {
-    pub fn open(arguments: &'a Arguments, image: &'a Path) -> Result<Single<'a>, Trouble> {
+    pub fn open(arguments: &'a Arguments) -> Result<Single<'a>, Trouble> {
+        let image = arguments.given.image.as_path();
         let Some(output) = &arguments.output else {
             if files::is_standard_input(image) {
                 let why = "--in-place needs an image with a name: standard input has none";
@@ -52,7 +53,7 @@ impl<'a> Single<'a> {
     pub fn read(&mut self) -> Result<Vec<u8>, Trouble> {
         match self {
             Single::InPlace(_, held) => held.read(files::IMAGE),
-            Single::New(_, old) => Ok(old.read()),
+            Single::New(_, old) => old.read(),
         }
     }
 

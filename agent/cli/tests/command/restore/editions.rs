@@ -192,7 +192,7 @@ fn order() {
     row.section.push(0);
     let ran = by(&row, &folder, "1", &[]);
     assert!(
-        ran.err.starts_with("section: refused 1 at 152: "),
+        ran.err.starts_with("section: refused 9 at 152: "),
         "{}",
         ran.err
     );
@@ -201,7 +201,7 @@ fn order() {
     refused(&row, &folder, &ran, 33, NOT_ALLOWED);
     let (folder, _) = with_store(1, &[(1, ALL)]);
     let ran = by(&row, &folder, "1", &[]);
-    let words = "image: image over 1,048,576 bytes, first address + length over 2^64 - 1, or its list of pieces is wrong";
+    let words = "image: image over 1,048,576 bytes, or first address + length over 2^64 - 1";
     refused(&row, &folder, &ran, 13, words);
 }
 

@@ -178,8 +178,7 @@ fn wrong_calls() {
     first("-1").failed("", "'-1'");
     let with = |more: &str| folder.run(WHOLE.split(' ').chain([more]));
     with("more").failed("", "'more'");
-    with("--first=7000").failed("each --image has its --first: there are 1 and 2", "");
-    with("--image=image").failed("each --image has its --first: there are 2 and 1", "");
+    with("--first=7000").failed("", "'--first <ADDRESS>'");
     with("--force").failed("", "'--force'");
     with("--output=new").failed("", "'--in-place'");
     assert_eq!(folder.get("image"), row.image);

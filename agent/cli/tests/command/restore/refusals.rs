@@ -43,7 +43,7 @@ fn refusals_of_the_section() {
         (with(row_h(), 56, 6), 6, 56),
         (with(row_h(), 56, 5), 7, 56),
         (at(u64::MAX - 0x1F), 8, 40),
-        ([row_h(), vec![0]].concat(), 1, 152),
+        ([row_h(), vec![0]].concat(), 9, 152),
     ] {
         let words = on(section).refused(number, place);
         assert!(words.starts_with("section: "), "{words}");
@@ -241,5 +241,5 @@ fn no_frames() {
     none.image = vec![0; 1_048_577];
     none.refused(13, 0);
     none.section.push(0);
-    none.refused(1, 152);
+    none.refused(9, 152);
 }

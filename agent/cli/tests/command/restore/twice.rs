@@ -168,7 +168,7 @@ fn what_is_refused_before() {
     bad.moves = "0 1\n".to_string();
     refused(&bad, "2 1\n1 1\n", "moves:1: refused 14 at 0: ");
     bad.section.push(0);
-    refused(&bad, "2 1\n", "section: refused 1 at ");
+    refused(&bad, "2 1\n", "section: refused 9 at ");
     let mut outside = row.clone();
     outside.frames = "1020 0 7000\n1020 0 7008\n".to_string();
     refused(&outside, "90000 a0000\n", "frames:2: refused 16 at 1: ");

@@ -1,6 +1,6 @@
 //! Pieces that can't be: each way gives 13.
 
-use super::{Split, MOST_PIECES};
+use super::Split;
 use crate::frames::MOST_IMAGE;
 use crate::rng::Rng;
 
@@ -21,13 +21,11 @@ pub enum Wrong {
     Odd,
     /// The image is over its limit.
     Large,
-    /// There are too many pieces, most of them empty or most of them not.
-    Many,
 }
 
 impl Wrong {
     /// All of them.
-    pub const ALL: [Wrong; 8] = [
+    pub const ALL: [Wrong; 7] = [
         Wrong::Length,
         Wrong::Buffer,
         Wrong::Wrapped,
@@ -35,7 +33,6 @@ impl Wrong {
         Wrong::Shared,
         Wrong::Odd,
         Wrong::Large,
-        Wrong::Many,
     ];
 }
 
@@ -69,7 +66,6 @@ impl Split {
                 let length = (MOST_IMAGE + 1 + rng.below(9)).saturating_sub(buffer.len());
                 add(rng, &mut list, &mut buffer, 1 << 40, length);
             }
-            Wrong::Many => many(rng, &mut list, &mut buffer),
         }
         self.wrong = Some(wrong);
         self.spoiled = Some((list, buffer));
@@ -111,18 +107,4 @@ fn shared(rng: &mut Rng, list: &mut Vec<u64>, buffer: &mut Vec<u8>) {
         _ => first + rng.below(length as usize) as u64,
     };
     add(rng, list, buffer, first, own as usize);
-}
-
-/// So many pieces more that there is one too many, or some: empty ones, or ones of a byte each where no frame
-/// is.
-fn many(rng: &mut Rng, list: &mut Vec<u64>, buffer: &mut Vec<u8>) {
-    let over = rng.pick(&[1, 1, 2, 100]);
-    let more = (MOST_PIECES + over).saturating_sub(list.len() / 2);
-    let first = (1 << 41) + rng.number(20);
-    if rng.one_in(2) {
-        list.extend([first, 0].repeat(more));
-    } else {
-        list.extend((0..more as u64).flat_map(|nth| [first + nth, 1]));
-        buffer.resize(buffer.len() + more, 7);
-    }
 }

@@ -8,7 +8,7 @@ use Rattle.moves.specs.Slots.{State, state, put}
 use Rattle.moves.specs.Arrays.{slot_of, puts}
 use Rattle.moves.proofs.Writes.{Shape, shape_on, state-same, put_shape}
 use Rattle.moves.proofs.Numbers.{placed_same}
-use Rattle.moves.proofs.Fills.{puts-start, puts-end, put-null, put-live, put-turn}
+use Rattle.moves.proofs.Fills.{puts-start, puts-end, put-null, put-live, put_turn}
 use Rattle.moves_slots.proofs.slots.put_all.Statement.{statement}
 use Rattle.moves_slots.proofs.slots.put_all.Tie as tie
 
@@ -59,7 +59,7 @@ loop-again c =
     let a = c.before.before.before.before.before.before.before.args in
     let old : State = state l.window l.registers in
     let new : State = state c.if1.window c.if1.registers in
-    let vs = put-turn a.live.now a.derived.now a.contents.now a.pairs l.p old new _ (omega arith) in
+    let vs = put_turn a.live.now a.derived.now a.contents.now a.pairs l.p old new _ (omega arith) in
     let slot = slot_of (get_or a.derived.now l.p 0) in
     let value = get_or a.contents.now l.p 0 in
     ⊎_elim

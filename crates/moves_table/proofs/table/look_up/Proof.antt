@@ -1,10 +1,10 @@
 use Rattle.std.proofs.Common.{◌<◌, length, arith, rules}
-use Rattle.moves_table.proofs.Tables.{same_lengths, old_starts_sorted, look-zero, look_past, look-here, look-between}
+use Rattle.moves_table.proofs.Tables.{same_lengths, old_starts_sorted, look_zero, look_past, look-here, look-between}
 use Rattle.moves_table.proofs.table.look_up.Statement.{statement}
 use Rattle.moves_table.proofs.table.look_up.Tie as tie
 
 returns : tie.Need-returns
-returns c = look-zero _ _ _ c.if1.true
+returns c = look_zero _ _ _ c.if1.true
 
 lower-bound-requires : tie.Need-lower-bound-requires
 lower-bound-requires c κs = (omega arith, old_starts_sorted _ _ c.before.before.before.requires)

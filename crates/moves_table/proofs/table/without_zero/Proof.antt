@@ -1,6 +1,6 @@
 use Rattle.std.proofs.Common.{◌≡◌, ◌-◌, ◌≤◌, length, drop, sym, refl, ◌∙◌, arith, rules}
 use Rattle.moves.specs.Table.{no_zero}
-use Rattle.moves_table.proofs.Tables.{zero-end, zero_stop, zero_on}
+use Rattle.moves_table.proofs.Tables.{zero_end, zero_stop, zero_on}
 use Rattle.moves_table.proofs.table.without_zero.Statement.{statement}
 use Rattle.moves_table.proofs.table.without_zero.Tie as tie
 
@@ -38,7 +38,7 @@ loop-again c =
 returns-2 : tie.Need-returns-2 invariant-loop decreases-loop
 returns-2 c =
     let l = c.before.loop in
-    sym (zero-end l.i c.before.before.args.news.now (omega arith)) ∙ l.invariant.1
+    sym (zero_end l.i c.before.before.args.news.now (omega arith)) ∙ l.invariant.1
 
 pub without-zero-spec : {M : Type 1} → statement M
 without-zero-spec =

@@ -5,7 +5,7 @@ use Rattle.stackmap.specs.Verdict.{chain}
 use Rattle.listing.specs.Listing.{all_small_sizes}
 use Rattle.parser_items.specs.Survey.{records_from}
 use Rattle.parser_items.proofs.Records.{records-here, some_record, record_inside_lem}
-use Rattle.parser_draft.proofs.Limits.{sizes-here, sizes-none}
+use Rattle.parser_draft.proofs.Limits.{sizes_here, sizes_none}
 use borrow.Author.Rules.{rules}
 use native.Mathlib.Omega.{arith}
 use Rattle.parser_draft.proofs.narrow.all_sizes.Statement.{statement}
@@ -43,7 +43,7 @@ returns c =
     let n = p.invariant.1 in
     let s = c.before.before.before.sizes.ensures in
     let e = some_record c.before.before.before.before.before.before.before.before.args.l.now p.at (omega arith) in
-    (rw (p.invariant.2, sizes-here c.before.before.before.before.record-shape.ensures e, ← s.0, c.before.number.given.1), rw c.before.number.given.1 at s.1)
+    (rw (p.invariant.2, sizes_here c.before.before.before.before.record-shape.ensures e, ← s.0, c.before.number.given.1), rw c.before.number.given.1 at s.1)
 
 enum_told : tie.Need-enum-told invariant-loop decreases-loop
 enum_told c = search rules
@@ -62,13 +62,13 @@ loop-again c =
     let h = c.before.before.before.record-shape.ensures in
     let e = some_record c.before.before.before.before.before.before.before.args.l.now p.at (omega arith) in
     let k = ap length (records-here h e) in
-    (h.inside, omega arith, rw (p.invariant.2, sizes-here h e, ← c.before.before.sizes.ensures.0, c.enum_told.given.1))
+    (h.inside, omega arith, rw (p.invariant.2, sizes_here h e, ← c.before.before.sizes.ensures.0, c.enum_told.given.1))
 
 returns-2 : tie.Need-returns-2 invariant-loop decreases-loop
 returns-2 c =
     let p = c.before.loop in
     let n = p.invariant.1 in
-    (rw p.invariant.2 (sizes-none _ _ (omega arith)), tt)
+    (rw p.invariant.2 (sizes_none _ _ (omega arith)), tt)
 
 pub all-sizes-spec : {M : Type 1} → statement M
 all-sizes-spec =

@@ -1,6 +1,5 @@
 use Prim.Native.Nat.{◌+◌, ◌*◌, ◌-◌}
 use mathlib.Core.Path.{◌≡◌, ap, ◌∙◌}
-use mathlib.Core.Bool.{true}
 use native.Mathlib.Omega.{arith}
 use Rattle.questions.specs.Questions.{first_of, sought}
 use Rattle.relocate.specs.Restore.{restore}
@@ -21,7 +20,7 @@ returns c =
     let e : c.before.before.before.before.before.before.before.cursor.result ≡ cursor (stopped_at th a.k) =
     c.before.before.before.before.before.before.before.cursor.ensures ∙ ap cursor (stopped-at th a.k (32 * a.k + 32 - 32 * a.k) _ c.before.before.before.before.before.before.before.before.before.before.before.frame_at.ensures (omega arith)) in
     one-moved (restore a.s.now a.olds.now a.news.now a.first a.settings) a.image.now s.requires.0.looked.section_right s.requires.0.image_right s.requires.0.table_right
-    th s.requires.0.allowed_right a.count a.k s.requires.0.registers_right s.requires.1 c.before.before.before.before.before.before.before.cursor.result e true _ _ _ (32 * a.k + 32 - 32 * a.k) (omega arith)
+    th s.requires.0.allowed_right a.count a.k s.requires.0.registers_right s.requires.1 c.before.before.before.before.before.before.before.cursor.result e a.write _ _ _ (32 * a.k + 32 - 32 * a.k) (omega arith)
     c.before.before.before.before.move-found.ensures
 
 frame-at-requires : tie.Need-frame-at-requires

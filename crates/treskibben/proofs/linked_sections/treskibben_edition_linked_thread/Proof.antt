@@ -4,9 +4,6 @@ use borrow.Author.Rules.{rules}
 use Rattle.treskibben.proofs.linked_sections.treskibben_edition_linked_thread.Statement.{statement}
 use Rattle.treskibben.proofs.linked_sections.treskibben_edition_linked_thread.Tie as tie
 
-slice-aggregate-relocate-linked : tie.Need-slice-aggregate-relocate-linked
-slice-aggregate-relocate-linked c = search rules
-
 relocate-linked-requires : tie.Need-relocate-linked-requires
 relocate-linked-requires c κs = search rules
 
@@ -21,9 +18,9 @@ same-length-2 c = search rules
 
 returns : tie.Need-returns
 returns c =
-    let t = c.before.before.before.before.before.relocate-linked.ensures _ in
+    let t = c.before.before.before.before.before.relocate-linked.ensures in
     (c.move-answer.ensures ∙ ap move_answer t.answer_is, t.image_is, t.registers_is)
 
 pub treskibben-edition-linked-thread-spec : {M : Type 1} → statement M
 treskibben-edition-linked-thread-spec =
-    tie.close (tie.spec slice-aggregate-relocate-linked relocate-linked-requires move-answer-requires same_length same-length-2 returns)
+    tie.close (tie.spec relocate-linked-requires move-answer-requires same_length same-length-2 returns)

@@ -1,2 +1,0 @@
-pub mod Sited
-pub mod Lent

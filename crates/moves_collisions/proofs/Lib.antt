@@ -1,2 +1,0 @@
-mod Aligned
-mod Clashes

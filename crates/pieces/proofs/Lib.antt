@@ -1,4 +1,0 @@
-pub mod Right
-pub mod Held
-pub mod Unshared
-pub mod Further

@@ -1,3 +1,0 @@
-mod Ahead
-mod Held
-mod Looks

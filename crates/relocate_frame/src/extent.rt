@@ -1,0 +1,20 @@
+// The image (refusal 13).
+ghost use Rattle.std.specs.Prelude.{◌≡◌};
+ghost use Rattle.relocate.specs.Plan.{image_right};
+
+use stackmap::layout;
+
+const IMAGE_MOST: usize = 1048576;
+
+// The test of refusal 13, of an image of `long` bytes from the address `first`.
+pub fn image_right(first: u64, long: usize) -> bool
+    ensures { result ≡ image_right first long }
+{
+    if long > IMAGE_MOST {
+        return false;
+    }
+    if long as u64 > layout::ADDRESS_MOST - first {
+        return false;
+    }
+    true
+}

@@ -1,3 +1,0 @@
-pub mod Frames
-pub mod Lifting
-pub mod Moves
