@@ -24,15 +24,15 @@ use Rattle.parser_items.proofs.Tables.{reads}
 abbrev header_words : Bool → ℕ → ℕ → ℕ → List Field
 header_words old f c n = (4 of version_number old) ∷ (4 of f) ∷ (4 of c) ∷ (4 of n) ∷ []
 
-header_words : (old : Bool) (f c n : ℕ) → bytes_of (header_words old f c n) ≡ bytes_of (header_fields old f c n)
+header_words_lem : (old : Bool) (f c n : ℕ) → bytes_of (header_words old f c n) ≡ bytes_of (header_fields old f c n)
 unfolding bytes_of bytes
-header_words true f c n = refl
-header_words false f c n = refl
+header_words_lem true f c n = refl
+header_words_lem false f c n = refl
 
 pub header_put : (old : Bool) (f c n : ℕ) (out : List ℕ)
     → sets (sets (sets (sets out 0 (bytes 4 (version_number old))) 4 (bytes 4 f)) 8 (bytes 4 c)) 12 (bytes 4 n)
     ≡ sets out 0 (bytes_of (header_fields old f c n))
-header_put old f c n out = rw (← header_words old f c n) (puts-all (header_words old f c n) out 0)
+header_put old f c n out = rw (← header_words_lem old f c n) (puts-all (header_words old f c n) out 0)
 
 -- The section.
 

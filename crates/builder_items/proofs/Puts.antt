@@ -86,26 +86,26 @@ module _ (l : List ℕ) (at : ℕ) (out : List ℕ) (to : ℕ) where
     abbrev old_location_words : List Field
     old_location_words = (2 of word 2 l (at + 1)) ∷ (2 of word 2 l (at + 4)) ∷ (4 of word 4 l (at + 6)) ∷ []
 
-    old_location_words : bytes_of old_location_words ≡ bytes_of (location_fields true (listed_location l at))
+    old_location_words_lem : bytes_of old_location_words ≡ bytes_of (location_fields true (listed_location l at))
     unfolding bytes_of location_fields listed_location
-    old_location_words = rw (side_by_side 1 1 (at + 1) (at + 2) (omega arith), append_assoc (bytes 1 (word 1 l (at + 1))), low_byte (at + 2))
+    old_location_words_lem = rw (side_by_side 1 1 (at + 1) (at + 2) (omega arith), append_assoc (bytes 1 (word 1 l (at + 1))), low_byte (at + 2))
 
     pub old_location_put :
         sets (sets (sets out to (bytes 2 (word 2 l (at + 1)))) (to + 2) (bytes 2 (word 2 l (at + 4)))) (to + 4) (bytes 4 (word 4 l (at + 6)))
         ≡ sets out to (bytes_of (location_fields true (listed_location l at)))
-    old_location_put = rw (← old_location_words) (rw add-zero at (puts-all old_location_words out to))
+    old_location_put = rw (← old_location_words_lem) (rw add-zero at (puts-all old_location_words out to))
 
     abbrev location_words : List Field
     location_words = (2 of get_or l (at + 1) 0) ∷ (4 of word 4 l (at + 2)) ∷ (2 of 0) ∷ (4 of word 4 l (at + 6)) ∷ []
 
-    location_words : bytes_of location_words ≡ bytes_of (location_fields false (listed_location l at))
+    location_words_lem : bytes_of location_words ≡ bytes_of (location_fields false (listed_location l at))
     unfolding bytes_of location_fields listed_location
-    location_words = rw (byte_zero (at + 1), side_by_side 2 2 (at + 2) (at + 4) (omega arith), append_assoc (bytes 1 (word 1 l (at + 1))), append_assoc (bytes 2 (word 2 l (at + 2))))
+    location_words_lem = rw (byte_zero (at + 1), side_by_side 2 2 (at + 2) (at + 4) (omega arith), append_assoc (bytes 1 (word 1 l (at + 1))), append_assoc (bytes 2 (word 2 l (at + 2))))
 
     pub location_put :
         sets (sets (sets (sets out to (bytes 2 (get_or l (at + 1) 0))) (to + 2) (bytes 4 (word 4 l (at + 2)))) (to + 6) (bytes 2 0)) (to + 8) (bytes 4 (word 4 l (at + 6)))
         ≡ sets out to (bytes_of (location_fields false (listed_location l at)))
-    location_put = rw (← location_words) (rw add-zero at (puts-all location_words out to))
+    location_put = rw (← location_words_lem) (rw add-zero at (puts-all location_words out to))
 
     pub live_out_put :
         set (set (sets out to (bytes 2 (word 2 l (at + 1)))) (to + 2) 0) (to + 3) (get_or l (at + 3) 0)

@@ -1,5 +1,7 @@
 // Texts and decimal numbers in a buffer, for what the programs write.
 // No entry point: each function requires the room that it takes.
+#![tactic(auto)]
+
 ghost use Rattle.std.specs.Prelude.{◌≡◌, ◌+◌, ◌^◌, ◌≤◌, ◌<◌, length};
 ghost use Rattle.std.proofs.lemmas.List.Edits.{sets};
 ghost use Rattle.decimal.specs.Line.{digits};

@@ -12,7 +12,7 @@ use relocate::{Machine, Settings};
 const UNKNOWN_EDITION: u8 = 31;
 
 // A refusal's number, 31, or 0 and the edition's settings.
-#[derive(Drop)]
+#[derive(Clone, Copy)]
 pub struct NamedSettings {
     pub number: u8,
     pub settings: Settings,

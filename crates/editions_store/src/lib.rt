@@ -1,4 +1,6 @@
 // Settings by edition, document 02, request 9: a store is handed in and comes back by value, and every content of it gets an answer.
+#![tactic(auto)]
+
 ghost use Rattle.std.specs.Prelude.{◌≡◌, length};
 ghost use Rattle.editions.specs.Calls.{settings_right};
 ghost use Rattle.editions.specs.Store.{nothing, free, holds, without, empty};

@@ -2,7 +2,7 @@
 
 // Why a slot of a frame ends as it does. Moved: the lowest pair that derives it, the old base and the new base. Refused: the number and the
 // place that the move of the frame would give.
-#[derive(Drop)]
+#[derive(Clone, Copy)]
 pub enum Reason {
     Unlisted,
     OnlyBase,
@@ -12,7 +12,7 @@ pub enum Reason {
 }
 
 // A slot that is asked for: the address of its first byte, or a register.
-#[derive(Drop)]
+#[derive(Clone, Copy)]
 pub enum Asked {
     Address(u64),
     Register(u64),

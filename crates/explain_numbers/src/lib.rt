@@ -10,7 +10,7 @@ use explain::Reason;
 use moves::{POINTER_SIZE, REGISTERS_FROM};
 
 // A reason as four numbers: its own, and of moved the pair, the old base and the new base.
-#[derive(Drop)]
+#[derive(Clone, Copy)]
 pub struct Told {
     pub reason: u64,
     pub pair: u64,

@@ -143,9 +143,9 @@ module _ (R : Restore) (im : List ℕ) (st : Stopped) (o : Outline) (live bases 
   Own y = Placed o.size register_count y
 
   -- the slot with the number y
-  slot_row : (y : ℕ) → Own y → slot_by w live bases derived table n pss f.sp y ≡ slot_row R im st (addressed f.sp (slot_of y))
+  slot_row_lem : (y : ℕ) → Own y → slot_by w live bases derived table n pss f.sp y ≡ slot_row R im st (addressed f.sp (slot_of y))
   unfolding sort_at place_at
-  slot_row y p =
+  slot_row_lem y p =
       let x = addressed f.sp (slot_of y) in
       three_and _ _ _ _ _ _ _ (sort_addressed f.sp (slot_of y))
       (sym (base_same R im st x (f.sp - R.first) o.size pss h.is_window h.accepted n live bases derived h.holds h.placed h.stands.small y p))
@@ -157,8 +157,8 @@ module _ (R : Restore) (im : List ℕ) (st : Stopped) (o : Outline) (live bases 
       ≡ pointer_row R im st k i (pointer_at f.sp (cond t null (slots (slot_of b) (slot_of d))))
   row_go k i true b d p q = refl
   row_go k i false b d p q =
-      ap (λ (l : List ℕ). k ∷ i ∷ (l ++ slot_by w live bases derived table n pss f.sp d)) (slot_row b (p refl))
-      ∙ ap (λ (l : List ℕ). k ∷ i ∷ (slot_row R im st (addressed f.sp (slot_of b)) ++ l)) (slot_row d (q refl))
+      ap (λ (l : List ℕ). k ∷ i ∷ (l ++ slot_by w live bases derived table n pss f.sp d)) (slot_row_lem b (p refl))
+      ∙ ap (λ (l : List ℕ). k ∷ i ∷ (slot_row R im st (addressed f.sp (slot_of b)) ++ l)) (slot_row_lem d (q refl))
 
   row_same : (k j : ℕ) → j < n → row_by w live bases derived table n pss f.sp k j ≡ pointer_row R im st k (pair_of pss j) (pointer_at f.sp (get_or (flatten pss) j null))
   unfolding row_by slots_by arrays.pointer_at

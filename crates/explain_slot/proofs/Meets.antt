@@ -27,7 +27,7 @@ use Rattle.relocate.specs.Stopped.{Stopped, cursor}
 use Rattle.relocate.specs.Plan.{plan}
 use Rattle.relocate.specs.Relocation.{answer, in_image, content_at}
 use Rattle.relocate.proofs.Planned.{Planned, planned}
-use Rattle.relocate.proofs.Demand.{in_image}
+use Rattle.relocate.proofs.Demand.{in_image_lem}
 use Rattle.explain.specs.declared.Reason.{Reason}
 use Rattle.explain.specs.declared.Reason.TheVariants.{Unlisted, OnlyBase, NullBase, Moved, Refused}
 use Rattle.explain.specs.Explain.{addressed, pointer_at, listed, Hit, lowest_pair, derives, has_base, old_base, moved_by, or_else, still, by_hit, accepted, explained}
@@ -130,7 +130,7 @@ module _ (R : Restore) (im : List ℕ) (st : Stopped) (x : Slot) where
       pub base_same : (y : ℕ) → Placed size register_count y → content_at R im st.registers (addressed sp (slot_of y)) ≡ read w (slot_of y)
       base_same y p =
           ap (λ (s : Slot). read (state im st.registers) (in_image R.first s)) (addressed-is sp (slot_of y))
-          ∙ ap (read (state im st.registers)) (in_image R.first sp off (slot_of y) q.low q.off_is)
+          ∙ ap (read (state im st.registers)) (in_image_lem R.first sp off (slot_of y) q.low q.off_is)
           ∙ sym (read-part im st.registers off size register_count (slot_of y) (placed_in size register_count y p))
 
       -- the three tests of a pointer, where the slot's number is o
@@ -162,9 +162,9 @@ module _ (R : Restore) (im : List ℕ) (st : Stopped) (x : Slot) where
             ap (λ (p : Pointer). derives x (pointer_at sp p)) (at j l)
             ∙ derives_go (is_null j) (get_or bases j 0) (get_or derived j 0) (λ e. placed.derived_in j l (eqb-false (get_or live j 0) 0 e))
 
-        base_at : (j : ℕ) → j < n → has_base x (pointer_at sp (get_or (flatten pss) j null)) ≡ cond (is_null j) false (is_at o (get_or bases j 0))
+        base_at_lem : (j : ℕ) → j < n → has_base x (pointer_at sp (get_or (flatten pss) j null)) ≡ cond (is_null j) false (is_at o (get_or bases j 0))
         unfolding arrays.pointer_at
-        base_at j l =
+        base_at_lem j l =
             ap (λ (p : Pointer). has_base x (pointer_at sp p)) (at j l)
             ∙ base_go (is_null j) (get_or bases j 0) (get_or derived j 0) (λ e. placed.base_in j l (eqb-false (get_or live j 0) 0 e))
 
@@ -192,7 +192,7 @@ module _ (R : Restore) (im : List ℕ) (st : Stopped) (x : Slot) where
       nowhere num =
           shape none none none (none_in (moved_by R im st x) (λ j l. moves_at_lem none num j l ∙ cond_false (eqb (get_or live j 0) 0)))
           (none_in (derives x) (λ j l. derives-at none num j l ∙ cond_false (eqb (get_or live j 0) 0)))
-          (none_in (has_base x) (λ j l. base_at none num j l ∙ cond_false (eqb (get_or live j 0) 0)))
+          (none_in (has_base x) (λ j l. base_at_lem none num j l ∙ cond_false (eqb (get_or live j 0) 0)))
 
       -- the number z
       module _ (z : ℕ) (num : (y : ℕ) → Placed size register_count y → same (addressed sp (slot_of y)) x ≡ eqb y z) where
@@ -209,7 +209,7 @@ module _ (R : Restore) (im : List ℕ) (st : Stopped) (x : Slot) where
 
         same₃ : (j : ℕ) → j < n → has_base x (pointer_at sp (get_or (flatten pss) j null)) ≡ named_at live bases z j
         unfolding named_at
-        same₃ j l = base_at (some z) num j l
+        same₃ j l = base_at_lem (some z) num j l
 
         -- the old base of the pointer that moves it
         base-hit : (j : ℕ) → j < n → (get_or live j 0 ≡ 0 → ⊥) → old_base R im st (pointer_at sp (get_or (flatten pss) j null)) ≡ base_at w live bases derived j

@@ -9,7 +9,7 @@ use flat::{layout, offsets};
 pub mod keys;
 
 // The number of a refusal, or 0 and the numbers of frame and record. The place is always 0.
-#[derive(Drop)]
+#[derive(Clone, Copy)]
 pub struct MatchAnswer {
     pub number: u8,
     pub place: usize,

@@ -6,7 +6,7 @@ ghost use Rattle.flat_read.specs.Read.{no_constant, this_constant, constant_answ
 
 use flat::{layout, offsets};
 
-#[derive(Drop)]
+#[derive(Clone, Copy)]
 pub struct ConstantAnswer {
     pub number: u8,
     pub place: usize,
@@ -52,7 +52,7 @@ pub fn constant(s: &[u8], k: u64) -> ConstantAnswer
     )
 }
 
-#[derive(Drop)]
+#[derive(Clone, Copy)]
 pub struct FrameAnswer {
     pub number: u8,
     pub place: usize,
@@ -122,7 +122,7 @@ pub fn frame(s: &[u8], k: u64) -> FrameAnswer
     )
 }
 
-#[derive(Drop)]
+#[derive(Clone, Copy)]
 pub struct RegisterAnswer {
     pub number: u8,
     pub place: usize,
@@ -177,7 +177,7 @@ pub fn register(s: &[u8], k: u64) -> RegisterAnswer
     )
 }
 
-#[derive(Drop)]
+#[derive(Clone, Copy)]
 pub struct RecordAnswer {
     pub number: u8,
     pub place: usize,
@@ -244,7 +244,7 @@ pub fn record(s: &[u8], k: u64) -> RecordAnswer
     )
 }
 
-#[derive(Drop)]
+#[derive(Clone, Copy)]
 pub struct LocationAnswer {
     pub number: u8,
     pub place: usize,
@@ -296,7 +296,7 @@ pub fn location(s: &[u8], k: u64) -> LocationAnswer
     )
 }
 
-#[derive(Drop)]
+#[derive(Clone, Copy)]
 pub struct LiveOutAnswer {
     pub number: u8,
     pub place: usize,

@@ -4,7 +4,7 @@ use native.Mathlib.Decide.{dec_lt}
 use lib.Bits.{bit_or, or_add_and, and_le_l, and_le_r, or_mod}
 use Rattle.wire.specs.Word.{Bytes, word}
 use Rattle.wire.proofs.Laws.{word-add, word_bound}
-use Rattle.glance.specs.Look.{size, kind, Right, Rights, Outs, less, width, Low, together, less_four}
+use Rattle.glance.specs.Look.{size, Right, Rights, Outs, less, width, Low, together, less_four}
 
 -- Places: that of a location that is inside, and that of four.
 

@@ -6,6 +6,8 @@
 // The eight bytes of a location, less one, are low if its kind is 1 to 4 and the zero bytes of version 3 are zero. Numbers put together
 // bit by bit are low only if each of them is, so that one test answers for all. It serves the crates above and is no entry point: each
 // function requires that its bytes are inside.
+#![tactic(auto)]
+
 ghost use Rattle.std.specs.Prelude.{◌≡◌, ℕ, ◌+◌, ◌-◌, ◌*◌, ◌^◌, ◌<◌, ◌≤◌, true, false, length};
 ghost use Rattle.glance.specs.Look.{Rights, Low};
 ghost use Rattle.glance.specs.Look as look;
@@ -76,7 +78,7 @@ fn least(a: usize, b: usize) -> usize
 }
 
 // Where four of five looks at three to fifteen locations begin. The first begins with the first location; they may overlap.
-#[derive(Drop)]
+#[derive(Clone, Copy)]
 pub struct Starts {
     pub second: usize,
     pub third: usize,

@@ -1,5 +1,7 @@
 // A quick look at locations of any kind, a ConstIndex too, as `glance` looks at those of kinds 1 to 4.
 // No entry point: each function requires that its bytes are inside.
+#![tactic(auto)]
+
 ghost use Rattle.std.specs.Prelude.{◌≡◌, true, false, ℕ, ◌+◌, ◌*◌, ◌-◌, ◌^◌, ◌≤◌, ◌<◌, length};
 ghost use Rattle.glance.specs.Look.{Right, Rights, Low};
 ghost use Rattle.glance.specs.Look as look;
@@ -27,7 +29,7 @@ fn minus(a: usize, b: usize) -> usize
 }
 
 // Where three of four looks at four to sixteen locations begin. The first begins with the first location; they may overlap.
-#[derive(Drop)]
+#[derive(Clone, Copy)]
 pub struct Starts {
     pub second: usize,
     pub third: usize,

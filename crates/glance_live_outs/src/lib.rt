@@ -1,5 +1,7 @@
 // A quick look at live-outs: up to eight by one test.
 // No entry point: each function requires that its bytes are inside.
+#![tactic(auto)]
+
 ghost use Rattle.std.specs.Prelude.{◌≡◌, true, ◌+◌, ◌*◌, ◌≤◌, ◌<◌, length, get_or};
 ghost use Rattle.glance.specs.Look.{Outs};
 

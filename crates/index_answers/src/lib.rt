@@ -1,5 +1,7 @@
 // The answers for a list of addresses, written one after the other.
 // No entry point: it requires that the list is the section's index, and that there is room for the answers.
+#![tactic(auto)]
+
 ghost use Rattle.std.specs.Prelude.{◌≡◌, ◌+◌, ◌*◌, ◌≤◌, length};
 ghost use Rattle.std.proofs.lemmas.List.Edits.{sets};
 ghost use Rattle.stackmap.specs.Section.{entries};

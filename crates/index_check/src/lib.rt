@@ -1,5 +1,7 @@
 // Whether a list that is handed in is the section's index, which is the test of 29. It is told in the walk of the section's check, without a
 // second list: the right length, strictly rising, and each record's pair is in it.
+#![tactic(auto)]
+
 ghost use Rattle.std.specs.Prelude.{◌≡◌, false, ◌≤◌, length, eqb, leb};
 ghost use Rattle.stackmap.specs.Section.{num_records, is_old, records_at, entries};
 ghost use Rattle.stackmap.specs.declared.Verdict.TheVariants.{Valid};
@@ -20,7 +22,7 @@ use stackmap_check::walk;
 use stackmap_tables::tables;
 
 // What a search for an address gives, and whether the list is the index.
-#[derive(Drop)]
+#[derive(Clone, Copy)]
 pub struct Checked {
     pub found: Found,
     pub right: bool,

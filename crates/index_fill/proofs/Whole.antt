@@ -25,7 +25,7 @@ use Rattle.index.proofs.Index.{row_at, rows-has, rows-place, rows-flat, flat-len
 use Rattle.index.proofs.Numbers.{section-numbered, rows-many}
 use Rattle.index_rows.specs.Filled.{in_place}
 use Rattle.index_rows.proofs.Walk.{tabled}
-use Rattle.index_rows.proofs.Rows.{in_place}
+use Rattle.index_rows.proofs.Rows.{in_place_lem}
 
 -- beyond the first n pairs nothing has changed
 beyond : {zs ys : List ℕ} (n : ℕ) → Reordered zs ys n → (i : ℕ) → 2 * n ≤ i → get_or ys i 0 ≡ get_or zs i 0
@@ -94,7 +94,7 @@ module _ (s : List ℕ) (k : Accepted s) where
       → ys ≡ index_of s ++ drop (2 * num_records s) xs
   unfolding index_of
   put-in_order xs ys m small r t =
-      of_rows (map row_of (entries s)) xs (in_place s xs) ys (num_records s) (sym (rows-many s w)) (in_place s xs w m) r t (section-numbered s small)
+      of_rows (map row_of (entries s)) xs (in_place s xs) ys (num_records s) (sym (rows-many s w)) (in_place_lem s xs w m) r t (section-numbered s small)
 
   many-entries : length (index_of s) ≡ 2 * num_records s
   unfolding index_of

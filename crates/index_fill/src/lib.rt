@@ -1,4 +1,6 @@
 // Filling an address index: document 02, request 4.
+#![tactic(auto)]
+
 ghost use Rattle.std.specs.Prelude.{◌≡◌, false, ◌*◌, ◌≤◌, ◌<◌, ◌++◌, length, drop};
 ghost use Rattle.stackmap.specs.Section.{num_records, is_old};
 ghost use Rattle.stackmap.specs.Check.{Accepted};

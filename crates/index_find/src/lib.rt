@@ -1,4 +1,6 @@
 // A lookup by address through an index of the section, which is lent with it: what the walk without an index gives.
+#![tactic(auto)]
+
 ghost use Rattle.std.specs.Prelude.{◌≡◌};
 ghost use Rattle.questions.specs.Questions.{not_found};
 ghost use Rattle.index.specs.Index.{by_index};

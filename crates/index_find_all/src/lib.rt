@@ -1,5 +1,7 @@
 // Many lookups in one call, which is what an index pays for: the section, its index and the length of the lent list are tested once, and
 // then each address is looked up by halving.
+#![tactic(auto)]
+
 ghost use Rattle.std.specs.Prelude.{◌≡◌, false};
 ghost use Rattle.stackmap.specs.Section.{is_old, entries};
 ghost use Rattle.stackmap.specs.Check.{Accepted};

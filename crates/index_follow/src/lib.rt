@@ -1,5 +1,7 @@
 // A list of pairs that a walk over the records follows: each record's pair is looked for in it.
 // No entry point: it requires a place that an earlier step has given, and a record that stands there.
+#![tactic(auto)]
+
 ghost use Rattle.std.specs.Prelude.{◌≡◌, ◌+◌, ◌^◌, ◌≤◌, ◌<◌, length, leb};
 ghost use Rattle.stackmap.specs.Section.{address};
 ghost use Rattle.stackmap.specs.Walk.{owner_at, entry_at};

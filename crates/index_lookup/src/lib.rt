@@ -1,5 +1,7 @@
 // One address looked up in a section's index: by halving.
 // No entry point: it requires that the list is the section's index.
+#![tactic(auto)]
+
 ghost use Rattle.std.specs.Prelude.{◌≡◌, ◌+◌, ◌*◌};
 ghost use Rattle.stackmap.specs.Section.{entries};
 ghost use Rattle.questions.specs.Questions.{first_of, with_address};
@@ -14,7 +16,7 @@ const HIGHEST: u64 = 18446744073709551615;
 
 // What is written for one address: a refusal's number, or 0, and its place, which is 0; and the record, its function and how many share
 // the address.
-#[derive(Drop)]
+#[derive(Clone, Copy)]
 pub struct Looked {
     pub number: u64,
     pub index: u64,

@@ -1,6 +1,8 @@
 // Which function owns a record, by the record's number: the record counts are added up once, with a mark at every STEP-th function, and a
 // record's function is looked for from the last mark that is not above it.
 // No entry point: it requires a section of version 3 whose functions are inside and whose record counts add up.
+#![tactic(auto)]
+
 ghost use Rattle.std.specs.Prelude.{◌≡◌, false, ◌+◌, ◌*◌, ◌≤◌, ◌<◌, length};
 ghost use Rattle.stackmap.specs.Section.{num_functions, num_records, is_old};
 ghost use Rattle.stackmap.specs.Walk.{Walkable};

@@ -81,9 +81,9 @@ module _ (s xs : List ℕ) (w : Walkable s) (m : 2 * num_records s ≤ length xs
   rows = map row_of (entries s)
 
   -- they stand at the beginning, and what lies beyond is as it was
-  pub in_place : in_place s xs ≡ flat rows ++ drop (2 * length rows) xs
+  pub in_place_lem : in_place s xs ≡ flat rows ++ drop (2 * length rows) xs
   unfolding in_place
-  in_place =
+  in_place_lem =
       let l = flat-length rows in
       let n = rows-many s w in
       sets-eq (flat rows) xs 0 (omega arith) ∙ rw (l, zero-add)
@@ -99,4 +99,4 @@ module _ (s xs : List ℕ) (w : Walkable s) (m : 2 * num_records s ≤ length xs
         go : (i : ℕ) → i + 1 < num_records s → rank_at list i ≤ rank_at list (i + 1)
         go i l =
             let f : climbs 0 rows ≡ true = sym (risen (entries s) (none_filled xs)) ∙ ap (λ (h : Filling). h.rises) e ∙ t in
-            rw (fill_written, in_place) (steps 0 0 rows (drop (2 * length rows) xs) f (section-numbered s small) i (omega (arith, rows-many s w)))
+            rw (fill_written, in_place_lem) (steps 0 0 rows (drop (2 * length rows) xs) f (section-numbered s small) i (omega (arith, rows-many s w)))

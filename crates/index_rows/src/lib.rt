@@ -1,5 +1,7 @@
 // The rows of an index, written in section order.
 // No entry point: it requires an accepted section of version 3, and room for its rows.
+#![tactic(auto)]
+
 ghost use Rattle.std.specs.Prelude.{◌≡◌, false, true, ◌&&◌, ◌+◌, ◌*◌, ◌^◌, ◌≤◌, ◌<◌, leb, length, set};
 ghost use Rattle.stackmap.specs.Section.{num_functions, num_records, is_old, constants_at, records_at, address};
 ghost use Rattle.stackmap.specs.Walk.{entry_at};

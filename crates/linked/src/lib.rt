@@ -1,7 +1,8 @@
 // Linked sections, several stack maps one after the other: the definitions, and the laws about them. No document asks for this.
+#![tactic(auto)]
 
 // A refusal's number and place, or 0, 0 and how many maps there are.
-#[derive(Drop)]
+#[derive(Clone, Copy)]
 pub struct Maps {
     pub number: u8,
     pub place: usize,
@@ -10,7 +11,7 @@ pub struct Maps {
 
 // By address over all maps: the record's map, its number there, its function's number there, how many records of all maps share the
 // address, and the record's first byte in the whole.
-#[derive(Drop)]
+#[derive(Clone, Copy)]
 pub struct FoundIn {
     pub number: u8,
     pub place: usize,

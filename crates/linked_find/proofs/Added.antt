@@ -14,7 +14,7 @@ use Rattle.questions.specs.declared.Found.{Found}
 use Rattle.questions.specs.declared.Hits.{Hits}
 use Rattle.questions.specs.Kept.{no_hits, noted}
 use Rattle.questions.specs.Questions.{with_address, first_of}
-use Rattle.questions.proofs.Kept.{hits_answer, hits_answer}
+use Rattle.questions.proofs.Kept.{hits_answer, hits_answer_lem}
 use Rattle.linked.specs.declared.FoundIn.{FoundIn}
 use Rattle.linked.specs.Linked.{Map}
 use Rattle.linked.specs.Find.{none_old, of_map, all_with_address, MapEntry, not_found_in, first_of_all}
@@ -88,7 +88,7 @@ module _ (a : ℕ) where
   unfolding added_all none_old all_with_address of_map
   all_found i k x g n p [] l = let z : n + 0 ≡ n = omega arith in rw z
   all_found i k x g n p (m ∷ ms) l =
-      go (fold (noted a) (entries m.content) no_hits) (is_old m.content) (with_address a (entries m.content)) (hits_answer a (entries m.content))
+      go (fold (noted a) (entries m.content) no_hits) (is_old m.content) (with_address a (entries m.content)) (hits_answer_lem a (entries m.content))
       (λ o z. all_found (suc i) k x g o p ms z)
     where
       go : (h : Hits) (old : Bool) (es : List Entry) → hits_answer (eqb h.sharing 0) h ≡ first_of es
@@ -109,7 +109,7 @@ module _ (a : ℕ) where
   unfolding added_all none_old all_with_address of_map
   all_none i [] = refl
   all_none i (m ∷ ms) =
-      go (fold (noted a) (entries m.content) no_hits) (is_old m.content) (with_address a (entries m.content)) (hits_answer a (entries m.content))
+      go (fold (noted a) (entries m.content) no_hits) (is_old m.content) (with_address a (entries m.content)) (hits_answer_lem a (entries m.content))
       (all_none (suc i) ms)
     where
       go : (h : Hits) (old : Bool) (es : List Entry) → hits_answer (eqb h.sharing 0) h ≡ first_of es

@@ -1,4 +1,6 @@
 // The question by address over all maps of a linked section, in one walk.
+#![tactic(auto)]
+
 ghost use Rattle.std.specs.Prelude.{◌≡◌, ◌+◌, ◌^◌, ◌≤◌, ◌<◌};
 ghost use Rattle.linked.specs.Find.{not_found_in, by_address_in};
 ghost use Rattle.linked_find.specs.Added.{added};

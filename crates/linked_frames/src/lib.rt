@@ -14,7 +14,7 @@ pub mod frames;
 pub mod map;
 
 // 10 or 15; or 0, the bytes of the map that has the one record with a frame's address, and what the map says of this address.
-#[derive(Drop)]
+#[derive(Clone, Copy)]
 pub struct Site {
     pub number: u8,
     pub from: usize,

@@ -1,4 +1,6 @@
 // Cutting a linked section into its maps.
+#![tactic(auto)]
+
 ghost use Rattle.std.specs.Prelude.{◌≡◌, ◌+◌, ◌*◌, ◌-◌, ◌≤◌, ◌<◌, length, drop, set};
 ghost use Rattle.std.proofs.lemmas.List.Edits.{sets};
 ghost use Rattle.stackmap.specs.Verdict.{shift};
@@ -20,7 +22,7 @@ const TOO_SHORT: u8 = 24;
 const KEPT: usize = 1024;
 
 // How many maps there are, or the refusal's number and place.
-#[derive(Drop)]
+#[derive(Clone, Copy)]
 pub enum Counted {
     Count(usize),
     Refused(u8, usize),

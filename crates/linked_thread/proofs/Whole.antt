@@ -89,10 +89,10 @@ module _ (R : Restore) (ms : List Map) (im : List ℕ) where
 
   -- The stages before the frames. No map is of version 1.
 
-  none_old : (k : Move) (ns : List Map) → ((m : Map) → Memᴰ m ns → Memᴰ m ms) → AllStanding R.section ms → none_old refused_move ns k ≡ k
+  none_old_lem : (k : Move) (ns : List Map) → ((m : Map) → Memᴰ m ns → Memᴰ m ms) → AllStanding R.section ms → none_old refused_move ns k ≡ k
   unfolding none_old
-  none_old k [] sub w = refl
-  none_old k (m ∷ ns) sub w = rw (w.each m (sub m (Memᴰ.head refl))).new (none_old k ns (λ x h. sub x (Memᴰ.tail h)) w)
+  none_old_lem k [] sub w = refl
+  none_old_lem k (m ∷ ns) sub w = rw (w.each m (sub m (Memᴰ.head refl))).new (none_old_lem k ns (λ x h. sub x (Memᴰ.tail h)) w)
 
   module _ (t : Thread) (w : AllStanding R.section ms) where
     refused_threads : (n p : ℕ) → (n ≡ 0 → ⊥) → thread_over R ms im t ≡ refused_move n p → ThreadsOver R ms im t (refused_move n p) im t.registers
@@ -101,27 +101,27 @@ module _ (R : Restore) (ms : List Map) (im : List ℕ) where
 
     pub thread_33 : allowed_new R t.machine ≡ false → ThreadsOver R ms im t (refused_move 33 0) im t.registers
     unfolding thread_over
-    thread_33 h = refused_threads 33 0 (λ z. omega arith) (none_old _ ms (λ m x. x) w ∙ rw h)
+    thread_33 h = refused_threads 33 0 (λ z. omega arith) (none_old_lem _ ms (λ m x. x) w ∙ rw h)
 
     module _ (l : allowed_new R t.machine ≡ true) where
       pub thread_13 : image_right R.first (length im) ≡ false → ThreadsOver R ms im t (refused_move 13 0) im t.registers
       unfolding thread_over
-      thread_13 h = refused_threads 13 0 (λ z. omega arith) (none_old _ ms (λ m x. x) w ∙ rw (l, h))
+      thread_13 h = refused_threads 13 0 (λ z. omega arith) (none_old_lem _ ms (λ m x. x) w ∙ rw (l, h))
 
       module _ (i : image_right R.first (length im) ≡ true) where
         pub thread_14 : table_right R.olds R.news ≡ false → ThreadsOver R ms im t (refused_move 14 0) im t.registers
         unfolding thread_over
-        thread_14 h = refused_threads 14 0 (λ z. omega arith) (none_old _ ms (λ m x. x) w ∙ rw (l, i, h))
+        thread_14 h = refused_threads 14 0 (λ z. omega arith) (none_old_lem _ ms (λ m x. x) w ∙ rw (l, i, h))
 
         module _ (b : table_right R.olds R.news ≡ true) where
           pub thread_25 : list_right t.list t.registers ≡ false → ThreadsOver R ms im t (refused_move 25 0) im t.registers
           unfolding thread_over
-          thread_25 h = refused_threads 25 0 (λ z. omega arith) (none_old _ ms (λ m x. x) w ∙ rw (l, i, b, h))
+          thread_25 h = refused_threads 25 0 (λ z. omega arith) (none_old_lem _ ms (λ m x. x) w ∙ rw (l, i, b, h))
 
           same_answer : (n : ℕ) → list_right t.list t.registers ≡ true → n ≡ length t.list / 2
               → frames_answer_over R ms im (frames_from t n 0) ≡ thread_over R ms im t
           unfolding thread_over frames_answer_over frames_of
-          same_answer n h e = sym (none_old _ ms (λ m x. x) w ∙ rw (l, i, b, h, ← e))
+          same_answer n h e = sym (none_old_lem _ ms (λ m x. x) w ∙ rw (l, i, b, h, ← e))
 
           pub thread-frames : (n : ℕ) (r : Move) (after after-rs : List ℕ) → list_right t.list t.registers ≡ true → n ≡ length t.list / 2
               → FramedOver R ms im (frames_from t n 0) t.registers r after after-rs → ThreadsOver R ms im t r after after-rs

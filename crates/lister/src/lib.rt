@@ -1,4 +1,6 @@
 // The conversion of a section to a listing: document 01, "The listing".
+#![tactic(auto)]
+
 ghost use Rattle.std.specs.Prelude.{◌≡◌, ◌≤◌, length};
 ghost use Rattle.stackmap.specs.Layout.{header_size};
 ghost use Rattle.stackmap.specs.Section.{read_section};
@@ -14,7 +16,7 @@ use stackmap::{Verdict, layout};
 
 // How a section is laid out: whether it is of version 1, how many functions, constants and records, where the constants begin
 // (the pool), and where the first record stands.
-#[derive(Drop)]
+#[derive(Clone, Copy)]
 struct Tables {
     old: bool,
     functions: usize,

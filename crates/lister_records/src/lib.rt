@@ -1,5 +1,7 @@
 // The records, each read from its own stretch of the section: how long they are in the listing, and their items.
 // No entry point: the section is accepted and the output long enough before these are called.
+#![tactic(auto)]
+
 ghost use Rattle.std.specs.Prelude.{◌≡◌, ◌+◌, ◌≤◌, length};
 ghost use Rattle.stackmap.specs.Fields.{size, all};
 ghost use Rattle.stackmap.specs.Section.{record_fields, record_length, read_record, read_records};
@@ -31,7 +33,7 @@ pub fn records_length(s: &[u8], old: bool, at: usize, count: usize) -> usize
 }
 
 // A record that has been passed: its length, and where the next item begins.
-#[derive(Drop)]
+#[derive(Clone, Copy)]
 struct Passed {
     length: usize,
     next: usize,

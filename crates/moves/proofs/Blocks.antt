@@ -33,6 +33,7 @@ module _ {A B : Type 0} (g : A → List B) where
   pub of_block : {x : B} {y : A} (ys : List A) → Memᴰ y ys → Memᴰ x (g y) → Memᴰ x (flatten (map g ys))
   unfolding flatten
   of_block {x} (z ∷ ys) (Memᴰ.head e) h = Memᴰ.append_left _ (subst (λ (v : A). Memᴰ x (g v)) e h)
+  of_block {x = x} {y = y} [] x3 h = elim x3 [ ]
   of_block (z ∷ ys) (Memᴰ.tail m) h = Memᴰ.append_right (g z) (of_block ys m h)
 
 -- a permutation of blocks is a permutation

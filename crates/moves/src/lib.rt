@@ -1,4 +1,5 @@
 // The move of one window, the stretch of the image that is one frame's extent (window is our own word): definitions and laws.
+#![tactic(auto)]
 
 // The bytes of a slot: one pointer.
 pub const POINTER_SIZE: usize = 8;
@@ -13,21 +14,21 @@ pub const REGISTERS_FROM: usize = 4294967296;
 pub const TABLE_MOST: usize = 65536;
 
 // Where an object is now.
-#[derive(Drop)]
+#[derive(Clone, Copy)]
 pub enum NewStart {
     At(u64),
     Nothing,
 }
 
 // The new content of a derived slot, or that the base is unknown.
-#[derive(Drop)]
+#[derive(Clone, Copy)]
 pub enum Content {
     New(u64),
     Unknown,
 }
 
 // The answer to a move: a refusal's number and place, and count 0; or 0, 0 and the number of pointers, null ones included.
-#[derive(Drop)]
+#[derive(Clone, Copy)]
 pub struct Move {
     pub number: u8,
     pub place: usize,

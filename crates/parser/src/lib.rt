@@ -9,7 +9,7 @@ use parser_items::{Plan, version};
 use stackmap::Verdict;
 
 // What the listing comes to.
-#[derive(Drop)]
+#[derive(Clone, Copy)]
 pub enum Outcome {
     // The number of a refusal, and its place.
     Refused(u8, usize),

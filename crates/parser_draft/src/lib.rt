@@ -1,5 +1,7 @@
 // What the items of a listing come to, that is all of it after the version's item: 22, 23 and 28, or what is to be written.
 // No entry point: it requires a listing whose length 1 has tested.
+#![tactic(auto)]
+
 ghost use Rattle.std.specs.Prelude.{◌≤◌, length};
 ghost use Rattle.listing.specs.Layout.{listing_most};
 ghost use Rattle.parser_draft.specs.Drafted.{Drafted};
@@ -11,7 +13,7 @@ use stackmap::Verdict;
 mod grammar;
 mod narrow;
 
-#[derive(Drop)]
+#[derive(Clone, Copy)]
 pub enum Draft {
     // The number of a refusal, and its place among the items.
     Refused(u8, usize),

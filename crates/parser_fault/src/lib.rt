@@ -1,6 +1,8 @@
 // The refusals that the built section would get, said of the listing's items: 6, 7 and 8. A place is one of the section, which
 // is of version 1 where `old` is true.
 // No entry point: it requires a listing whose grammar 22 has passed.
+#![tactic(auto)]
+
 ghost use Rattle.std.specs.Prelude.{◌≡◌, false, ◌+◌, ◌*◌, ◌≤◌, length};
 ghost use Rattle.stackmap.specs.Layout.{location_size, section_most};
 ghost use Rattle.stackmap.specs.Verdict.{shift};

@@ -26,7 +26,7 @@ pub fn items(l: &[u8], kind: u8, size: usize, from: usize) -> usize
 }
 
 // How many functions and constants a listing has.
-#[derive(Drop)]
+#[derive(Clone, Copy)]
 pub struct Tables {
     pub functions: usize,
     pub constants: usize,
@@ -50,7 +50,7 @@ pub fn listed_tables(l: &[u8]) -> Tables
 }
 
 // What a pass over the records finds.
-#[derive(Drop)]
+#[derive(Clone, Copy)]
 pub struct Survey {
     // How many records, and their bytes in a section.
     pub records: usize,

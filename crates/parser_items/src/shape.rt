@@ -10,7 +10,7 @@ use listing::numbers;
 use stackmap::layout;
 
 // How many locations and live-outs a record has, and where its items stop.
-#[derive(Drop)]
+#[derive(Clone, Copy)]
 pub struct Shape {
     pub locations: usize,
     pub outs: usize,

@@ -1,5 +1,7 @@
 // The refusals that the built section would get, over the whole listing: 1, 5, and those of each record.
 // No entry point: it requires the plan that was made of this listing.
+#![tactic(auto)]
+
 ghost use Rattle.std.specs.Prelude.{◌≡◌, false, ◌*◌, ◌≤◌, ◌<◌, length, eqb};
 ghost use Rattle.stackmap.specs.Section.{record_owners, counted, entries_from};
 ghost use Rattle.stackmap.specs.Check.{counts_right};
@@ -45,7 +47,7 @@ fn counts_right(l: &[u8], plan: Plan) -> bool
 }
 
 // Which function owns the next record: the one before `next`, while `left` of its records are ahead.
-#[derive(Drop)]
+#[derive(Clone, Copy)]
 struct Turn {
     next: usize,
     left: u64,

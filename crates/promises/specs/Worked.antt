@@ -211,23 +211,23 @@ table =
     {- H and one byte more, listed -}
     (listing_of (section_h ++ (0 ∷ [])) ⇒ leaves 9 152 room) ∷
     {- I -}
-    (move_in section_h 0x50000 0x90000 (image 0x50000 0x54_e20) ⇒ gives 2 (image 0x90000 0x94_e20)) ∷
+    (move_in section_h 0x50000 0x90000 (image 0x50000 0x54E20) ⇒ gives 2 (image 0x90000 0x94E20)) ∷
     {- I in version 1 -}
-    (move_in section_old_h 0x50000 0x90000 (image 0x50000 0x54_e20) ⇒ gives 2 (image 0x90000 0x94_e20)) ∷
+    (move_in section_old_h 0x50000 0x90000 (image 0x50000 0x54E20) ⇒ gives 2 (image 0x90000 0x94E20)) ∷
     {- J -}
-    (move_in exchanged 0x50000 0x90000 (image 0x50000 0x54_e20) ⇒ gives 2 (image 0x90000 0x94_e20)) ∷
+    (move_in exchanged 0x50000 0x90000 (image 0x50000 0x54E20) ⇒ gives 2 (image 0x90000 0x94E20)) ∷
     {- K -}
-    (move_in section_h 0x50000 0x90000 (image 0x50000 0x4_b1_e0) ⇒ gives 2 (image 0x90000 0x8_b1_e0)) ∷
+    (move_in section_h 0x50000 0x90000 (image 0x50000 0x4B1E0) ⇒ gives 2 (image 0x90000 0x8B1E0)) ∷
     {- L -}
-    (move_in section_h 0x50000 0x10 (image 0x50000 0x4_ffe0) ⇒ gives 2 (image 0x10 0xFFFFFFFFFFFFFFF0)) ∷
+    (move_in section_h 0x50000 0x10 (image 0x50000 0x4FFE0) ⇒ gives 2 (image 0x10 0xFFFFFFFFFFFFFFF0)) ∷
     {- also: base 0x50008 -}
-    (move_in section_h 0x50000 0x90000 (image 0x50008 0x54_e20) ⇒ leaves 21 0 (image 0x50008 0x54_e20)) ∷
+    (move_in section_h 0x50000 0x90000 (image 0x50008 0x54E20) ⇒ leaves 21 0 (image 0x50008 0x54E20)) ∷
     {- last offset 17 -}
-    (move_in (pairs_to 17) 0x50000 0x90000 (image 0x50000 0x54_e20) ⇒ leaves 19 1 (image 0x50000 0x54_e20)) ∷
+    (move_in (pairs_to 17) 0x50000 0x90000 (image 0x50000 0x54E20) ⇒ leaves 19 1 (image 0x50000 0x54E20)) ∷
     {- last offset 12 -}
-    (move_in (pairs_to 12) 0x50000 0x90000 (image 0x50000 0x54_e20) ⇒ leaves 20 1 (image 0x50000 0x54_e20)) ∷
+    (move_in (pairs_to 12) 0x50000 0x90000 (image 0x50000 0x54E20) ⇒ leaves 20 1 (image 0x50000 0x54E20)) ∷
     {- no pairs -}
-    (move_in (with_pairs []) 0x50000 0x90000 (image 0x50000 0x54_e20) ⇒ gives 0 (image 0x50000 0x54_e20)) ∷
+    (move_in (with_pairs []) 0x50000 0x90000 (image 0x50000 0x54E20) ⇒ gives 0 (image 0x50000 0x54E20)) ∷
     []
 
 abbrev pub WorkedTable : Type 0

@@ -83,10 +83,10 @@ module _ (a : ℕ) where
       → noted a (entry_at s index function at) h ≡ record { index = index; function = function; sharing = 1; first = at }
   fresh_at s index function at h q z = fresh (entry_at s index function at) h q z ∙ rw (owner-number (is_old s) s function)
 
-  pub hits_answer : (es : List Entry) → hits_answer (eqb (fold (noted a) es no_hits).sharing 0) (fold (noted a) es no_hits) ≡ first_of (with_address a es)
+  pub hits_answer_lem : (es : List Entry) → hits_answer (eqb (fold (noted a) es no_hits).sharing 0) (fold (noted a) es no_hits) ≡ first_of (with_address a es)
   unfolding with_address
-  hits_answer [] = refl
-  hits_answer (e ∷ es) = go (hits_answer es) (eqb (address e) a) refl
+  hits_answer_lem [] = refl
+  hits_answer_lem (e ∷ es) = go (hits_answer_lem es) (eqb (address e) a) refl
     where
       go : hits_answer (eqb (fold (noted a) es no_hits).sharing 0) (fold (noted a) es no_hits) ≡ first_of (with_address a es)
           → (b : Bool) → eqb (address e) a ≡ b
@@ -98,10 +98,10 @@ module _ (a : ℕ) where
       go rest false q = rw (passed e no_hits q, q) rest
 
   pub found_none : (es : List Entry) (h : Hits) → fold (noted a) es no_hits ≡ h → h.sharing ≡ 0 → first_of (with_address a es) ≡ not_found 10 0
-  found_none es h e z = sym (hits_answer es) ∙ rw (e, eq-eqb _ _ z)
+  found_none es h e z = sym (hits_answer_lem es) ∙ rw (e, eq-eqb _ _ z)
 
   pub found_some : (es : List Entry) (h : Hits) → fold (noted a) es no_hits ≡ h → (h.sharing ≡ 0 → ⊥) → first_of (with_address a es) ≡ hits_answer false h
-  found_some es h e z = sym (hits_answer es) ∙ rw (e, ne_eqb _ _ z)
+  found_some es h e z = sym (hits_answer_lem es) ∙ rw (e, ne_eqb _ _ z)
 
 -- By number.
 

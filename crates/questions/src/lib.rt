@@ -1,7 +1,8 @@
 // Questions on a section: by address, by record number, by location and live-out number. Each walks the section once.
+#![tactic(auto)]
 
 // By address: the record's number, its function's number, how many records share the address, and its first byte.
-#[derive(Drop)]
+#[derive(Clone, Copy)]
 pub struct Found {
     pub number: u8,
     pub place: usize,
@@ -12,7 +13,7 @@ pub struct Found {
 }
 
 // What a search by address has found so far.
-#[derive(Drop)]
+#[derive(Clone, Copy)]
 pub struct Hits {
     pub index: usize,
     pub function: usize,
@@ -21,7 +22,7 @@ pub struct Hits {
 }
 
 // By record number: where the record's bytes stand.
-#[derive(Drop)]
+#[derive(Clone, Copy)]
 pub struct Located {
     pub number: u8,
     pub place: usize,
@@ -30,14 +31,14 @@ pub struct Located {
 }
 
 // Where a search by number has found the record, or size 0.
-#[derive(Drop)]
+#[derive(Clone, Copy)]
 pub struct Stretch {
     pub first: usize,
     pub size: usize,
 }
 
 // Where a location says that its value is held: in a register, in memory or in neither.
-#[derive(Drop)]
+#[derive(Clone, Copy)]
 pub enum ContentPlace {
     Nowhere,
     Register,
@@ -45,7 +46,7 @@ pub enum ContentPlace {
 }
 
 // By record and location number. The offset is its 32 bits.
-#[derive(Drop)]
+#[derive(Clone, Copy)]
 pub struct LocationAnswer {
     pub number: u8,
     pub place: usize,
@@ -58,7 +59,7 @@ pub struct LocationAnswer {
 }
 
 // By record and live-out number.
-#[derive(Drop)]
+#[derive(Clone, Copy)]
 pub struct LiveOutAnswer {
     pub number: u8,
     pub place: usize,

@@ -1,5 +1,7 @@
 // What a location says by itself: its four numbers, its constant, and where its value is held.
 // No entry point: it requires bytes that are inside, which a record that stands there has shown.
+#![tactic(auto)]
+
 ghost use Rattle.std.specs.Prelude.{◌≡◌, ℕ, ◌+◌, ◌≤◌, length};
 ghost use Rattle.stackmap.specs.Layout.{location_size};
 ghost use Rattle.stackmap.specs.Section.{records_at, read_location, read_section};
@@ -56,7 +58,7 @@ pub fn constant(s: &[u8], kind: u8, offset: u32) -> u64
 }
 
 // The four numbers of a location.
-#[derive(Drop)]
+#[derive(Clone, Copy)]
 pub struct LocationWords {
     pub kind: u8,
     pub size: u16,

@@ -1,4 +1,6 @@
 // The questions by record and location or live-out number.
+#![tactic(auto)]
+
 ghost use Rattle.std.specs.Prelude.{◌≡◌, ◌+◌, ◌≤◌, length, drop};
 ghost use Rattle.std.proofs.Math.ListN.{get_elem?};
 ghost use Rattle.stackmap.specs.Layout.{header_size};

@@ -1,4 +1,6 @@
 // The question by record number: where the record stands, or its bytes.
+#![tactic(auto)]
+
 ghost use Rattle.std.specs.Prelude.{◌≡◌, ℕ, ◌+◌, ◌≤◌, length, drop};
 ghost use Rattle.std.proofs.Math.ListN.{get_elem?};
 ghost use Rattle.stackmap.specs.Section.{records_at, is_old, record_length, entries};

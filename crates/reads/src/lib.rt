@@ -1,4 +1,6 @@
 // Two ways to read eight bytes, for `./bench reads`, which times them side by side. Not a part of the library.
+#![tactic(auto)]
+
 ghost use Rattle.std.specs.Prelude.{◌≡◌, ◌+◌, ◌≤◌, length};
 ghost use Rattle.wire.specs.Word.{word};
 ghost use Rattle.reads.specs.Equal.{hit_at, equal};

@@ -38,7 +38,7 @@ use Rattle.relocate.specs.Relocation.{answer, moved, moved_registers, OneRecord,
 use Rattle.relocate.specs.Lists.{Holds, RegistersHold}
 use Rattle.relocate.specs.Consequences.{Untouched, after_move, KeepsCursor, Counts, Words, KeepsDistance, AgreeOn, AgreeOnSlots, OnlySlotsCount}
 use Rattle.relocate.proofs.Planned.{Holder, holder, Planned, Stands, planned, window-pair, window-lists, window_holder, listed-stands}
-use Rattle.relocate.proofs.Demand.{demand3, accepts, plan-refused, accepted-section, in_image}
+use Rattle.relocate.proofs.Demand.{demand3, accepts, plan-refused, accepted-section, in_image_lem}
 
 untouched-plan : (table : ℕ → Option ℕ) (im rs : List ℕ) (p : Plan) → ((says table im rs p).number ≡ 0 → ⊥)
     → (leaves table im rs p ≡ im) × (leaves_registers table im rs p ≡ rs)

@@ -48,9 +48,9 @@ unfolding new_content
 content-part table im rs off n m b d h k = rw (read-part im rs off n m b h, read-part im rs off n m d k)
 
 -- a slot counted from the stack pointer, by its place in the image
-pub in_image : (first sp off : ℕ) (x : Slot) → first ≤ sp → off ≡ sp - first → in_image first (from_image sp x) ≡ from_image off x
-in_image first sp off (memory a) l e = ap memory (omega arith)
-in_image first sp off (register r) l e = refl
+pub in_image_lem : (first sp off : ℕ) (x : Slot) → first ≤ sp → off ≡ sp - first → in_image first (from_image sp x) ≡ from_image off x
+in_image_lem first sp off (memory a) l e = ap memory (omega arith)
+in_image_lem first sp off (register r) l e = refl
 
 -- a refused section's number and place are the plan's, and an answer with the number 0 is of an accepted section
 pub plan-refused : (R : Restore) (n : ℕ) (f : Stopped) (m p : ℕ) → section_check R.section ≡ Refused m p → plan R n f ≡ refuse m p
@@ -204,7 +204,7 @@ module _ (R : Restore) (e : ℕ) (k : section_check R.section ≡ Valid e) where
       → SlotIn size 32 b' → SlotIn size 32 d' → b ≡ from_image (cursor f).sp b' → d ≡ from_image (cursor f).sp d'
       → new_content_at R im f.registers b d ≡ new_content table (state (part im off size) f.registers) b' d'
   content_is im f off size b d b' d' low o bi di be de =
-      rw (be, de, in_image R.first (cursor f).sp off b' low o, in_image R.first (cursor f).sp off d' low o)
+      rw (be, de, in_image_lem R.first (cursor f).sp off b' low o, in_image_lem R.first (cursor f).sp off d' low o)
       (sym (content-part table im f.registers off size 32 b' d' bi di))
 
   slot : (fs : List Stopped) (im : List ℕ) → Disjoint R.section fs → (f : Stopped) (b : Slot) (d i : ℕ) → Written R im fs f b d i

@@ -1,14 +1,15 @@
 // Statepoints and relocation, a layer above the section reader: the definitions, and the theorems about moves and lists of moves.
+#![tactic(auto)]
 
 // Where a location's first slot is in a frame, as one number: counted from the stack pointer, or a register (`slot_of`, moves/specs/Arrays).
-#[derive(Drop)]
+#[derive(Clone, Copy)]
 pub enum Spot {
     At(usize),
     Outside,
 }
 
 // The machine that a stopped thread is of.
-#[derive(Drop)]
+#[derive(Clone, Copy)]
 pub enum Machine {
     Amd64,
     Aarch64,
@@ -19,7 +20,7 @@ pub const REGISTERS: usize = 32;
 
 // A frame is an address of a machine; beside it stands the list of its registers. For version 1 the address is the offset in the function with
 // the number `function`, which is not read for version 3.
-#[derive(Drop)]
+#[derive(Clone, Copy)]
 pub struct Frame {
     pub machine: Machine,
     pub address: u64,
@@ -27,7 +28,7 @@ pub struct Frame {
 }
 
 // What a plan reads of a frame: the frame, and what its machine's frame pointer and stack pointer hold. (Unwinders call it a cursor.)
-#[derive(Drop)]
+#[derive(Clone, Copy)]
 pub struct Cursor {
     pub machine: Machine,
     pub address: u64,
@@ -37,7 +38,7 @@ pub struct Cursor {
 }
 
 // The settings of a restore, which an edition keeps: the largest pointer count, the machine, and whether each version is allowed.
-#[derive(Drop)]
+#[derive(Clone, Copy)]
 pub struct Settings {
     pub most: usize,
     pub machine: Machine,

@@ -104,14 +104,14 @@ module _ (m : Machine) (pool : List ℕ) (p : Pair) (q : Plain m p) where
   unfolding is_null
   plain_no_null = rw (no_zero m p.base q.base_is pool)
 
-  same_size : (old : Bool) → same_size old p ≡ true
+  same_size_lem : (old : Bool) → same_size old p ≡ true
   unfolding same_size
-  same_size true = refl
-  same_size false = rw (q.base_is.size_is, q.derived_is.size_is)
+  same_size_lem true = refl
+  same_size_lem false = rw (q.base_is.size_is, q.derived_is.size_is)
 
   pub plain_form : (old : Bool) → right_form m old pool p ≡ true
   unfolding right_form
-  plain_form old = rw (plain_no_null, slot_is m p.base q.base_is old, slot_is m p.derived q.derived_is old, same_size old)
+  plain_form old = rw (plain_no_null, slot_is m p.base q.base_is old, slot_is m p.derived q.derived_is old, same_size_lem old)
 
   pub plain-count : (old : Bool) → count_of old pool p ≡ 1
   unfolding count_of pointers_in

@@ -46,7 +46,7 @@ fn put_run(
 }
 
 // A pair as `count` pointers from two slots on, by their numbers; 0 means a null pair. It counts where `inside` is true.
-#[derive(Drop)]
+#[derive(Clone, Copy)]
 pub struct Run {
     pub count: usize,
     pub base: usize,

@@ -74,7 +74,7 @@ fn pointers_of(old: bool, s: &[u8], at: usize, j: usize) -> usize
 }
 
 // Whether a pair has the right form, and how many pointers it is then.
-#[derive(Drop)]
+#[derive(Clone, Copy)]
 pub struct Form {
     pub pointers: usize,
     pub right: bool,
@@ -105,7 +105,7 @@ fn form_of(machine: Machine, old: bool, s: &[u8], at: usize, j: usize) -> Form
 }
 
 // The lowest pair of wrong form, or how many pairs there are; and how many pointers the pairs before it are.
-#[derive(Drop)]
+#[derive(Clone, Copy)]
 pub struct Forms {
     pub wrong: usize,
     pub pointers: usize,

@@ -67,7 +67,7 @@ pub fn is_statepoint(s: &[u8], at: usize) -> bool
 }
 
 // The number of the first location that is of a pair, and how many pairs there are.
-#[derive(Drop)]
+#[derive(Clone, Copy)]
 pub struct Pairs {
     pub start: usize,
     pub count: usize,

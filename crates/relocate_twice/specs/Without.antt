@@ -55,7 +55,7 @@ abbrev pub both : List ℕ → List ℕ → Restore
 both olds2 news2 = let t = joined (0x50000 ∷ []) (0x90000 ∷ []) olds2 news2 in by t.olds t.news
 
 abbrev pub start : List ℕ
-start = image 0x50000 0x54_e20
+start = image 0x50000 0x54E20
 
 -- what the first move leaves: the base slot is no derived slot, and keeps the old start
 abbrev pub between : List ℕ
@@ -72,8 +72,8 @@ pub record ImagesDiffer : Type 0 where
   pub first_accepted : answer first start frame ≡ accepted_move 1
   pub second_accepted : answer other between (after_move first start frame) ≡ accepted_move 1
   pub joined_accepted : answer (both (0x50000 ∷ 0x90000 ∷ []) (0x70000 ∷ 0xA0000 ∷ [])) start frame ≡ accepted_move 1
-  pub two_leave : moved other between (after_move first start frame) ≡ image 0x50000 0x_b4_e20
-  pub one_leaves : moved (both (0x50000 ∷ 0x90000 ∷ []) (0x70000 ∷ 0xA0000 ∷ [])) start frame ≡ image 0x50000 0x_a4_e20
+  pub two_leave : moved other between (after_move first start frame) ≡ image 0x50000 0xB4E20
+  pub one_leaves : moved (both (0x50000 ∷ 0x90000 ∷ []) (0x70000 ∷ 0xA0000 ∷ [])) start frame ≡ image 0x50000 0xA4E20
 
 pub record WithoutSelfPair : Type 0 where
   pub second_refused : SecondRefused

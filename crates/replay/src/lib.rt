@@ -8,7 +8,7 @@ pub const ANSWER_SIZE: usize = 10;
 pub const STEP_SIZE: usize = 284;
 
 // An answer as a trace records it: its number, and its place or count.
-#[derive(Drop)]
+#[derive(Clone, Copy)]
 pub struct Recorded {
     pub number: u8,
     pub value: usize,
@@ -16,7 +16,7 @@ pub struct Recorded {
 
 // What a replay comes to. Broken: the trace's first bad item, by its first byte (35). Differs: the first answer item that differs, counted from 0
 // among answers, with the number and the place or count of the answer that its frame gets now.
-#[derive(Drop)]
+#[derive(Clone, Copy)]
 pub enum Outcome {
     Broken(usize),
     Same,

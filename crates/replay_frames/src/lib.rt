@@ -21,7 +21,7 @@ mod addresses;
 mod frames;
 
 // The steps before number `next` are done, and this is known.
-#[derive(Drop)]
+#[derive(Clone, Copy)]
 struct Part {
     next: usize,
     known: Outcome,

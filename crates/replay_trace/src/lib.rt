@@ -3,7 +3,7 @@ pub mod items;
 pub mod steps;
 
 // Where a trace is broken, or how many steps it has.
-#[derive(Drop)]
+#[derive(Clone, Copy)]
 pub enum Shape {
     Broken(usize),
     Whole(usize),

@@ -3,7 +3,7 @@
 
 // The locations of each kind, 1 to 5.
 #[repr(C)]
-#[derive(Drop)]
+#[derive(Clone, Copy)]
 pub struct Kinds {
     pub register: u64,
     pub direct: u64,
@@ -15,7 +15,7 @@ pub struct Kinds {
 // What a report holds of the sections so far: all sections, the refused among them, and of the others the functions, records, statepoints,
 // pairs, locations of each kind, the sum of known stack sizes and the number of unknown ones.
 #[repr(C)]
-#[derive(Drop)]
+#[derive(Clone, Copy)]
 pub struct Totals {
     pub sections: u64,
     pub refused: u64,
@@ -30,7 +30,7 @@ pub struct Totals {
 
 // 0 and 0 and the new totals, or 34, a section's position, and the totals before it.
 #[repr(C)]
-#[derive(Drop)]
+#[derive(Clone, Copy)]
 pub struct Reported {
     pub number: u64,
     pub place: u64,

@@ -19,7 +19,7 @@ use stackmap::layout;
 use stackmap_tables::shape;
 
 // Records, the statepoints among them, their pairs, and the locations of each kind.
-#[derive(Drop)]
+#[derive(Clone, Copy)]
 pub struct Counts {
     pub records: u64,
     pub statepoints: u64,
@@ -28,7 +28,7 @@ pub struct Counts {
 }
 
 // Whether all records of a section are valid and nothing follows them, and what they add.
-#[derive(Drop)]
+#[derive(Clone, Copy)]
 pub struct Walked {
     pub accepted: bool,
     pub counts: Counts,

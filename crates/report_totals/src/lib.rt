@@ -16,7 +16,7 @@ const STACK_SIZE_UNKNOWN: u64 = 18446744073709551615;
 const TOTAL_MOST: u64 = 18446744073709551615;
 
 // The sum of the known stack sizes and the number of the unknown ones; not exact where the sum would pass 2^64 - 1.
-#[derive(Drop)]
+#[derive(Clone, Copy)]
 pub struct Stacks {
     pub exact: bool,
     pub known: u64,
@@ -24,7 +24,7 @@ pub struct Stacks {
 }
 
 // What a section adds; not exact where its own stack sizes pass 2^64 - 1.
-#[derive(Drop)]
+#[derive(Clone, Copy)]
 pub struct Share {
     pub exact: bool,
     pub totals: Totals,

@@ -12,7 +12,7 @@ use stackmap_tables::tables;
 
 // Where a walk stands: the next record's number and first byte, whose it is (see `Turn`), and how many records are ahead. `old` is true for
 // version 1; `constants` is how many constants the section has.
-#[derive(Drop)]
+#[derive(Clone, Copy)]
 pub struct Place {
     pub old: bool,
     pub constants: u32,
@@ -23,13 +23,13 @@ pub struct Place {
     pub at: usize,
 }
 
-#[derive(Drop)]
+#[derive(Clone, Copy)]
 pub struct Walker<'a> {
     pub section: &'a [u8],
     pub place: Place,
 }
 
-#[derive(Drop)]
+#[derive(Clone, Copy)]
 pub enum Step {
     // A record that is valid, and the place after it.
     Passed(Place),

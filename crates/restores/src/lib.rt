@@ -16,7 +16,7 @@ const NOT_ALLOWED: u8 = 33;
 const UNKNOWN_EDITION: u8 = 31;
 
 // Whether the restore goes on, with the edition's settings and the machine; or a refusal's number and place.
-#[derive(Drop)]
+#[derive(Clone, Copy)]
 pub struct Begun {
     pub passed: bool,
     pub number: u8,

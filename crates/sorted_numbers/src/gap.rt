@@ -8,7 +8,7 @@ ghost use Rattle.sorted_numbers.specs.Numbers.{Between};
 const MOST: u64 = 18446744073709551615;
 
 // The first `place` entries are at most `below`, and the others at least `above`.
-#[derive(Drop)]
+#[derive(Clone, Copy)]
 pub struct Gap {
     pub below: u64,
     pub above: u64,

@@ -1,4 +1,6 @@
 // The check of a whole section, and the walk over its records that every question shares.
+#![tactic(auto)]
+
 ghost use Rattle.std.specs.Prelude.{◌≡◌};
 ghost use Rattle.stackmap.specs.Check.{section_check};
 

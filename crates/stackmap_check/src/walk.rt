@@ -91,7 +91,7 @@ fn next_record(s: &[u8], old: bool, constants: u32, function: usize, at: usize) 
 }
 
 // Where a walk stops: whose turn it is, how many records are ahead, and where the next one begins.
-#[derive(Drop)]
+#[derive(Clone, Copy)]
 pub struct Stop {
     pub next: usize,
     pub left: u64,

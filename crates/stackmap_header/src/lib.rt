@@ -1,5 +1,7 @@
 // The header, and the sum of the functions' record counts.
 // `counts_add_up` is no entry point: it requires the functions, which 4 has tested.
+#![tactic(auto)]
+
 ghost use Rattle.std.specs.Prelude.{◌≡◌, false, ◌+◌, ◌*◌, ◌≤◌, length, eqb};
 ghost use Rattle.stackmap.specs.Layout.{header_size, function_size};
 ghost use Rattle.stackmap.specs.Fields.{many};

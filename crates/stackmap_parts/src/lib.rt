@@ -1,5 +1,7 @@
 // The parts of a record, each by itself: zero bytes, locations, live-outs, and the address that it stands for.
 // No entry points but `address_right`: they require that their bytes are inside, which 1 or 4 has tested.
+#![tactic(auto)]
+
 ghost use Rattle.std.specs.Prelude.{◌≡◌, ◌+◌, ◌*◌, ◌≤◌, length};
 ghost use Rattle.stackmap.specs.Layout.{location_size, live_out_size};
 ghost use Rattle.wire.specs.Word.{word};

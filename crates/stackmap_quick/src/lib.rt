@@ -1,2 +1,4 @@
 // The quick look at one record: it tells only that all is right.
+#![tactic(auto)]
+
 pub mod quick;

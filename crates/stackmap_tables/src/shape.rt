@@ -11,7 +11,7 @@ use stackmap::layout;
 const PADDING_SIZE: usize = 4;
 
 // How many locations and live-outs a record has, where its live-outs begin, counted from its first byte, and how many bytes it takes.
-#[derive(Drop)]
+#[derive(Clone, Copy)]
 pub struct Shape {
     pub locations: usize,
     pub outs: usize,

@@ -19,7 +19,7 @@ use thread_search::{list, search};
 use thread_stretches::PAIRS_LENGTH;
 
 // Bytes of memory, from the start up to, not including, the end.
-#[derive(Drop)]
+#[derive(Clone, Copy)]
 pub struct Stretch {
     pub start: u64,
     pub end: u64,

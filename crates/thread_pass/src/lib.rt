@@ -17,7 +17,7 @@ use stackmap_check::walk;
 use stackmap_quick::quick;
 
 // Where a walk stops: whose turn it is, how many records are ahead, where the next one begins, and where it ends; 0 where that is not known.
-#[derive(Drop)]
+#[derive(Clone, Copy)]
 pub struct Stop {
     pub next: usize,
     pub left: u64,

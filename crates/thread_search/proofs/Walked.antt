@@ -26,7 +26,7 @@ use Rattle.questions.specs.declared.Found.{Found}
 use Rattle.questions.specs.Questions.{with_address, not_found, first_of}
 use Rattle.sorted.specs.Sorted.{Sorted, LowerBound, EntryOf}
 use Rattle.questions.specs.Kept.{no_hits, noted}
-use Rattle.questions.proofs.Kept.{hits_answer, hits_answer}
+use Rattle.questions.proofs.Kept.{hits_answer, hits_answer_lem}
 use Rattle.questions_find.specs.Scan.{all_records, front_check}
 use Rattle.questions_find.proofs.Ends.{front_parts, Fronted, front_whole, front_after}
 use Rattle.thread.specs.Code.{hits_at, Holding, found_by, Sought}
@@ -65,7 +65,7 @@ sought s keys n before hits e r =
           λ i l b.
           let a = get_or keys i 0 in
           let k : hits_at hits i ≡ fold (noted a) (entries s) no_hits = r.at i l b ∙ fold_own (entries s) a (hits_at before i) ∙ ap (fold (noted a) (entries s)) (e.at i l b) in
-          rw k (answer_is (fold (noted a) (entries s) no_hits) ∙ hits_answer a (entries s));
+          rw k (answer_is (fold (noted a) (entries s) no_hits) ∙ hits_answer_lem a (entries s));
     }
 
 -- An address that was looked for is found at its lower bound.

@@ -16,7 +16,7 @@ pub fn version() -> u32
 
 // A refusal's number and place, or 0 and 0 and the value that the call is for.
 #[repr(C)]
-#[derive(Drop)]
+#[derive(Clone, Copy)]
 pub struct Answer {
     pub number: u64,
     pub place: u64,
@@ -44,7 +44,7 @@ pub fn check_answer(v: Verdict) -> Answer
 // By address, or by function and offset: the first record's number, its function's number, and how many records share the address or
 // the offset.
 #[repr(C)]
-#[derive(Drop)]
+#[derive(Clone, Copy)]
 pub struct FindAnswer {
     pub number: u64,
     pub place: u64,
@@ -67,7 +67,7 @@ pub fn search_answer(f: questions::Found) -> FindAnswer
 
 // By record number: the record's first byte in the section and its length.
 #[repr(C)]
-#[derive(Drop)]
+#[derive(Clone, Copy)]
 pub struct RecordPlace {
     pub number: u64,
     pub place: u64,
@@ -99,7 +99,7 @@ fn content_number(place: questions::ContentPlace) -> u8
 
 // A location. The offset is its 32 bits, which C and Rust read as a signed number.
 #[repr(C)]
-#[derive(Drop)]
+#[derive(Clone, Copy)]
 pub struct Location {
     pub number: u64,
     pub place: u64,
@@ -129,7 +129,7 @@ pub fn location_answer(l: questions::LocationAnswer) -> Location
 
 // A live-out.
 #[repr(C)]
-#[derive(Drop)]
+#[derive(Clone, Copy)]
 pub struct LiveOut {
     pub number: u64,
     pub place: u64,
@@ -190,7 +190,7 @@ pub fn unknown_machine(v: Verdict) -> Answer
 
 // A frame: an address. For version 1 it is the offset in the function with the number `function`, which is not read for version 3.
 #[repr(C)]
-#[derive(Drop)]
+#[derive(Clone, Copy)]
 pub struct Frame {
     pub address: u64,
     pub function: u64,

@@ -7,7 +7,7 @@ ghost use Rattle.treskibben_editions.specs.Answer.{make_answer, retire_answer, r
 
 // A refusal's number and place, or 0 and 0 and the new edition's number; and the store that is left.
 #[repr(C)]
-#[derive(Drop)]
+#[derive(Clone, Copy)]
 pub struct MakeAnswer {
     pub number: u64,
     pub place: u64,
@@ -36,7 +36,7 @@ pub fn make(store: editions::Store, settings: editions::Settings) -> MakeAnswer
 
 // A refusal's number and place, or 0 and 0; and the store that is left.
 #[repr(C)]
-#[derive(Drop)]
+#[derive(Clone, Copy)]
 pub struct RetireAnswer {
     pub number: u64,
     pub place: u64,
@@ -63,7 +63,7 @@ pub fn retire(store: editions::Store, edition: u64) -> RetireAnswer
 
 // A refusal's number and place, or 0 and 0 and the edition's settings.
 #[repr(C)]
-#[derive(Drop)]
+#[derive(Clone, Copy)]
 pub struct ReadAnswer {
     pub number: u64,
     pub place: u64,

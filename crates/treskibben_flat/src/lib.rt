@@ -5,7 +5,7 @@ ghost use Rattle.treskibben_flat.specs.Flat.{checked, matched, constant_of, fram
 
 // A refusal's number and place, or 0 and 0 and the value that the call is for.
 #[repr(C)]
-#[derive(Drop)]
+#[derive(Clone, Copy)]
 pub struct Answer {
     pub number: u64,
     pub place: u64,
@@ -34,7 +34,7 @@ pub fn constant_answer(c: flat_read::ConstantAnswer) -> Answer
 
 // By address: the numbers of frame and record.
 #[repr(C)]
-#[derive(Drop)]
+#[derive(Clone, Copy)]
 pub struct Match {
     pub number: u64,
     pub place: u64,
@@ -55,7 +55,7 @@ pub fn match_answer(f: flat_match::MatchAnswer) -> Match
 
 // A frame. The flags are its 16 bits.
 #[repr(C)]
-#[derive(Drop)]
+#[derive(Clone, Copy)]
 pub struct Frame {
     pub number: u64,
     pub place: u64,
@@ -90,7 +90,7 @@ pub fn frame_answer(f: flat_read::FrameAnswer) -> Frame
 
 // A frame register. The offset is its 16 bits, which C and Rust read as a signed number.
 #[repr(C)]
-#[derive(Drop)]
+#[derive(Clone, Copy)]
 pub struct Register {
     pub number: u64,
     pub place: u64,
@@ -115,7 +115,7 @@ pub fn register_answer(g: flat_read::RegisterAnswer) -> Register
 
 // A record.
 #[repr(C)]
-#[derive(Drop)]
+#[derive(Clone, Copy)]
 pub struct Record {
     pub number: u64,
     pub place: u64,
@@ -148,7 +148,7 @@ pub fn record_answer(e: flat_read::RecordAnswer) -> Record
 
 // A location. The offset is its 32 bits, which C and Rust read as a signed number.
 #[repr(C)]
-#[derive(Drop)]
+#[derive(Clone, Copy)]
 pub struct Location {
     pub number: u64,
     pub place: u64,
@@ -171,7 +171,7 @@ pub fn location_answer(l: flat_read::LocationAnswer) -> Location
 
 // A live-out.
 #[repr(C)]
-#[derive(Drop)]
+#[derive(Clone, Copy)]
 pub struct LiveOut {
     pub number: u64,
     pub place: u64,

@@ -8,7 +8,7 @@ use treskibben_answers::Answer;
 // By address over all maps: the record's map, its number there, its function's number there, and how many records of all maps share the
 // address; 0 elsewhere.
 #[repr(C)]
-#[derive(Drop)]
+#[derive(Clone, Copy)]
 pub struct LinkedAnswer {
     pub number: u64,
     pub place: u64,

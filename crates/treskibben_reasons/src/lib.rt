@@ -10,7 +10,7 @@ use stackmap::Verdict;
 // The reason's number, 0 unlisted, 1 only a base, 2 null base, 3 moved, 4 refused; of refused its number and place; of moved the lowest pair that
 // derives the slot, the old base and the new base; 0 elsewhere.
 #[repr(C)]
-#[derive(Drop)]
+#[derive(Clone, Copy)]
 pub struct ReasonAnswer {
     pub reason: u64,
     pub number: u64,

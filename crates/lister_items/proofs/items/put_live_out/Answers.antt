@@ -1,0 +1,25 @@
+use Prim.Native.Nat.{◌+◌, ◌<◌}
+use mathlib.Core.Path.{◌≡◌}
+use lib.ListN.{length, get_or, length-set}
+use lib.Seq.{length-sets}
+use native.Mathlib.Omega.{arith}
+use Rattle.lister_items.proofs.Puts.{put-long}
+use Rattle.lister_items.proofs.Stores.{live_out_put}
+use Rattle.lister_items.proofs.items.put_live_out.Goals as goal
+
+pub put_u16-requires : goal.put_u16-requires
+put_u16-requires c = simp length-set (omega arith)
+
+pub bounds-out-to-2 : goal.bounds-out-to-2
+bounds-out-to-2 c =
+    let k : length c.put_u16.new.out ≡ length c.args.out.now = rw (c.put_u16.ensures, length-sets, length-set) in
+    omega arith
+
+pub returns : goal.returns
+returns c =
+    let a = c.args in
+    let h : get_or a.s.now (a.at + 3) 0 < 256 = omega (arith, c.shared_slice_known-2-1.given (a.at + 3)) in
+    rw (c.put_u16.ensures, c.u16_at.ensures) (live_out_put _ _ _ _ h)
+
+pub shape_of-out : goal.shape_of-out
+shape_of-out c = put-long (returns c)

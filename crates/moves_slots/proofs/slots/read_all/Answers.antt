@@ -1,0 +1,37 @@
+use Prim.Native.Nat.{ℕ, ◌-◌}
+use mathlib.Core.Path.{◌≡◌, refl}
+use mathlib.Core.Logic.{⊎_elim}
+use native.Mathlib.Omega.{arith}
+use lib.ListN.{get_or, length-set}
+use Rattle.moves.specs.Slots.{state, read}
+use Rattle.moves.specs.Arrays.{slot_of}
+use Rattle.moves.proofs.Fills.{filled-start, filled_skip, filled-set}
+use Rattle.moves_slots.proofs.slots.read_all.Goals as goal
+
+pub loop-k-init : goal.loop-k-init
+loop-k-init c = (omega arith, refl, filled-start _ _ _)
+
+pub read-requires : goal.read-requires
+read-requires c = c.requires.2 c.loop-k.k c.loop-k-test.true c.if-live-k-ne0.true
+
+pub bounds-contents-k : goal.bounds-contents-k
+bounds-contents-k c = omega (arith, c.loop-k.invariant.1, c.requires.1)
+
+pub loop-k-preserved : goal.loop-k-preserved
+loop-k-preserved c =
+    let l = c.loop-k in
+    let a = c.args in
+    let f : ℕ → ℕ = λ j. read (state a.window.now a.registers.now) (slot_of (get_or a.slots.now j 0)) in
+    ⊎_elim
+    (λ w. (omega arith, rw w.3 (simp length-set l.invariant.1), rw w.3 (filled-set f a.live.now l.contents l.k w.2.result (omega (arith, l.invariant.1, c.requires.1)) l.invariant.2 w.2.ensures)))
+    (λ w. (omega arith, rw w.1 l.invariant.1, rw w.1 (filled_skip f a.live.now l.contents l.k l.invariant.2 w.0.left)))
+    c.if-live-k-ne0.branch
+
+pub shape_of-contents : goal.shape_of-contents
+shape_of-contents c = c.loop-k.invariant.1
+
+pub returns : goal.returns
+returns c =
+    let l = c.loop-k in
+    let e : l.k ≡ c.args.pairs = omega arith in
+    rw e at l.invariant.2

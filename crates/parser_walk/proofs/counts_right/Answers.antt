@@ -1,0 +1,10 @@
+use Rattle.stackmap.specs.Check.{counts_right}
+use Rattle.parser_walk.proofs.counts_right.Goals as goal
+
+pub returns-then-plan : goal.returns-then-plan
+unfolding counts_right
+returns-then-plan c = rw c.if-plan.true
+
+pub returns : goal.returns
+unfolding counts_right
+returns c = rw c.if-plan.false c.counts_add_up.ensures

@@ -1,0 +1,19 @@
+use mathlib.Core.Path.{sym, ◌∙◌}
+use native.Mathlib.Omega.{arith}
+use Rattle.stackmap.specs.Verdict.{chain}
+use Rattle.stackmap.proofs.Within.{begin_held}
+use Rattle.questions_find.specs.Scan.{front_check, told, scanned}
+use Rattle.questions_find.proofs.find.scan.Goals as goal
+
+pub search-requires : goal.search-requires
+search-requires c =
+    let t = begin_held _ _ (sym c.begin.ensures ∙ c.in-Valid.is) in
+    (t.walkable, t.begins, let b = t.begins in let i = t.inside in omega arith)
+
+pub returns-in-Refused : goal.returns-in-Refused
+unfolding scanned front_check told chain
+returns-in-Refused c = (c.stopped.ensures ∙ rw (sym c.begin.ensures ∙ c.in-Refused.is), rw c.stopped.ensures (record { few = omega arith; inside = omega arith }))
+
+pub returns-in-Valid : goal.returns-in-Valid
+unfolding scanned front_check chain
+returns-in-Valid c = (c.search.ensures.0 ∙ rw (sym c.begin.ensures ∙ c.in-Valid.is), c.search.ensures.1)
