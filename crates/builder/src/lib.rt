@@ -1,4 +1,6 @@
 // Listing to section. Nothing is written before the answer is known, and no second buffer is needed.
+#![tactic(auto)]
+
 ghost use Rattle.listing.specs.Answers.{Answers};
 ghost use Rattle.listing.specs.Listing.{to_section};
 

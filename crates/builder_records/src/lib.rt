@@ -1,5 +1,7 @@
 // Records, written to the output, in the layout of version 1 where `old` is true. Each function writes its bytes and nothing else, and
 // requires that they are inside: `to_section` has shown it before the first write. The listing is what follows the version's item.
+#![tactic(auto)]
+
 ghost use Rattle.std.specs.Prelude.{◌≡◌, ◌+◌, ◌≤◌, length};
 ghost use Rattle.std.proofs.lemmas.List.Edits.{sets};
 ghost use Rattle.stackmap.specs.Layout.{record_head_size};

@@ -1,8 +1,7 @@
 -- The reasons and the move.
-use Prim.Native.Nat.{ℕ, ◌+◌, ◌-◌, ◌%◌, ◌^◌, ◌≤◌, ◌<◌}
+use Prim.Native.Nat.{ℕ, ◌+◌, ◌-◌, ◌%◌, ◌^◌, ◌<◌}
 use mathlib.Core.Path.{◌≡◌, refl, sym, ap, ◌∙◌, subst}
-use mathlib.Core.Bool.{Bool, true, false, cond, not, ◌&&◌, true≢false}
-use mathlib.Core.Logic.{◌⊎◌, inl, inr, ⊎_elim}
+use mathlib.Core.Bool.{true, false, not, ◌&&◌, true≢false}
 use mathlib.Core.Option.{Option, none, some}
 use mathlib.Core.List.Memᴰ
 use mathlib.Core.List.{List, [], ◌∷◌, flatten, Memᴰ}
@@ -10,18 +9,17 @@ use native.Mathlib.Omega.{arith}
 use native.Mathlib.Decide.{ℕ_discrete}
 use borrow.Author.Tests.{eqb-true, eq-eqb, ne_eqb, lt-ltb}
 use lib.Dec.{eqb, ltb}
-use lib.ListN.{length, get_or}
-use Rattle.wire.specs.Word.{Bytes, word}
-use Rattle.stackmap.proofs.Tests.{and_true, not-true, not-false}
+use Rattle.wire.specs.Word.{Bytes}
+use Rattle.stackmap.proofs.Tests.{and_true, not-false}
 use Rattle.stackmap.specs.Section.{Entry}
 use Rattle.moves.specs.declared.Move.{Move}
 use Rattle.moves.specs.Window.{In}
-use Rattle.moves.specs.Slots.{Slot, memory, register, same, overlap}
+use Rattle.moves.specs.Slots.{Slot, memory, register, overlap}
 use Rattle.moves.specs.Pointers.{Pointer, null, slots, or_zero, new_derived, new_content}
 use Rattle.moves.specs.Table.{look_up}
 use Rattle.moves.proofs.Words.{word_local}
 use Rattle.relocate.specs.Restore.{Restore}
-use Rattle.relocate.specs.Stopped.{Stopped, stopped, cursor}
+use Rattle.relocate.specs.Stopped.{Stopped, stopped}
 use Rattle.relocate.specs.Plan.{records_of}
 use Rattle.relocate.specs.Relocation.{answer, moved, moved_registers, ListedPointer, content_at, new_content_at}
 use Rattle.relocate.specs.Consequences.{Words, AgreeOnSlots}
@@ -29,7 +27,7 @@ use Rattle.relocate.proofs.Consequences.{untouched, alone, registers_alone, slot
 use Rattle.explain.specs.declared.Reason.{Reason}
 use Rattle.explain.specs.declared.Reason.TheVariants.{Unlisted, OnlyBase, NullBase, Moved, Refused}
 use Rattle.explain.specs.Explain.{Hit, lowest_pair, pointers_in, listed, derives, has_base, old_base, moved_by, or_else, still, by_hit, accepted, explained}
-use Rattle.explain.specs.Laws.{SaysRefused, Derived, IsMoved, SaysDerived, NewContent, SaysContent, NotBefore, Stays, ReadsAsMove, Explains}
+use Rattle.explain.specs.Laws.{SaysRefused, Derived, IsMoved, SaysDerived, NewContent, SaysContent, NotBefore, Stays, Explains}
 use Rattle.explain.proofs.Hits.{Hits, Misses, pair-some, pair-none, pair_same}
 use Rattle.explain.proofs.Listed.{same_true, same_self, lists, is-listed}
 

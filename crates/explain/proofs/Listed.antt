@@ -1,7 +1,7 @@
 -- The pointers that an accepted frame lists.
-use Prim.Native.Nat.{ℕ, ◌+◌}
+use Prim.Native.Nat.{ℕ}
 use mathlib.Core.Path.{◌≡◌, refl, sym, ap, ◌∙◌, subst}
-use mathlib.Core.Bool.{Bool, true, false}
+use mathlib.Core.Bool.{true}
 use mathlib.Core.List.{List, [], ◌∷◌, ◌++◌, map, map-append, flatten, Memᴰ}
 use native.Mathlib.Omega.{arith}
 use borrow.Author.Tests.{eqb-true, eq-eqb}
@@ -13,8 +13,6 @@ use Rattle.moves.specs.Pointers.{Pointer, null, slots}
 use Rattle.moves.proofs.Words.{from_image}
 use Rattle.relocate.specs.Restore.{Restore}
 use Rattle.relocate.specs.Stopped.{Stopped, cursor}
-use Rattle.relocate.specs.Statepoint.{pairs, pointers_of}
-use Rattle.relocate.specs.Plan.{plan}
 use Rattle.relocate.specs.Relocation.{answer, ListedPointer}
 use Rattle.relocate.proofs.Planned.{Planned, planned, window-lists, listed-stands}
 use Rattle.relocate.proofs.Demand.{Passed, accepts, accepted-section}

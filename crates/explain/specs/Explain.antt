@@ -1,7 +1,7 @@
 -- Why a slot of a frame moves or does not, document 02, request 8. A refusal first, then moved before null base before listed only as base.
-use Rattle.std.specs.Prelude.{ℕ, suc, ◌+◌, Bool, true, false, cond, not, ◌&&◌, ◌||◌, eqb}
+use Rattle.std.specs.Prelude.{ℕ, suc, ◌+◌, Bool, false, cond, not, ◌&&◌, eqb}
 use Rattle.std.proofs.Math.Option.{Option, none, some}
-use mathlib.Core.List.{List, [], ◌∷◌, map, flatten}
+use mathlib.Core.List.{List, [], ◌∷◌, map}
 use Rattle.stackmap.specs.Section.{Entry, is_old, read_section}
 use Rattle.moves.specs.Slots.{Slot, memory, register, same}
 use Rattle.moves.specs.Pointers.{Pointer, null, slots, or_zero}

@@ -1,5 +1,5 @@
 -- What ties the reasons to the move.
-use Rattle.std.specs.Prelude.{ℕ, ◌+◌, ◌-◌, ◌%◌, ◌^◌, ◌≤◌, ◌≡◌, true, false, List}
+use Rattle.std.specs.Prelude.{ℕ, ◌+◌, ◌-◌, ◌%◌, ◌^◌, ◌≤◌, ◌≡◌, false, List}
 use Rattle.wire.specs.Word.{Bytes}
 use Rattle.moves.specs.Slots.{Slot, memory, register, overlap}
 use Rattle.relocate.specs.Restore.{Restore}

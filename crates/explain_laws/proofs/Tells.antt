@@ -10,12 +10,11 @@ use native.Mathlib.Omega.{arith}
 use borrow.Author.Tests.{eq-eqb}
 use lib.Dec.{eqb}
 use lib.ListN.{get_or, take, drop}
-use Rattle.stackmap.proofs.Tests.{and_true}
 use Rattle.moves.specs.Slots.{Slot, memory, register}
 use Rattle.moves.specs.Pointers.{Pointer, null, slots}
 use Rattle.relocate.specs.Restore.{Restore}
 use Rattle.relocate.specs.Stopped.{Stopped}
-use Rattle.relocate.specs.Relocation.{answer, content_at}
+use Rattle.relocate.specs.Relocation.{answer}
 use Rattle.explain.specs.declared.Reason.{Reason}
 use Rattle.explain.specs.declared.Reason.TheVariants.{Unlisted, OnlyBase, NullBase, Moved, Refused}
 use Rattle.explain.specs.Explain.{Hit, lowest_pair, listed, derives, has_base, old_base, moved_by, or_else, still, by_hit, accepted, explained}

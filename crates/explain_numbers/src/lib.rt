@@ -1,5 +1,7 @@
 // The numbers of a row: a reason and a slot as numbers, and these put into the list.
 // No entry point: it requires room in the list.
+#![tactic(auto)]
+
 ghost use Rattle.std.specs.Prelude.{◌≡◌, [], ◌∷◌, ◌+◌, ◌^◌, ◌≤◌, ◌<◌, length};
 ghost use Rattle.std.proofs.lemmas.List.Edits.{sets};
 ghost use Rattle.moves.specs.Arrays.{registers_from};

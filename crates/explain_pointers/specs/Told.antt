@@ -1,6 +1,6 @@
 -- For the code alone: nothing here has to be believed.
 -- What the search of the code's arrays for a slot tells.
-use Rattle.std.specs.Prelude.{ℕ, ◌+◌, ◌*◌, ◌-◌, Bool, false, cond, not, ◌&&◌, List, eqb, ltb, leb, get_or}
+use Rattle.std.specs.Prelude.{ℕ, ◌+◌, ◌*◌, ◌-◌, Bool, false, cond, not, List, eqb, ltb, leb, get_or}
 use Rattle.std.proofs.Math.Option.{Option, none, some}
 use Rattle.moves.specs.Limits.{pointer_size}
 use Rattle.moves.specs.Search.{lowest}

@@ -1,5 +1,7 @@
 // The pointers of a frame, which the arrays of a move hold, looked through for a slot.
 // No entry point: it requires arrays that hold the pointers of a frame.
+#![tactic(auto)]
+
 ghost use Rattle.std.specs.Prelude.{◌≡◌, ℕ, ◌≤◌, ◌<◌, ltb, length, get_or};
 ghost use Rattle.moves.specs.Limits.{pairs_most};
 ghost use Rattle.moves.specs.Search.{lowest};

@@ -1,5 +1,7 @@
 // Tests of the items of an array, one after another: bytes below a limit, for 40, and ranges that end within another array, for 39.
 // No entry points: they require that the items are inside, which 38 has shown.
+#![tactic(auto)]
+
 ghost use Rattle.std.specs.Prelude.{◌≡◌, ◌&&◌, ℕ, ◌+◌, ◌*◌, ◌≤◌, ◌<◌, ltb, length, get_or};
 ghost use Rattle.flat.specs.Layout.{frame_size, record_size};
 ghost use Rattle.flat.specs.Steps.{Testing};

@@ -4,6 +4,8 @@
 // Pairs are given by arrays of which the first `pairs` entries count: pair k is null where live[k] is 0, and else its base slot
 // is bases[k] and its derived slot derived[k], as numbers: a slot in memory is its first byte, counted from the window's, and register r is
 // REGISTERS_FROM + 8 * r.
+#![tactic(auto)]
+
 ghost use Rattle.std.specs.Prelude.{◌≡◌, true, ◌-◌, ◌≤◌, length};
 ghost use Rattle.moves.specs.Limits.{pairs_most};
 ghost use Rattle.moves.specs.Table.{table_right, look_up};

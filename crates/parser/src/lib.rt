@@ -1,6 +1,8 @@
 // What a listing comes to: refused, or the section that is to be built of it. Both are found over the listing's items alone:
 // the built section's refusals are said of the items, with places in the section. Places are counted from the first byte after
 // the version's item.
+#![tactic(auto)]
+
 ghost use Rattle.parser.specs.Outcome.{Parsed};
 
 use listing::numbers;

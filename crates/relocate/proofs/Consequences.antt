@@ -6,17 +6,17 @@ use mathlib.Core.Option.{Option, none, some}
 use mathlib.Core.List.Memᴰ
 use mathlib.Core.List.{List, [], ◌∷◌, map, flatten, Memᴰ}
 use native.Mathlib.Omega.{arith}
-use lib.ListN.{length, get_or}
-use Rattle.wire.specs.Word.{Bytes, word}
+use lib.ListN.{length}
+use Rattle.wire.specs.Word.{Bytes}
 use Rattle.wire.proofs.Laws.{word_bound}
 use Rattle.stackmap.specs.Section.{Entry, is_old, read_section}
 use Rattle.stackmap.specs.declared.Verdict.{Verdict}
 use Rattle.stackmap.specs.declared.Verdict.TheVariants.{Valid, Refused}
 use Rattle.stackmap.specs.Check.{section_check}
 use Rattle.moves.specs.declared.Move.{Move}
-use Rattle.moves.specs.Window.{In, part, splice}
+use Rattle.moves.specs.Window.{part, splice}
 use Rattle.moves.specs.Table.{look_up}
-use Rattle.moves.specs.Slots.{Slot, memory, register, read, State, state}
+use Rattle.moves.specs.Slots.{Slot, memory, register, State, state}
 use Rattle.moves.specs.Pointers.{Pointer, null, slots, or_zero, new_derived, new_content}
 use Rattle.moves.specs.Settle.{accepted_move}
 use Rattle.moves.specs.Plan.{Plan, refuse, window, at_pair, says, leaves, leaves_registers}
@@ -34,11 +34,11 @@ use Rattle.relocate.specs.declared.Machine.{Machine}
 use Rattle.stackmap.specs.Section.{Location}
 use Rattle.relocate.specs.Statepoint.{pairs, is_slot, slot_address, onward, is_register, slot_number, pointers_of}
 use Rattle.relocate.specs.Plan.{plan}
-use Rattle.relocate.specs.Relocation.{answer, moved, moved_registers, OneRecord, ListedPointer, in_image, content_at, new_content_at}
+use Rattle.relocate.specs.Relocation.{answer, moved, moved_registers, OneRecord, ListedPointer, content_at, new_content_at}
 use Rattle.relocate.specs.Lists.{Holds, RegistersHold}
 use Rattle.relocate.specs.Consequences.{Untouched, after_move, KeepsCursor, Counts, Words, KeepsDistance, AgreeOn, AgreeOnSlots, OnlySlotsCount}
-use Rattle.relocate.proofs.Planned.{Holder, holder, Planned, Stands, planned, window-pair, window-lists, window_holder, listed-stands}
-use Rattle.relocate.proofs.Demand.{demand3, accepts, plan-refused, accepted-section, in_image_lem}
+use Rattle.relocate.proofs.Planned.{Holder, holder, Planned, planned, window-pair, window-lists, listed-stands}
+use Rattle.relocate.proofs.Demand.{demand3, accepts, plan-refused, accepted-section}
 
 untouched-plan : (table : ℕ → Option ℕ) (im rs : List ℕ) (p : Plan) → ((says table im rs p).number ≡ 0 → ⊥)
     → (leaves table im rs p ≡ im) × (leaves_registers table im rs p ≡ rs)

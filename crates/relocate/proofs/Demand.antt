@@ -23,7 +23,7 @@ use Rattle.questions.specs.Questions.{ask}
 use Rattle.moves.specs.declared.Move.{Move}
 use Rattle.moves.specs.Window.{In, part}
 use Rattle.moves.specs.Table.{look_up}
-use Rattle.moves.specs.Slots.{Slot, memory, register, read, state}
+use Rattle.moves.specs.Slots.{Slot, memory, register, state}
 use Rattle.moves.specs.Pointers.{Pointer, slots, new_content}
 use Rattle.moves.specs.Settle.{settled, settle}
 use Rattle.moves.specs.Plan.{Plan, refuse, window, says, leaves, leaves_registers}

@@ -28,7 +28,7 @@ use Rattle.relocate.specs.declared.Cursor.{Cursor}
 use Rattle.relocate.specs.declared.Machine.{Machine}
 use Rattle.relocate.specs.declared.Machine.TheVariants.{Amd64, Aarch64}
 use Rattle.questions.specs.Questions.{ask}
-use Rattle.relocate.specs.Limits.{frame_pointer, stack_pointer, general_registers, register_count}
+use Rattle.relocate.specs.Limits.{frame_pointer, stack_pointer, general_registers}
 use Rattle.relocate.specs.Restore.{Restore, allowed}
 use Rattle.relocate.specs.Stopped.{Stopped, registers_right, cursor}
 use Rattle.relocate.specs.Statepoint.{is_statepoint, Pair, pairs, is_null, is_frame_or_stack, is_memory_slot, is_register_slot, is_slot, pointers_in, same_size, right_form, slot_address, onward, is_register, slot_number, slots_inside, inside, slot_at, next, pointers_from, pointers_of}

@@ -1,13 +1,12 @@
 -- For the code alone: nothing here has to be believed.
 -- What the code's steps rely on, and what their values mean.
-use Rattle.std.specs.Prelude.{ℕ, zero, suc, ◌+◌, ◌*◌, ◌-◌, ◌≤◌, ◌<◌, ◌≡◌, Bool, true, cond, ◌&&◌, ◌||◌, List, [], ◌∷◌, map, eqb, leb, length, get_or, drop}
+use Rattle.std.specs.Prelude.{ℕ, zero, suc, ◌+◌, ◌*◌, ◌-◌, ◌≤◌, ◌<◌, ◌≡◌, Bool, true, cond, ◌&&◌, ◌||◌, List, [], ◌∷◌, map, eqb, leb, length, drop}
 use Rattle.std.proofs.Math.Option.{Option, none, some}
 use Rattle.stackmap.specs.Layout.{kind_const_index}
 use Rattle.stackmap.specs.Section.{Location, Record, Entry, is_old, records_at, num_locations, record_length, read_record, read_section}
 use Rattle.questions.specs.declared.LocationAnswer.{LocationAnswer}
 use Rattle.moves.specs.declared.Move.{Move}
 use Rattle.moves.specs.Limits.{pointer_size, pairs_most}
-use Rattle.moves.specs.Slots.{Slot, memory}
 use Rattle.moves.specs.Pointers.{Pointer, null, or_zero}
 use Rattle.moves.specs.Arrays.{registers_from, slot_of, Placed}
 use Rattle.relocate.specs.declared.Cursor.{Cursor}
@@ -17,12 +16,12 @@ use Rattle.relocate.specs.declared.Settings.{Settings}
 use Rattle.relocate.specs.declared.Spot.{Spot}
 use Rattle.relocate.specs.declared.Spot.TheVariants.{At, Outside}
 use Rattle.moves.specs.Plan.{Plan, window}
-use Rattle.relocate.specs.Limits.{image_most, register_count, kind_constant}
+use Rattle.relocate.specs.Limits.{register_count, kind_constant}
 use Rattle.relocate.specs.Restore.{Restore}
 use Rattle.relocate.specs.Stopped.{Stopped}
 use Rattle.relocate.specs.Plan.{every, stack_size, plan_record}
 use Rattle.relocate.specs.Relocation.{answer, moved, moved_registers}
-use Rattle.relocate.specs.Statepoint.{location_at, pairs_at, Pair, pairs, is_null, pointers_in, is_slot, same_size, plus_offset, slot_address, wholly, is_register, slot_at, slots_inside, inside, pointers_from, pointers_of}
+use Rattle.relocate.specs.Statepoint.{location_at, pairs_at, Pair, pairs, is_null, pointers_in, is_slot, same_size, plus_offset, slot_address, wholly, is_register, slots_inside, inside, pointers_from, pointers_of}
 use Rattle.stackmap.specs.Section.{as_offset}
 
 -- The record at a place of the section, and the section's constants.

@@ -1,6 +1,8 @@
 // A quick look at a pair of version 3: whether both its locations are one slot in memory each, at the machine's frame or stack pointer. Nearly
 // every pair is. It says that a pair is so, or nothing; the exact way above answers then.
 // No entry point: it requires a record that stands there.
+#![tactic(auto)]
+
 ghost use Rattle.std.specs.Prelude.{◌≡◌, true, false, ◌+◌, ◌*◌, ◌≤◌, ◌<◌, length, drop};
 ghost use Rattle.stackmap.specs.Section.{is_old, read_location, num_locations};
 ghost use Rattle.relocate.specs.Limits.{frame_pointer, stack_pointer};

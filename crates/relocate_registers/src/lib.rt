@@ -1,4 +1,6 @@
 // The registers of a machine: its frame pointer and its stack pointer, and the registers that are slots.
+#![tactic(auto)]
+
 ghost use Rattle.std.specs.Prelude.{◌≡◌, ◌&&◌, ◌||◌, eqb};
 ghost use Rattle.relocate.specs.Limits.{frame_pointer, stack_pointer, general_registers};
 ghost use Rattle.relocate.specs.Statepoint.{is_frame_or_stack, is_register_slot};

@@ -1,6 +1,6 @@
 -- Two moves of a frame are one: the second has the first one's plan, and the rest is that of its window (moves_twice).
 use Prim.Native.Nat.{ℕ, zero, suc, ◌+◌, ◌<◌}
-use mathlib.Core.Path.{◌≡◌, refl, sym, ap, ◌∙◌, subst}
+use mathlib.Core.Path.{◌≡◌, refl, sym, ap, subst}
 use mathlib.Core.Bool.{true}
 use mathlib.Core.List.Memᴰ
 use mathlib.Core.List.{List, [], ◌∷◌, flatten, Memᴰ}
@@ -12,26 +12,25 @@ use Rattle.stackmap.specs.declared.Verdict.{Verdict}
 use Rattle.stackmap.specs.declared.Verdict.TheVariants.{Valid, Refused}
 use Rattle.stackmap.specs.Check.{section_check}
 use Rattle.moves.specs.Window.{part}
-use Rattle.moves.specs.Slots.{Slot, memory, register, state}
-use Rattle.moves.specs.Pointers.{Pointer, slots}
+use Rattle.moves.specs.Slots.{Slot, memory, register}
+use Rattle.moves.specs.Pointers.{slots}
 use Rattle.moves.specs.Table.{table_right, look_up}
-use Rattle.moves.specs.Plan.{Plan, refuse, window, says, leaves, leaves_registers}
+use Rattle.moves.specs.Plan.{Plan, refuse, window}
 use Rattle.moves.proofs.Words.{from_image}
 use Rattle.moves.proofs.Lists.{Sound, Fits, all-inside}
 use Rattle.moves_twice.specs.Pointers as window
-use Rattle.moves_twice.specs.Joined.{joined}
 use Rattle.moves_twice.proofs.Joined.{joined-right}
-use Rattle.moves_twice.proofs.TwoMoves.{Plain, Ready, look_joined}
+use Rattle.moves_twice.proofs.TwoMoves.{look_joined}
 use Rattle.moves_twice.proofs.TwoImages.{OneImage, refused-image, two_moves_image}
 use Rattle.relocate.specs.Restore.{Restore, allowed}
 use Rattle.relocate.specs.Stopped.{Stopped, registers_right, cursor}
 use Rattle.relocate.specs.Plan.{plan_pairs, plan_record, plan}
-use Rattle.relocate.specs.Relocation.{answer, moved, moved_registers, ListedPointer}
-use Rattle.relocate.specs.Consequences.{Words, after_move}
+use Rattle.relocate.specs.Relocation.{answer, moved, moved_registers}
+use Rattle.relocate.specs.Consequences.{after_move}
 use Rattle.relocate.proofs.Planned.{Planned, planned, window-lists, listed-stands, sound}
 use Rattle.relocate.proofs.Demand.{demand3, plan-refused}
 use Rattle.relocate.proofs.Consequences.{keeps_cursor}
-use Rattle.relocate_twice.specs.Twice.{with_table, with_joined, SelfListed, OneMove, TwoMoves, JoinedTables}
+use Rattle.relocate_twice.specs.Twice.{with_table, with_joined, OneMove, TwoMoves, JoinedTables}
 
 pub joined_tables : JoinedTables
 joined_tables olds news olds2 news2 h k = joined-right olds news olds2 news2 h k

@@ -3,7 +3,7 @@ use Rattle.std.specs.Prelude.{ℕ, ◌≡◌, true, ◌↔◌, List}
 use Rattle.wire.specs.Word.{Bytes}
 use Rattle.moves.specs.Slots.{Slot}
 use Rattle.moves.specs.Table.{table_right}
-use Rattle.moves_twice.specs.Joined.{Table, joined}
+use Rattle.moves_twice.specs.Joined.{joined}
 use Rattle.relocate.specs.Restore.{Restore}
 use Rattle.relocate.specs.Stopped.{Stopped}
 use Rattle.relocate.specs.Relocation.{answer, moved, moved_registers, ListedPointer}

@@ -2,9 +2,8 @@
 use Rattle.std.specs.Prelude.{ℕ, ◌≡◌, false, List, [], ◌∷◌, ◌++◌, replicate}
 use Rattle.wire.specs.Word.{bytes}
 use Rattle.stackmap.specs.Section.{Location, encode_section}
-use Rattle.moves.specs.declared.Move.{Move}
 use Rattle.moves.specs.Settle.{refused_move, accepted_move}
-use Rattle.moves_twice.specs.Joined.{Table, joined}
+use Rattle.moves_twice.specs.Joined.{joined}
 use Rattle.relocate.specs.declared.Machine.TheVariants.{Amd64}
 use Rattle.relocate.specs.Restore.{Restore, restore, everything}
 use Rattle.relocate.specs.Stopped.{Stopped}

@@ -99,8 +99,8 @@ module _ (R : Restore) (im : List ℕ) where
       holds : Holds R im (frames_of ns)
       holds = demand3 R im (frames_of ns) m.disjoint
 
-      plain_registers : thread_registers R im ns ≡ plain_registers R im ns
-      plain_registers = movable_registers ∙ ap flatten holds.plain_registers
+      plain_registers_lem : thread_registers R im ns ≡ plain_registers R im ns
+      plain_registers_lem = movable_registers ∙ ap flatten holds.plain_registers
 
       at_position : (k : ℕ) → k < length ns.list / 2 → part (plain_registers R im ns) (32 * k) 32 ≡ moved_registers R im (stopped_at ns k)
       unfolding frames_of
@@ -120,8 +120,8 @@ module _ (R : Restore) (im : List ℕ) where
                 rw (← o.2) (m.each o.0 o.1);
             answer_is = movable_answer ∙ ap accepted_move (sym (ap total holds.plain ∙ total-is (frames_of ns)));
             bytes_are = holds;
-            registers_are = plain_registers;
-            registers_at = λ k l. rw plain_registers (at_position k l);
+            registers_are = plain_registers_lem;
+            registers_at = λ k l. rw plain_registers_lem (at_position k l);
           }
 
 pub accepted_only : AcceptedOnly
@@ -160,8 +160,8 @@ any_order R im ns ns' h e l p =
           movable_image R im ns m
           ∙ (order_free R im (frames_of ns) (frames_of ns') p m.disjoint).same_image
           ∙ sym (movable_image R im ns' m');
-      registers_are = plain_registers R im ns m;
-      other_registers_are = plain_registers R im ns' m';
+      registers_are = plain_registers_lem R im ns m;
+      other_registers_are = plain_registers_lem R im ns' m';
     }
 
 pub one_instant : OneInstant

@@ -1,5 +1,7 @@
 // What a search for many addresses keeps of each: the addresses are in order, and of equal ones the first stands for all.
 // No entry point: it requires addresses in order and a record that was checked.
+#![tactic(auto)]
+
 ghost use Rattle.std.specs.Prelude.{◌≡◌, ℕ, ◌+◌, ◌*◌, ◌^◌, ◌≤◌, ◌<◌, length};
 ghost use Rattle.stackmap.specs.Section.{Entry, address};
 ghost use Rattle.stackmap.specs.Walk.{owner_at, entry_at};

@@ -1,6 +1,8 @@
 // Passes over records whose addresses lie strictly between two numbers. A search for many addresses has none there, so that most records of a
 // section are passed over in one loop, which keeps what it needs in registers.
 // No entry point: it requires a place where a walk stands.
+#![tactic(auto)]
+
 ghost use Rattle.std.specs.Prelude.{◌≡◌, true, false, ◌+◌, ◌≤◌, ◌<◌, length, drop};
 ghost use Rattle.wire.specs.Word.{word};
 ghost use Rattle.stackmap.specs.declared.Verdict.TheVariants.{Valid, Refused};

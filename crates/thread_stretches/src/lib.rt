@@ -1,6 +1,8 @@
 // Whether stretches of memory, given one after another, share no byte: their starts are put in order, each with its stretch's number,
 // and each that is not empty has to end before the next begins. It says so, or it says nothing.
 // No entry point: it requires the arrays that it has filled itself.
+#![tactic(auto)]
+
 ghost use Rattle.std.specs.Prelude.{◌≡◌, true, ℕ, ◌+◌, ◌*◌, ◌^◌, ◌≤◌, ◌<◌, length};
 ghost use Rattle.thread.specs.Thread.{frames_most};
 ghost use Rattle.thread_stretches.specs.Listed.{Listed, Clear, AllApart};

@@ -13,7 +13,7 @@ renew_one-requires c =
     (omega arith, omega (arith, l.invariant.1, c.requires.1), c.requires.2 l.k c.loop-k-test.true, c.requires.3)
 
 pub shape_of-values-then-renew_one : goal.shape_of-values-then-renew_one
-shape_of-values-then-renew_one c = c.renew_one.auto.registers.1.1.1.0 ∙ c.loop-k.invariant.1
+shape_of-values-then-renew_one c = c.renew_one.auto.values ∙ c.loop-k.invariant.1
 
 pub returns-then-renew_one : goal.returns-then-renew_one
 returns-then-renew_one c =
@@ -25,7 +25,7 @@ pub loop-k-preserved : goal.loop-k-preserved
 loop-k-preserved c =
     let l = c.loop-k in (
       omega arith,
-      c.renew_one.auto.registers.1.1.1.0 ∙ l.invariant.1,
+      c.renew_one.auto.values ∙ l.invariant.1,
       renewing_step _ _ _ _ _ _ _ _ _ _ (omega arith) (omega (arith, l.invariant.1, c.requires.1)) l.invariant.2 c.renew_one.ensures c.if-renew_one.false,
     )
 

@@ -32,20 +32,20 @@ loop-p-preserved c =
     let vs = put_turn a.live.now a.derived.now a.contents.now a.pairs l.p old new _ (omega arith) in
     let slot = slot_of (get_or a.derived.now l.p 0) in
     let value = get_or a.contents.now l.p 0 in
-    ⊎_elim
-    (λ w.
-    let e : new ≡ put old slot value = state-same w.10 w.11 ∙ w.5.ensures in (
-      omega arith,
-      rw e (shape_on (put old slot value) old _ (put_shape old slot value) l.invariant.1),
-      vs (e ∙ sym (put-live a.live.now a.derived.now a.contents.now l.p old w.0.taken)) l.invariant.2,
-    ))
-    (λ w.
-    let e : new ≡ old = state-same w.1 w.2 in (
-      omega arith,
-      rw e l.invariant.1,
-      vs (e ∙ sym (put-null a.live.now a.derived.now a.contents.now l.p old w.0.left)) l.invariant.2,
-    ))
-    c.if-live-p-ne0.branch
+    elim c.if-live-p-ne0.branch [
+      | goal.then-live-p-ne0 w ↦
+          let e : new ≡ put old slot value = state-same w.window-is w.registers-is ∙ w.put.ensures in (
+            omega arith,
+            rw e (shape_on (put old slot value) old _ (put_shape old slot value) l.invariant.1),
+            vs (e ∙ sym (put-live a.live.now a.derived.now a.contents.now l.p old w.if-live-p-ne0.true)) l.invariant.2,
+          )
+      | goal.else-live-p-ne0 w ↦
+          let e : new ≡ old = state-same w.window-is w.registers-is in (
+            omega arith,
+            rw e l.invariant.1,
+            vs (e ∙ sym (put-null a.live.now a.derived.now a.contents.now l.p old w.if-live-p-ne0.false)) l.invariant.2,
+          )
+    ]
 
 pub shape_of-window : goal.shape_of-window
 shape_of-window c = c.loop-p.invariant.1.windows

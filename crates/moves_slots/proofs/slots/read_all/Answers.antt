@@ -22,10 +22,12 @@ loop-k-preserved c =
     let l = c.loop-k in
     let a = c.args in
     let f : ℕ → ℕ = λ j. read (state a.window.now a.registers.now) (slot_of (get_or a.slots.now j 0)) in
-    ⊎_elim
-    (λ w. (omega arith, rw w.3 (simp length-set l.invariant.1), rw w.3 (filled-set f a.live.now l.contents l.k w.2.result (omega (arith, l.invariant.1, c.requires.1)) l.invariant.2 w.2.ensures)))
-    (λ w. (omega arith, rw w.1 l.invariant.1, rw w.1 (filled_skip f a.live.now l.contents l.k l.invariant.2 w.0.left)))
-    c.if-live-k-ne0.branch
+    elim c.if-live-k-ne0.branch [
+      | goal.then-live-k-ne0 w ↦
+          (omega arith, rw w.contents-is (simp length-set l.invariant.1), rw w.contents-is (filled-set f a.live.now l.contents l.k w.read.result (omega (arith, l.invariant.1, c.requires.1)) l.invariant.2 w.read.ensures))
+      | goal.else-live-k-ne0 w ↦
+          (omega arith, rw w.contents-is l.invariant.1, rw w.contents-is (filled_skip f a.live.now l.contents l.k l.invariant.2 w.if-live-k-ne0.false))
+    ]
 
 pub shape_of-contents : goal.shape_of-contents
 shape_of-contents c = c.loop-k.invariant.1
