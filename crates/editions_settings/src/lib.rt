@@ -1,4 +1,6 @@
 // The settings of the edition that a restore names, document 02, request 9: 31 where it is unknown or retired.
+#![tactic(auto)]
+
 ghost use Rattle.std.specs.Prelude.{◌≡◌, ◌≤◌};
 ghost use Rattle.moves.specs.Limits.{pairs_most};
 ghost use Rattle.relocate.specs.Restore as restore;

@@ -1,5 +1,7 @@
 // The rows of a frame whose pointers the arrays of a move hold: sixteen numbers a pointer, written one after the other.
 // No entry point: it requires arrays that hold the pointers, a table that has passed 14, and room in the list.
+#![tactic(auto)]
+
 ghost use Rattle.std.specs.Prelude.{◌≡◌, true, ◌+◌, ◌*◌, ◌^◌, ◌≤◌, ◌<◌, length};
 ghost use Rattle.std.proofs.lemmas.List.Edits.{sets};
 ghost use Rattle.moves.specs.Limits.{pairs_most};

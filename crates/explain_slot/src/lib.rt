@@ -1,5 +1,7 @@
 // Why a slot of a frame moves or does not: the answer of the frame's move first, from what is read of the section, the image and the registers,
 // and then the slot among the frame's pointers. Nothing that is lent is written.
+#![tactic(auto)]
+
 ghost use Rattle.std.specs.Prelude.{◌≡◌, ◌≤◌};
 ghost use Rattle.moves.specs.Limits.{pairs_most};
 ghost use Rattle.relocate.specs.Restore.{restore};

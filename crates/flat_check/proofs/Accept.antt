@@ -1,14 +1,14 @@
 -- What an accepted section's arrays and ranges are.
 use Prim.Native.Nat.{ℕ, ◌+◌, ◌*◌, ◌≤◌, ◌<◌}
 use mathlib.Core.Path.{◌≡◌}
-use mathlib.Core.Bool.{Bool, true, ◌&&◌}
+use mathlib.Core.Bool.{Bool, true}
 use mathlib.Core.List.{List}
 use native.Mathlib.Omega.{arith}
 use borrow.Author.Tests.{leb-true}
-use Rattle.flat.specs.Places.{range_end, frames_at, records_at, num_frames, num_records, num_locations, num_live_outs}
+use Rattle.flat.specs.Places.{range_end, frames_at, num_frames, num_records}
 use Rattle.flat.proofs.Steps.{and_true, every-told}
 use Rattle.flat.proofs.Arrays.{Arranged, arranged, right-told}
-use Rattle.flat.specs.Places.{along, frame_inside, record_inside}
+use Rattle.flat.specs.Places.{along, frame_inside}
 use Rattle.flat_check.specs.Check.{ranges_right}
 use Rattle.flat_check.proofs.Chain.{Told}
 

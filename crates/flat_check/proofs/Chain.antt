@@ -1,11 +1,10 @@
 -- The chain of refusals: where it stands after each test, and what acceptance tells.
-use Prim.Native.Nat.{ℕ, zero, suc, ◌+◌, ◌*◌, ◌≤◌, ◌<◌}
+use Prim.Native.Nat.{ℕ, zero, suc, ◌≤◌, ◌<◌}
 use mathlib.Core.Path.{◌≡◌, refl, sym, ◌∙◌}
 use mathlib.Core.Bool.{Bool, true, false, not, ◌&&◌}
 use mathlib.Core.List.{List}
 use native.Mathlib.Omega.{arith}
 use borrow.Author.Tests.{leb-true, eqb-true, le-leb, lt-leb, eq-eqb, ne_eqb, not-true, not-false}
-use lib.Dec.{eqb, leb}
 use lib.ListN.{length, get_or}
 use Rattle.flat.specs.Places.{frames_at, records_at, num_frames, num_records, num_locations, num_live_outs, offsets_right}
 use Rattle.flat.proofs.Steps.{and_true}

@@ -1,4 +1,6 @@
 // The check of a flat section. The functions of the modules are no entry points: they require what the tests before them have shown.
+#![tactic(auto)]
+
 ghost use Rattle.std.specs.Prelude.{◌≡◌};
 ghost use Rattle.flat_check.specs.Check.{flat_check};
 

@@ -1,17 +1,17 @@
 -- What is read at a place, written again, is what stands there: for a number, a padding, each item, and an array of items.
-use Prim.Native.Nat.{ℕ, zero, suc, ◌+◌, ◌*◌, ◌-◌, ◌≤◌, ◌<◌}
-use mathlib.Core.Path.{◌≡◌, refl, sym, ap, ◌∙◌}
-use mathlib.Core.Bool.{Bool, true}
-use mathlib.Core.List.{List, [], ◌∷◌, ◌++◌, append_assoc}
+use Prim.Native.Nat.{ℕ, zero, suc, ◌+◌, ◌*◌, ◌≤◌, ◌<◌}
+use mathlib.Core.Path.{◌≡◌, refl, ap}
+use mathlib.Core.Bool.{true}
+use mathlib.Core.List.{List, ◌++◌, append_assoc}
 use native.Mathlib.Omega.{arith}
 use borrow.Author.Tests.{ltb-true}
 use lib.Dec.{ltb}
 use lib.ListN.{length, get_or, drop}
 use Rattle.wire.specs.Word.{Bytes, word, bytes}
 use Rattle.wire.proofs.Laws.{word_reads}
-use Rattle.flat.specs.Places.{along, clear}
+use Rattle.flat.specs.Places.{clear}
 use Rattle.flat_check.proofs.Accept.{along-told}
-use Rattle.flat_data.specs.Data.{Frame, Register, Record, Location, LiveOut, read_constant, read_frame, read_register, read_record}
+use Rattle.flat_data.specs.Data.{read_constant, read_frame, read_register, read_record}
 use Rattle.flat_data.specs.Data.{read_location, read_live_out, many, constant_bytes, frame_bytes, register_bytes, record_bytes}
 use Rattle.flat_data.specs.Data.{location_bytes, live_out_bytes, all}
 

@@ -1,19 +1,18 @@
 -- An accepted section's bytes are the bytes of what is read from it.
-use Prim.Native.Nat.{ℕ, zero, suc, ◌+◌, ◌*◌, ◌-◌, ◌≤◌, ◌<◌}
+use Prim.Native.Nat.{ℕ, ◌+◌, ◌*◌, ◌-◌}
 use mathlib.Core.Path.{◌≡◌, refl, sym, ap, ◌∙◌}
-use mathlib.Core.Bool.{Bool, true}
-use mathlib.Core.List.{List, [], ◌∷◌, ◌++◌, append_assoc, append-nil}
+use mathlib.Core.Bool.{true}
+use mathlib.Core.List.{List, ◌++◌, append_assoc, append-nil}
 use native.Mathlib.Omega.{arith}
-use lib.ListN.{length, get_or, drop}
+use lib.ListN.{length, drop}
 use lib.Seq.{drop-length}
 use Rattle.wire.specs.Word.{Bytes, word, bytes}
-use Rattle.flat.specs.Layout.{align}
-use Rattle.flat.specs.Places.{constants_at, frames_at, registers_at, records_at, locations_at, live_outs_at, num_constants, num_frames, num_registers}
+use Rattle.flat.specs.Places.{frames_at, registers_at, records_at, locations_at, live_outs_at, num_constants, num_frames, num_registers}
 use Rattle.flat.specs.Places.{num_records, num_locations, num_live_outs}
 use Rattle.flat.proofs.Steps.{and_true}
 use Rattle.flat.proofs.Arrays.{Right, right-told, Arranged, arranged}
 use Rattle.flat.specs.Places.{clear}
-use Rattle.flat_check.specs.Check.{registers_end, records_end, reserved_clear, Accepted}
+use Rattle.flat_check.specs.Check.{registers_end, records_end, reserved_clear}
 use Rattle.flat_check.proofs.Chain.{Told, accepted-told}
 use Rattle.flat_data.specs.Data.{read_constant, read_frame, read_register, read_record, read_location, read_live_out, many, read_section}
 use Rattle.flat_data.specs.Data.{constant_bytes, frame_bytes, register_bytes, record_bytes, location_bytes, live_out_bytes, all, frames_start}

@@ -1,4 +1,6 @@
 // The lookup of a record by its address. The functions below `find` are no entry points: they require an accepted section's arrays.
+#![tactic(auto)]
+
 ghost use Rattle.std.specs.Prelude.{◌≡◌, ◌≤◌, length};
 ghost use Rattle.flat_check.specs.Check.{Accepted};
 ghost use Rattle.flat_keys.specs.Keys.{keys_most, Keyed};

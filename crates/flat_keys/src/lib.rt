@@ -1,5 +1,7 @@
 // The keys of a flat section's records: their instruction offsets in order, so that a frame's first match is found by halving; and whether
 // that pays. No entry points: these require an accepted section's arrays.
+#![tactic(auto)]
+
 ghost use Rattle.std.specs.Prelude.{◌≡◌, ◌+◌, ◌*◌, ◌≤◌, ◌<◌, length};
 ghost use Rattle.flat.specs.Layout.{section_least, record_size};
 ghost use Rattle.flat.specs.Places.{records_at};

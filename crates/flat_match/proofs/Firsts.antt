@@ -1,9 +1,9 @@
 -- The first of the list of all matches is a match, and none stands before it.
-use Prim.Native.Nat.{ℕ, zero, suc, ◌+◌, ◌*◌, ◌≤◌, ◌<◌}
-use mathlib.Core.Path.{◌≡◌, refl, sym, ap, ◌∙◌}
-use mathlib.Core.Bool.{Bool, true, false, cond}
-use mathlib.Core.Logic.{◌⊎◌, inl, inr, ⊎_elim}
-use mathlib.Core.List.{List, [], ◌∷◌, ◌++◌}
+use Prim.Native.Nat.{ℕ, zero, suc, ◌+◌, ◌≤◌, ◌<◌}
+use mathlib.Core.Path.{◌≡◌, refl, sym, ◌∙◌}
+use mathlib.Core.Bool.{Bool, true, false}
+use mathlib.Core.Logic.{inl, inr}
+use mathlib.Core.List.{List, ◌++◌}
 use native.Mathlib.Omega.{arith}
 use native.Mathlib.Decide.{ℕ_discrete}
 use borrow.Author.Tests.{eqb-true, eqb-false}
@@ -12,7 +12,7 @@ use Rattle.flat.specs.Places.{num_frames}
 use Rattle.flat_check.specs.Check.{flat_check}
 use Rattle.flat_check.proofs.Chain.{ask-accepted}
 use Rattle.flat_match.specs.declared.MatchAnswer.{MatchAnswer}
-use Rattle.flat_match.specs.Find.{Match, address_of, in_frame, record_index, record_count, in_frames, matches, not_found, first_of, by_address, Matches, NotAfter, FirstMatch}
+use Rattle.flat_match.specs.Find.{Match, address_of, in_frame, record_index, record_count, in_frames, matches, not_found, first_of, by_address, NotAfter, FirstMatch}
 use Rattle.flat_match.proofs.Lookup.{first-hit, first_miss}
 
 module _ (s : List ℕ) (a : ℕ) where

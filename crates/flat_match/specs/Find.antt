@@ -1,7 +1,7 @@
 -- The lookup by address, document 02, request 13: frame and record number of the first match in frame order, then record order, by sums
 -- that don't wrap; 41 exactly if there is none. A record's number is that in the array of all records.
 use Rattle.std.specs.Prelude.{ℕ, zero, suc, ◌+◌, ◌*◌, ◌≤◌, ◌<◌, cond, ◌⊎◌, ◌≡◌, eqb}
-use mathlib.Core.List.{List, [], ◌∷◌, ◌++◌, Memᴰ}
+use mathlib.Core.List.{List, [], ◌∷◌, ◌++◌}
 use Rattle.wire.specs.Word.{word}
 use Rattle.flat.specs.Layout.{frame_size, record_count_at, record_index_at, record_size, instruction_offset_at}
 use Rattle.flat.specs.Places.{frames_at, records_at, num_frames}

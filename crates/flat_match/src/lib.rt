@@ -1,4 +1,6 @@
 // The first match in one frame: of its records, tried one by one or by their keys. No entry points: these require an accepted section's arrays.
+#![tactic(auto)]
+
 ghost use Rattle.std.specs.Prelude.{◌≡◌, ◌+◌, ◌*◌, ◌≤◌, length};
 ghost use Rattle.flat.specs.Layout.{section_least, frame_size, record_size};
 ghost use Rattle.flat.specs.Places.{frames_at, records_at};

@@ -1,4 +1,6 @@
 // Questions on a flat section by number. The functions that are not `pub` are no entry points: they require that their item is inside.
+#![tactic(auto)]
+
 ghost use Rattle.std.specs.Prelude.{◌≡◌, ◌+◌, ◌≤◌, length};
 ghost use Rattle.flat.specs.Layout.{constant_size, frame_size, register_size, record_size, location_size, live_out_size};
 ghost use Rattle.flat_data.specs.Data.{read_constant, read_frame, read_register, read_record, read_location, read_live_out};

@@ -1,4 +1,6 @@
 // A whole thread in one call over a linked section: the definitions and the laws.
+#![tactic(auto)]
+
 use thread::FRAMES_MOST;
 
 // The numbers of the map in which an address was found: its first byte in the section, and its length.

@@ -1,5 +1,5 @@
 -- One more map is cut off, and its records are found.
-use Prim.Native.Nat.{ℕ, zero, suc, ◌+◌, ◌*◌, ◌-◌, ◌≤◌, ◌<◌}
+use Prim.Native.Nat.{ℕ, ◌+◌, ◌-◌, ◌≤◌, ◌<◌}
 use mathlib.Core.Path.{◌≡◌, refl, sym, ap, ◌∙◌}
 use mathlib.Core.Bool.{Bool, true, false, cond, not}
 use mathlib.Core.List.Memᴰ
@@ -7,10 +7,9 @@ use mathlib.Core.List.{List, [], ◌∷◌, ◌++◌, Memᴰ}
 use mathlib.Core.Logic.{⊎_elim}
 use native.Mathlib.Omega.{arith}
 use native.Mathlib.Decide.{ℕ_discrete}
-use native.Mathlib.Nat.{zero-add}
 use borrow.Author.Tests.{eq-eqb, ne_eqb}
 use lib.Dec.{eqb}
-use lib.ListN.{length, get_or, take, drop, length-drop}
+use lib.ListN.{length, take, drop, length-drop}
 use lib.Seq.{take_all}
 use Rattle.stackmap.specs.declared.Verdict.{Verdict}
 use Rattle.stackmap.specs.declared.Verdict.TheVariants.{Valid, Refused}
@@ -19,7 +18,7 @@ use Rattle.stackmap.specs.Section.{is_old, entries}
 use Rattle.stackmap.specs.Check.{section_check, Accepted}
 use Rattle.stackmap.proofs.Numbers.{Numbered, n_chain}
 use Rattle.stackmap.proofs.OneWalk.{fold}
-use Rattle.stackmap.proofs.Within.{part-from, Within}
+use Rattle.stackmap.proofs.Within.{part-from}
 use Rattle.questions.specs.Kept.{no_hits, noted}
 use Rattle.questions_find.specs.Scan.{all_records, front_check}
 use Rattle.questions_find.proofs.Ends.{Fronted, front_whole, front_after}
@@ -30,7 +29,7 @@ use Rattle.linked.specs.Find.{none_old}
 use Rattle.linked.proofs.Prefix.{prefix, header_low, tables-low, walk_low, walked_least, accepted_walked}
 use Rattle.linked.proofs.Places.{section_within}
 use Rattle.linked.proofs.Cutting.{cut_rest, rest-start, rest-last, rest_wrong, rest_more}
-use Rattle.linked_moves.specs.Code.{maps_in, Standing, AllStanding}
+use Rattle.linked_moves.specs.Code.{maps_in, AllStanding}
 use Rattle.linked_search.specs.Check.{linked_check}
 use Rattle.linked_search.specs.Found.{first_old}
 

@@ -1,27 +1,27 @@
 -- What is found in one more map, and what it is at the end.
-use Prim.Native.Nat.{ℕ, zero, suc, ◌+◌, ◌*◌, ◌-◌, ◌^◌, ◌≤◌, ◌<◌}
-use mathlib.Core.Path.{◌≡◌, refl, sym, ap, ◌∙◌}
+use Prim.Native.Nat.{ℕ, zero, suc, ◌+◌, ◌≤◌, ◌<◌}
+use mathlib.Core.Path.{◌≡◌, refl, ap, ◌∙◌}
 use mathlib.Core.List.{List, [], ◌∷◌, ◌++◌, Memᴰ}
 use native.Mathlib.Omega.{arith}
 use native.Mathlib.Decide.{dec_lt}
 use borrow.Author.Tests.{le-leb, lt-leb}
-use lib.ListN.{length, get_or, set, drop, take, length-set}
+use lib.ListN.{length, get_or, set, drop, take}
 use lib.Seq.{get_or-set_same, get_or-set_other, get_or-drop}
 use Rattle.wire.specs.Word.{Bytes}
 use Rattle.stackmap.specs.declared.Verdict.TheVariants.{Refused}
 use Rattle.stackmap.specs.Verdict.{must, chain}
-use Rattle.stackmap.specs.Section.{is_old, record_length, Entry, entries}
+use Rattle.stackmap.specs.Section.{record_length, Entry, entries}
 use Rattle.stackmap.specs.Check.{header_check, section_check, Accepted}
 use Rattle.stackmap.proofs.Entries.{entry-inside}
 use Rattle.questions.specs.declared.Hits.{Hits}
 use Rattle.questions.specs.Kept.{no_hits}
-use Rattle.sorted.specs.Sorted.{Sorted, LowerBound}
-use Rattle.thread.specs.Code.{hits_at, Holding, Counted}
-use Rattle.thread_marks.specs.From.{noted_one, NotedAll}
+use Rattle.sorted.specs.Sorted.{Sorted}
+use Rattle.thread.specs.Code.{hits_at, Holding}
+use Rattle.thread_marks.specs.From.{NotedAll}
 use Rattle.linked.specs.Linked.{Map, map_at}
 use Rattle.linked.specs.Find.{MapEntry, all_with_address}
 use Rattle.linked_moves.specs.Code.{FirstIs, SoughtIn}
-use Rattle.linked_search.specs.Found.{mark, Settled, Pending, Placed, settled, pending, Like, Finding, Put}
+use Rattle.linked_search.specs.Found.{mark, Placed, settled, pending, Like, Finding, Put}
 use Rattle.linked_search.proofs.Tally.{one_of, all_with_more, like_on, like_same}
 use Rattle.linked_search.proofs.Cuts.{content, MoreMap}
 

@@ -25,7 +25,7 @@ use Rattle.linked.specs.Linked.{Map, map_at}
 use Rattle.linked_moves.specs.Code.{maps_in, SoughtIn, AllStanding}
 use Rattle.linked_search.specs.Check.{linked_check}
 use Rattle.linked_search.specs.Found.{first_old, mark, Finding}
-use Rattle.linked_search.proofs.Cuts.{Cutting, cutting_start, content, MoreMap, one_more, cut_stop, old_on, below_all, maps-are, end-old, end-new, end-standing}
+use Rattle.linked_search.proofs.Cuts.{Cutting, cutting_start, content, one_more, cut_stop, old_on, below_all, maps-are, end-old, end-new, end-standing}
 use Rattle.linked_search.proofs.Finds.{sorted-one, finding_start, finding_on, finding_end}
 
 pub not_both : {A : Type 0} (b : Bool) → not b ≡ true → b ≡ true → A

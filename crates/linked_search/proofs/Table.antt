@@ -1,18 +1,18 @@
 -- Where a map's end is known, the records that were found first in it are settled.
-use Prim.Native.Nat.{ℕ, suc, ◌+◌, ◌*◌, ◌-◌, ◌≤◌, ◌<◌}
-use mathlib.Core.Path.{◌≡◌, refl, sym, ap, ◌∙◌}
+use Prim.Native.Nat.{ℕ, ◌+◌, ◌*◌, ◌-◌, ◌≤◌, ◌<◌}
+use mathlib.Core.Path.{◌≡◌, refl, ap, ◌∙◌}
 use mathlib.Core.List.{List}
 use native.Mathlib.Omega.{arith}
 use native.Mathlib.Decide.{dec_lt, ℕ_discrete}
 use lib.ListN.{length, get_or, set, length-set}
 use lib.Seq.{get_or-set_same, get_or-set_other}
 use Rattle.questions.specs.declared.Hits.{Hits}
-use Rattle.sorted.specs.Sorted.{Sorted, LowerBound}
+use Rattle.sorted.specs.Sorted.{LowerBound}
 use Rattle.thread.specs.Code.{hits_at, Stored}
 use Rattle.thread_marks.specs.From.{Grown}
 use Rattle.linked.specs.Linked.{Map}
 use Rattle.linked.specs.Find.{MapEntry, all_with_address}
-use Rattle.linked_search.specs.Found.{mark, Settled, Pending, Placed, settled, pending, Like, Finding, SettlesOne, SiteStored}
+use Rattle.linked_search.specs.Found.{mark, Pending, Placed, settled, pending, Like, Finding, SettlesOne, SiteStored}
 use Rattle.linked_search.proofs.Tally.{like_same}
 
 -- one number of a place is written

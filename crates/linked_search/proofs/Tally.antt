@@ -1,13 +1,12 @@
 -- What was found of an address, with the records of one more map.
-use Prim.Native.Nat.{ℕ, suc, ◌+◌, ◌*◌, ◌≤◌, ◌<◌}
+use Prim.Native.Nat.{ℕ, suc, ◌+◌}
 use mathlib.Core.Path.{◌≡◌, refl, sym, ap, ◌∙◌}
 use mathlib.Core.Bool.{Bool, true, false, cond}
 use mathlib.Core.List.{List, [], ◌∷◌, ◌++◌, append-nil, append_assoc, Memᴰ}
 use native.Mathlib.Omega.{arith}
-use native.Mathlib.Nat.{zero-add}
 use borrow.Author.Tests.{eq-eqb, ne_eqb}
 use lib.Dec.{eqb}
-use lib.ListN.{length, get_or, length-append}
+use lib.ListN.{length, length-append}
 use lib.Seq.{append_snoc}
 use Rattle.stackmap.specs.Section.{Entry, address, entries}
 use Rattle.stackmap.proofs.OneWalk.{fold}
@@ -19,7 +18,7 @@ use Rattle.linked.specs.Linked.{Map}
 use Rattle.linked.specs.Find.{MapEntry, of_map, all_with_address}
 use Rattle.thread_marks.specs.From.{entry_from, noted_one}
 use Rattle.thread_marks.proofs.Marks.{address-from}
-use Rattle.linked_search.specs.Found.{First, LikeBy, Like}
+use Rattle.linked_search.specs.Found.{Like}
 
 abbrev pub one_of : ℕ → Map → Entry → MapEntry
 one_of i m e = record { number = i; map = m; entry = e }

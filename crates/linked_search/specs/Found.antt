@@ -1,6 +1,6 @@
 -- For the code alone: nothing here has to be believed.
 -- What a search over the maps of a linked section has found so far.
-use Rattle.std.specs.Prelude.{ℕ, ◌+◌, ◌*◌, ◌≤◌, ◌<◌, ◌≡◌, cond, List, [], ◌∷◌, length, get_or, set}
+use Rattle.std.specs.Prelude.{ℕ, ◌+◌, ◌*◌, ◌<◌, ◌≡◌, cond, List, [], ◌∷◌, length, get_or, set}
 use Rattle.stackmap.specs.Section.{is_old}
 use Rattle.questions.specs.declared.Hits.{Hits}
 use Rattle.sorted.specs.Sorted.{LowerBound}

@@ -1,6 +1,8 @@
 // The records of many addresses over all maps of a linked section, found in one walk over its bytes. The addresses are in order; of equal
 // ones the first stands for all.
 // No entry point: it requires addresses in order, as `addresses::gather` leaves them.
+#![tactic(auto)]
+
 ghost use Rattle.std.specs.Prelude.{◌≡◌, true, cond, List, ℕ, ◌+◌, ◌*◌, ◌≤◌, ◌<◌, eqb, length, drop, get_or, set};
 ghost use Rattle.stackmap.specs.declared.Verdict.TheVariants.{Valid};
 ghost use Rattle.stackmap.specs.Verdict.{shift};

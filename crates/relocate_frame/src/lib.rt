@@ -1,4 +1,6 @@
 // The move of one frame.
+#![tactic(auto)]
+
 ghost use Rattle.std.specs.Prelude.{◌≡◌, true, false, cond, ◌&&◌, ◌≤◌, length};
 ghost use Rattle.questions.specs.Kept.{searched, of_section};
 ghost use Rattle.moves.specs.Limits.{pairs_most};

@@ -8,7 +8,6 @@ use native.Mathlib.Omega.{arith}
 use borrow.Author.Tests.{eq-eqb}
 use lib.Dec.{eqb}
 use lib.ListN.{length}
-use Rattle.stackmap.specs.Section.{Record}
 use Rattle.stackmap.proofs.Tests.{and_true}
 use Rattle.questions.specs.declared.Found.{Found}
 use Rattle.questions.specs.Kept.{of_section}
@@ -35,7 +34,7 @@ use Rattle.relocate.specs.Code.{record_of, pool_of, plan_slots, pair_number}
 use Rattle.relocate_plan.specs.declared.Outline.{Outline}
 use Rattle.relocate_plan.specs.Outlined.{Stands, refused_outline}
 use Rattle.relocate_plan.proofs.Following.{slots_19, slots_on}
-use Rattle.relocate_judge.specs.Judged.{Leads, pointers_in, Held, Judged}
+use Rattle.relocate_judge.specs.Judged.{Leads, pointers_in, Judged}
 
 -- 19 and the window read nothing of the settings
 pub slots_any : (s olds news : List ℕ) (first : ℕ) (t u : Settings) (f : Cursor) (n : ℕ) (ps : List Pair)

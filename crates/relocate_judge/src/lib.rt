@@ -1,5 +1,7 @@
 // The judgement of one frame: what its move would answer, from what is read of the section, the image and the registers; and where it is
 // accepted, its outline and the arrays that hold its pointers. Nothing but these arrays is written.
+#![tactic(auto)]
+
 ghost use Rattle.std.specs.Prelude.{◌≡◌, true, false, ◌≤◌, length};
 ghost use Rattle.stackmap.specs.Check.{Accepted};
 ghost use Rattle.questions.specs.Kept.{searched, of_section};

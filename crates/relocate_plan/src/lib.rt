@@ -1,5 +1,7 @@
 // What the move of a frame is before its slots are looked at: the stages of its plan that read the section, the image's length and the
 // frame, and neither a byte of the image nor a register's content. A move and an explanation both begin with them.
+#![tactic(auto)]
+
 pub mod extent;
 pub mod plan;
 

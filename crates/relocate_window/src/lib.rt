@@ -1,6 +1,8 @@
 // The move of the pairs of one frame, in its window of the image and in its registers. `most` is the largest pointer count; it is not tested
 // here, and is a part of what the plan is of.
 // No entry point: it requires pairs of the right form, whose pointers are at most 256, and an extent inside the image.
+#![tactic(auto)]
+
 ghost use Rattle.std.specs.Prelude.{◌≡◌, true, ℕ, ◌≤◌, ◌<◌, length};
 ghost use mathlib.Core.List.{flatten};
 ghost use Rattle.stackmap.specs.Section.{is_old};

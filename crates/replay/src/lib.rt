@@ -1,4 +1,5 @@
 // Replay of a recorded restore, document 02, request 12: the types, the definitions and the theorems.
+#![tactic(auto)]
 
 // The bytes of a trace's items with their kind, and of a frame with its answer.
 pub const FRAME_SIZE: usize = 274;

@@ -1,5 +1,7 @@
 // The answers of a replay, compared with those that were recorded.
 // No entry point: its functions require that the trace holds the steps, which `measure` of replay_trace ensures.
+#![tactic(auto)]
+
 ghost use Rattle.std.specs.Prelude.{◌≡◌, ◌-◌, ◌*◌, ◌<◌, ◌≤◌};
 ghost use Rattle.replay.specs.Layout.{step_size};
 ghost use Rattle.replay.specs.Trace.{step_at};

@@ -1,4 +1,6 @@
 // A trace, document 02, request 12: whether it is broken, and where; and what its steps hold.
+#![tactic(auto)]
+
 pub mod items;
 pub mod steps;
 

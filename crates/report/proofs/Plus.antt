@@ -1,12 +1,11 @@
 -- Sums of totals: in any order, in any grouping; and what fits.
 use Prim.Native.Nat.{ℕ, ◌+◌, ◌≤◌}
-use mathlib.Core.Path.{◌≡◌, refl, sym, ap, ◌∙◌}
-use mathlib.Core.Bool.{true, ◌&&◌}
+use mathlib.Core.Path.{◌≡◌, refl, sym, ◌∙◌}
+use mathlib.Core.Bool.{true}
 use mathlib.Core.List.{List, [], ◌∷◌, ◌++◌, Permᴰ}
 use native.Mathlib.Omega.{arith}
 use borrow.Author.Tests.{leb-true, le-leb}
 use Rattle.stackmap.proofs.Tests.{and_true}
-use lib.Dec.{leb}
 use Rattle.report.specs.declared.Kinds.{Kinds}
 use Rattle.report.specs.declared.Totals.{Totals}
 use Rattle.report.specs.Bounds.{KindsMost, TotalsMost}

@@ -2,7 +2,7 @@
 use Prim.Native.Nat.{ℕ, suc, ◌+◌}
 use mathlib.Core.Path.{◌≡◌, refl, sym, ap, ◌∙◌}
 use mathlib.Core.Bool.{Bool, true, false, true≢false}
-use mathlib.Core.List.{List, [], ◌∷◌, ◌++◌, Permᴰ}
+use mathlib.Core.List.{List, [], ◌∷◌, ◌++◌}
 use native.Mathlib.Omega.{arith}
 use lib.ListN.{length}
 use Rattle.stackmap.specs.declared.Verdict.{Verdict}
@@ -13,7 +13,7 @@ use Rattle.questions.specs.Questions.{ask}
 use Rattle.report.specs.declared.Totals.{Totals}
 use Rattle.report.specs.declared.Reported.{Reported}
 use Rattle.report.specs.Totals.{none, plus, total, of_function, of_record, of_entry, of_accepted, of_refused, contribution, kinds_fit, fits, reported, passed, joined_at, add_section, joined, report_from, report}
-use Rattle.report.specs.Laws.{Summed, Sums, StoppedAt, Stops, OrderFree, Halved, Halves}
+use Rattle.report.specs.Laws.{Sums, Stops, OrderFree, Halves}
 use Rattle.report.proofs.Plus.{plus_none, plus-end, plus_comm, plus_assoc, fits-part, total-append, total_perm}
 
 abbrev all : List (List ℕ) → Totals

@@ -1,5 +1,6 @@
 // The monthly report, document 02, request 10: the types, the definitions, and the laws of reports of many sections.
 // `report_totals` has the code.
+#![tactic(auto)]
 
 // The locations of each kind, 1 to 5.
 #[repr(C)]

@@ -1,4 +1,6 @@
 // What the report's tool writes: the nine lines of document 02, request 10, or only the line that says 34 and its position.
+#![tactic(auto)]
+
 ghost use Rattle.std.specs.Prelude.{◌≡◌, ◌+◌, ◌≤◌, length};
 ghost use Rattle.std.proofs.lemmas.List.Edits.{sets};
 ghost use Rattle.decimal.specs.Line.{line};

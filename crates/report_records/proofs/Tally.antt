@@ -54,7 +54,7 @@ module _ (s : List ℕ) (w : Walkable s) (t : records_at s ≤ length s) where
       let turn : Turn = record { next = p.next; left = p.left } in
       let e : turn ≡ first_turn (is_old s) s = turns f.turn_next f.turn_left in
       record {
-        is_old = f.is_old;
+        old_is = f.old_is;
         constants = f.constants_are;
         folding = rw f.none_passed (fold_start with_entry {t = turn} none w e f.begins (rw f.begins t) f.all_ahead);
         few = omega (arith, f.none_passed);
@@ -68,7 +68,7 @@ module _ (s : List ℕ) (w : Walkable s) (t : records_at s ≤ length s) where
     pub standing : Standing s p
     standing =
         let f = h.folding.walking in
-        record { is_old = h.is_old; functions = w.inside; turning = f.turning; counted = f.counted; inside = f.inside; few = h.few }
+        record { old_is = h.old_is; functions = w.inside; turning = f.turning; counted = f.counted; inside = f.inside; few = h.few }
 
     module _ {q : Place} (g : Passing s p q) where
       pub there : RecordInside s p.at
@@ -95,7 +95,7 @@ module _ (s : List ℕ) (w : Walkable s) (t : records_at s ≤ length s) where
           → Tallying s q counts'
       tally_on {one} {counts'} e m k =
           record {
-            is_old = g.is_old ∙ h.is_old;
+            old_is = g.old_is ∙ h.old_is;
             constants = g.constants ∙ h.constants;
             folding = rw (g.constants, g.remaining, g.number, k, grown_totals counts one, e) last;
             few = omega (arith, g.remaining, g.number, g.some_ahead, h.few);

@@ -1,5 +1,7 @@
 // What the records of a section add to a report, counted in the walk that checks them.
 // No entry point: each function requires what the check before it has tested.
+#![tactic(auto)]
+
 ghost use Rattle.std.specs.Prelude.{◌≡◌, true, false, ◌+◌, ◌*◌, ◌^◌, ◌≤◌, length, drop, eqb};
 ghost use Rattle.stackmap.specs.Layout.{location_size};
 ghost use Rattle.stackmap.specs.Fields.{many};

@@ -1,5 +1,7 @@
 // Sums of totals, and 34 where one of them would pass 2^64 - 1: document 02, request 10.
 // `kinds_sum` and `sum` are no entry points: they require that nothing passes.
+#![tactic(auto)]
+
 ghost use Rattle.std.specs.Prelude.{◌≡◌, ◌&&◌, ◌+◌, leb};
 ghost use Rattle.report.specs.Totals.{total_most, plus_kinds, plus, kinds_fit, fits, joined_at, joined};
 ghost use Rattle.report.specs.Bounds.{KindsMost, TotalsMost};

@@ -13,7 +13,7 @@ use Rattle.report_walker.specs.declared.Step.TheVariants as Steps
 
 -- the place before the first record
 pub record First (s : List ℕ) (p : Place) : Type 0 where
-  pub is_old : p.old ≡ is_old s
+  pub old_is : p.old ≡ is_old s
   pub constants_are : p.constants ≡ num_constants s
   pub turn_next : p.next ≡ (first_turn (is_old s) s).next
   pub turn_left : p.left ≡ (first_turn (is_old s) s).left
@@ -23,7 +23,7 @@ pub record First (s : List ℕ) (p : Place) : Type 0 where
 
 -- the functions and the place are inside, and so many records are ahead as it says
 pub record Standing (s : List ℕ) (p : Place) : Type 0 where
-  pub is_old : p.old ≡ is_old s
+  pub old_is : p.old ≡ is_old s
   pub functions : constants_at s ≤ length s
   pub turning : Turning s p.next p.left
   pub counted : length (ahead s p.next p.left) ≡ p.remaining
@@ -46,7 +46,7 @@ pub record Passing (s : List ℕ) (p q : Place) : Type 0 where
   pub some_ahead : 0 < p.remaining
   pub owner : Owned s p q.next (q.left + 1)
   pub valid : verdict_at s p (q.next - 1) ≡ Valid q.at
-  pub is_old : q.old ≡ p.old
+  pub old_is : q.old ≡ p.old
   pub constants : q.constants ≡ p.constants
   pub remaining : q.remaining ≡ p.remaining - 1
   pub number : q.number ≡ p.number + 1

@@ -1,6 +1,8 @@
 // A walker over the records of a section: document 01, "a walker that keeps hold of the section it was opened on". It is a struct of the
 // section's reference and a place. Three thin functions make it or take it apart; `step_at` is the step over plain values.
 // No entry point: it requires a place where a walk can stand, which `first` gives.
+#![tactic(auto)]
+
 ghost use Rattle.std.specs.Prelude.{◌≡◌, ◌≤◌, length};
 ghost use Rattle.stackmap.specs.Section.{records_at};
 ghost use Rattle.stackmap.specs.Walk.{Walkable};

@@ -1,4 +1,6 @@
 // Restores by the edition that they name, with the machine as a number: the definitions, and the tests that come before a restore's own.
+#![tactic(auto)]
+
 ghost use Rattle.std.specs.Prelude.{◌≡◌};
 ghost use Rattle.questions.specs.Questions.{ask};
 ghost use Rattle.restores.specs.Code.{refused_at, Begins};

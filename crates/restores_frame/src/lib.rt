@@ -1,4 +1,6 @@
 // The move of one frame by the edition that it names, with the machine as a number.
+#![tactic(auto)]
+
 ghost use Rattle.restores.specs.Restores.{request};
 ghost use Rattle.restores.specs.Moves.{numbered};
 ghost use Rattle.restores.specs.Code.{MovesUnder};

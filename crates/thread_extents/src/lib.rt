@@ -1,6 +1,8 @@
 // Refusal 26: the first frame whose extent shares a byte with an earlier one's. All are put in order and compared with their neighbours
 // first; where two share a byte, the extents that are apart are kept in order, so that a new one is compared with its two neighbours.
 // No entry point: it requires that every frame was accepted, so that each has an extent.
+#![tactic(auto)]
+
 ghost use Rattle.std.specs.Prelude.{◌≡◌, true, cond, [], map, ◌*◌, ◌≤◌, ◌<◌, ltb, length};
 ghost use Rattle.moves.specs.declared.Move as MoveType;
 ghost use Rattle.moves.specs.Settle.{refused_move};

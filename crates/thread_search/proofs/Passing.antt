@@ -1,12 +1,11 @@
 -- A walk that has passed over records in a gap of the addresses holds what it held.
-use Prim.Native.Nat.{ℕ, suc, ◌+◌, ◌-◌, ◌≤◌, ◌<◌}
+use Prim.Native.Nat.{ℕ, suc, ◌+◌, ◌-◌, ◌≤◌}
 use mathlib.Core.Path.{◌≡◌, refl, sym, ap, ◌∙◌}
 use mathlib.Core.List.{List, [], ◌∷◌}
 use native.Mathlib.Omega.{arith}
 use lib.ListN.{get_or}
-use Rattle.wire.specs.Word.{word}
 use Rattle.stackmap.specs.Section.{Entry, address, entries}
-use Rattle.stackmap.specs.Walk.{owner_at, entry_at}
+use Rattle.stackmap.specs.Walk.{entry_at}
 use Rattle.stackmap.proofs.OneWalk.{Folding, fold, fold_on, fold_end}
 use Rattle.stackmap_check.specs.Pass.{Passed, none, more, Stopped}
 use Rattle.questions.specs.declared.Hits.{Hits}

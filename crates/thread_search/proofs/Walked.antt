@@ -22,7 +22,6 @@ use Rattle.stackmap.proofs.Verdicts.{never, must-held, chain-rest, shift-valid}
 use Rattle.stackmap.proofs.Addresses.{same_test, owner_zero}
 use Rattle.stackmap.proofs.OneWalk.{fold}
 use Rattle.questions.specs.declared.Hits.{Hits}
-use Rattle.questions.specs.declared.Found.{Found}
 use Rattle.questions.specs.Questions.{with_address, not_found, first_of}
 use Rattle.sorted.specs.Sorted.{Sorted, LowerBound, EntryOf}
 use Rattle.questions.specs.Kept.{no_hits, noted}

@@ -44,7 +44,7 @@ record-counts-requires : tie.Need-record-counts-requires invariant-loop decrease
 record-counts-requires c κs =
     let q = c.before.before.before.before.before.before.before.requires in
     let l = c.before.before.before.before.loop.invariant in
-    (there _ q.0 (rw q.1 at q.2) l (passes c.before.before.before.next-from.ensures c.before.after.given.1), l.is_old)
+    (there _ q.0 (rw q.1 at q.2) l (passes c.before.before.before.next-from.ensures c.before.after.given.1), l.old_is)
 
 sum-requires : tie.Need-sum-requires invariant-loop decreases-loop
 sum-requires c κs =

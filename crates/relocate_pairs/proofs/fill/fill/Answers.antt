@@ -1,10 +1,8 @@
-use Prim.Native.Nat.{◌-◌}
 use mathlib.Core.Path.{sym, ap, ◌∙◌}
 use native.Mathlib.Omega.{arith}
 use borrow.Author.Tests.{not-false}
 use lib.ListN.{length}
 use Rattle.stackmap.proofs.Tests.{not-true}
-use Rattle.moves.specs.Arrays as arrays
 use Rattle.relocate.specs.Statepoint.{pointers_of}
 use Rattle.relocate.specs.Code.{record_of, pool_of, pair_number}
 use Rattle.relocate.proofs.Records.{pair_inside}

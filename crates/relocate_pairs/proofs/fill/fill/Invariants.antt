@@ -1,7 +1,7 @@
 use Prim.Native.Nat.{◌-◌}
 use Rattle.moves.specs.Arrays as arrays
 use Rattle.relocate.specs.Limits.{register_count}
-use Rattle.relocate.specs.Statepoint.{inside, pointers_of}
+use Rattle.relocate.specs.Statepoint.{inside}
 use Rattle.relocate.specs.Code.{record_of, pool_of, Room}
 use Rattle.relocate_pairs.proofs.Forms.{Looking}
 use Rattle.relocate_pairs.proofs.Counting.{Filling}

@@ -1,7 +1,5 @@
-use Prim.Native.Nat.{◌-◌}
 use mathlib.Core.Path.{ap, ◌∙◌}
 use native.Mathlib.Omega.{arith}
-use Rattle.relocate.specs.declared.Cursor as CursorType
 use Rattle.relocate.specs.Code.{record_of, pool_of, count_of}
 use Rattle.relocate.proofs.Records.{pair_inside}
 use Rattle.relocate_pairs.proofs.Forms.{pair-from}
