@@ -1,13 +1,13 @@
 -- A walk that keeps the last address gives the first breach.
 use Prim.Native.Nat.{ℕ}
-use mathlib.Core.Path.{◌≡◌, refl, sym, ap, ◌∙◌}
+use mathlib.Core.Path.{◌≡◌, refl, ap}
 use mathlib.Core.Bool.{Bool, true, false, cond}
-use mathlib.Core.Option.{Option, none, some}
+use mathlib.Core.Option.{Option, some}
 use mathlib.Core.List.{List, [], ◌∷◌}
 use Rattle.stackmap.specs.Section.{Entry, address}
 use Rattle.stackmap.proofs.OneWalk.{fold}
 use Rattle.controller.specs.Profile.{keeps, first_breach}
-use Rattle.controller.specs.Kept.{Kept, whole, broken, looked, breach_of}
+use Rattle.controller.specs.Kept.{whole, broken, looked, breach_of}
 
 module _ (pool : List ℕ) where
   -- a breach stays

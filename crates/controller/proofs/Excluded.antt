@@ -1,8 +1,7 @@
 -- A section that keeps the profile gives no 12, 15 and 18, and 17 only where fewer than 16 pointers are allowed.
-use Prim.Native.Nat.{ℕ, suc, ◌≤◌, ◌<◌}
-use mathlib.Core.Path.{◌≡◌, refl, sym, ap, ◌∙◌}
-use mathlib.Core.Bool.{Bool, true, false, cond, not, ◌&&◌, ◌||◌}
-use mathlib.Core.Logic.{◌⊎◌, inl, inr}
+use Prim.Native.Nat.{ℕ, suc, ◌≤◌}
+use mathlib.Core.Path.{◌≡◌, refl, sym, ◌∙◌}
+use mathlib.Core.Bool.{Bool, true, false, cond}
 use mathlib.Core.Option.{Option, none, some}
 use mathlib.Core.List.{List, [], ◌∷◌, map, flatten}
 use native.Mathlib.Omega.{arith}
@@ -11,10 +10,8 @@ use lib.Dec.{eqb, leb, ltb}
 use lib.ListN.{length}
 use Rattle.stackmap.specs.Verdict.{need}
 use Rattle.stackmap.specs.Section.{Record, Entry, is_old, read_section, address, entries}
-use Rattle.stackmap.specs.Check.{section_check}
 use Rattle.stackmap.proofs.Tests.{and_true}
 use Rattle.questions.specs.Questions.{ask, with_address, sought}
-use Rattle.moves.specs.declared.Move.{Move}
 use Rattle.moves.specs.Slots.{State, state}
 use Rattle.moves.specs.Pointers.{Pointer}
 use Rattle.moves.specs.Window.{part}
@@ -22,14 +19,12 @@ use Rattle.moves.specs.Settle.{refused_move, accepted_move, at_lowest, first20, 
 use Rattle.moves.specs.Table.{table_right, look_up}
 use Rattle.moves.specs.Plan.{Plan, refuse, window, says}
 use Rattle.relocate.specs.declared.Cursor.{Cursor}
-use Rattle.relocate.specs.declared.Machine.{Machine}
 use Rattle.relocate.specs.declared.Machine.TheVariants.{Amd64}
 use Rattle.relocate.specs.Restore.{Restore, allowed}
 use Rattle.relocate.specs.Stopped.{Stopped, registers_right, cursor}
-use Rattle.relocate.specs.Statepoint.{is_statepoint, Pair, pairs, right_form, inside, pointers_of}
+use Rattle.relocate.specs.Statepoint.{is_statepoint, Pair, pairs, right_form, pointers_of}
 use Rattle.relocate.specs.Plan.{records_of, only, every, image_right, stack_size, extent_right, plan_pairs, plan_record, plan}
 use Rattle.relocate.specs.Relocation.{answer}
-use Rattle.relocate.specs.Code.{count_of, total_of}
 use Rattle.relocate.proofs.Planned.{every_yes, every_no}
 use Rattle.relocate_pairs.proofs.Counting.{pointers_length}
 use Rattle.controller.specs.Profile.{pointers_most, records_most, all_of, passes18, some_frame, pointer_count, above, keeps, first_breach}

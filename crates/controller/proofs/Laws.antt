@@ -1,7 +1,7 @@
 -- The laws of the controller's moves and threads, from the base's.
-use Prim.Native.Nat.{ℕ, ◌≤◌, ◌<◌}
-use mathlib.Core.Path.{◌≡◌, refl, sym, ap, ◌∙◌}
-use mathlib.Core.Bool.{Bool, true, false}
+use Prim.Native.Nat.{ℕ, ◌≤◌}
+use mathlib.Core.Path.{◌≡◌, refl, sym, ◌∙◌}
+use mathlib.Core.Bool.{true}
 use mathlib.Core.Logic.{◌⊎◌, inl, inr}
 use mathlib.Core.List.{List}
 use native.Mathlib.Omega.{arith}
@@ -11,12 +11,10 @@ use Rattle.questions.specs.Questions.{ask}
 use Rattle.moves.specs.declared.Move.{Move}
 use Rattle.moves.specs.Settle.{refused_move}
 use Rattle.relocate.specs.Restore.{Restore}
-use Rattle.relocate.specs.Stopped.{Stopped}
 use Rattle.relocate.specs.Relocation.{answer, moved, moved_registers}
 use Rattle.relocate.proofs.Demand as base
 use Rattle.relocate.proofs.Consequences as consequences
 use Rattle.thread.specs.Thread.{Thread, thread_answer, thread_image, thread_registers}
-use Rattle.thread.specs.Theorems.{Movable}
 use Rattle.thread.proofs.OneInstant as threads
 use Rattle.controller.specs.Profile.{profile_check}
 use Rattle.controller.specs.Controller.{controller_answer, controller_image, controller_registers, controller_thread_answer, controller_thread_image, controller_thread_registers}

@@ -10,13 +10,11 @@ use mathlib.Core.List.{Permᴰ}
 use Rattle.stackmap.specs.declared.Verdict.{Verdict}
 use Rattle.stackmap.specs.declared.Verdict.TheVariants.{Valid, Refused}
 use Rattle.questions.specs.Questions.{ask}
-use Rattle.moves.specs.declared.Move.{Move}
 use Rattle.moves.specs.Settle.{refused_move}
 use Rattle.relocate.specs.Restore.{Restore}
 use Rattle.relocate.specs.Stopped.{Stopped}
-use Rattle.relocate.specs.Relocation.{answer, moved, moved_registers, InExtent}
+use Rattle.relocate.specs.Relocation.{answer, moved, moved_registers}
 use Rattle.relocate.specs.Lists.{answers, final, final_registers, Disjoint}
-use Rattle.controller.specs.Profile.{profile_check}
 use Rattle.controller.specs.Controller.{controller_answer, controller_image, controller_registers}
 use Rattle.controller.specs.Lists.{controller_answers, controller_final, controller_final_registers, is_valid, in_profile, taken}
 

@@ -1,7 +1,6 @@
 -- The controller's answer, and what it leaves, by the verdict on the profile.
 use Prim.Native.Nat.{ℕ}
-use mathlib.Core.Path.{◌≡◌, refl, sym, ap, ◌∙◌}
-use mathlib.Core.Bool.{true, false}
+use mathlib.Core.Path.{◌≡◌, ◌∙◌}
 use mathlib.Core.List.{List}
 use Rattle.stackmap.specs.declared.Verdict.TheVariants.{Valid, Refused}
 use Rattle.questions.specs.Questions.{ask}
@@ -9,9 +8,8 @@ use Rattle.moves.specs.declared.Move.{Move}
 use Rattle.moves.specs.Settle.{refused_move}
 use Rattle.relocate.specs.Restore.{Restore}
 use Rattle.relocate.specs.Stopped.{Stopped}
-use Rattle.relocate.specs.Relocation.{answer, moved, moved_registers}
 use Rattle.relocate.specs.Code.{Relocates}
-use Rattle.thread.specs.Thread.{Thread, thread_answer, thread_image, thread_registers}
+use Rattle.thread.specs.Thread.{Thread}
 use Rattle.thread.specs.Code.{Threads}
 use Rattle.controller.specs.Profile.{profile_check}
 use Rattle.controller.specs.Controller.{controller_answer, controller_image, controller_registers, controller_thread_answer, controller_thread_image, controller_thread_registers}

@@ -1,5 +1,5 @@
 -- What is shown of the controller's moves and threads.
-use Rattle.std.specs.Prelude.{ℕ, ◌≤◌, ◌≡◌, true, false}
+use Rattle.std.specs.Prelude.{ℕ, ◌≤◌, ◌≡◌, true}
 use mathlib.Core.List.{List, map, Permᴰ}
 use Rattle.stackmap.specs.declared.Verdict.TheVariants.{Refused}
 use Rattle.moves.specs.Settle.{refused_move}

@@ -1,5 +1,7 @@
 // The controller's calls by the edition that they name, with the machine as a number: any number but 0 goes as a machine that the profile
 // doesn't take.
+#![tactic(auto)]
+
 ghost use Rattle.restores.specs.Restores.{request};
 ghost use Rattle.restores.specs.Moves.{numbered};
 ghost use Rattle.restores_thread.specs.Threads.{numbered_thread};

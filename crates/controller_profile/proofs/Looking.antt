@@ -17,7 +17,7 @@ use Rattle.stackmap.proofs.OneWalk.{fold, Folding, fold_start, fold_on, fold_end
 use Rattle.relocate.specs.Code.{record_of, pool_of, RecordInside}
 use Rattle.index_rows.proofs.Walk.{tabled, next-valid, next-whole}
 use Rattle.controller.specs.Profile.{keeps, first_breach, at_breach}
-use Rattle.controller.specs.Kept.{Kept, whole, broken, looked, breach_of, before_of}
+use Rattle.controller.specs.Kept.{whole, broken, looked, breach_of, before_of}
 use Rattle.controller.proofs.Breaches.{fold_broken, fold_breach}
 
 -- the walk stands at the record `number`, and none before it has a breach; `last` is the address of the one before

@@ -1,5 +1,7 @@
 // The profile of the bench controller over all records of a section (refusal 50).
 // `first_breach` and `of_accepted` are no entry points: they require an accepted section.
+#![tactic(auto)]
+
 ghost use Rattle.std.specs.Prelude.{◌≡◌, false, length};
 ghost use Rattle.std.proofs.Math.Option.{none};
 ghost use Rattle.stackmap.specs.Section.{is_old, entries};

@@ -1,5 +1,7 @@
 // One record against the profile of the bench controller.
 // No entry point: it requires a record that stands there.
+#![tactic(auto)]
+
 ghost use Rattle.std.specs.Prelude.{◌≡◌, true, ◌&&◌, leb};
 ghost use Rattle.stackmap.specs.Section as section;
 ghost use Rattle.relocate.specs.Statepoint.{is_statepoint};

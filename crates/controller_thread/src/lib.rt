@@ -1,4 +1,6 @@
 // The controller's move of a whole thread, by the base's promises.
+#![tactic(auto)]
+
 ghost use Rattle.std.specs.Prelude.{◌≤◌};
 ghost use Rattle.moves.specs.Limits.{pairs_most};
 ghost use Rattle.relocate.specs.Restore.{restore};

@@ -1,5 +1,7 @@
 // Why, for all slots of a frame in one call: the answer of the frame's move first, from what is read of the section, the image and the
 // registers, and then the rows of its pointers. Nothing but the lent list is written.
+#![tactic(auto)]
+
 ghost use Rattle.std.specs.Prelude.{◌≡◌, ◌≤◌};
 ghost use Rattle.moves.specs.Limits.{pairs_most};
 ghost use Rattle.relocate.specs.Restore.{restore};

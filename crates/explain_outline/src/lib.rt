@@ -1,5 +1,7 @@
 // The rows of an accepted frame, by its outline and the arrays that hold its pointers.
 // No entry point: it requires arrays that hold the pointers, a table that has passed 14, and room in the list.
+#![tactic(auto)]
+
 ghost use Rattle.std.specs.Prelude.{◌≡◌, true, ◌+◌, ◌*◌, ◌≤◌, length};
 ghost use Rattle.std.proofs.lemmas.List.Edits.{sets};
 ghost use Rattle.moves.specs.Table.{table_right};

@@ -28,7 +28,6 @@ use Rattle.relocate.specs.Plan.{plan}
 use Rattle.relocate.specs.Relocation.{answer, in_image, content_at}
 use Rattle.relocate.proofs.Planned.{Planned, planned}
 use Rattle.relocate.proofs.Demand.{in_image_lem}
-use Rattle.explain.specs.declared.Reason.{Reason}
 use Rattle.explain.specs.declared.Reason.TheVariants.{Unlisted, OnlyBase, NullBase, Moved, Refused}
 use Rattle.explain.specs.Explain.{addressed, pointer_at, listed, Hit, lowest_pair, derives, has_base, old_base, moved_by, or_else, still, by_hit, accepted, explained}
 use Rattle.explain_pointers.specs.Told.{number_of, named_at, base_at, moves_at, by_pointer, told_of, told}

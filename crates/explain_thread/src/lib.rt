@@ -1,5 +1,7 @@
 // Why, for all slots of a thread in one call: the answer of the thread's call first, and then the rows of all frames. Nothing but the lent list is
 // written.
+#![tactic(auto)]
+
 ghost use Rattle.std.specs.Prelude.{◌≡◌, true, ◌/◌, ◌≤◌, length};
 ghost use Rattle.moves.specs.Limits.{pairs_most};
 ghost use Rattle.relocate.specs.Restore.{restore};

@@ -1,5 +1,7 @@
 // The rows of all frames of an accepted thread, written one frame after another.
 // No entry point: it requires frames that are accepted, and room in the list.
+#![tactic(auto)]
+
 ghost use Rattle.std.specs.Prelude.{◌≡◌, ◌+◌, ◌*◌, ◌≤◌, ◌<◌, length};
 ghost use mathlib.Core.List.{Memᴰ};
 ghost use Rattle.std.proofs.lemmas.List.Edits.{sets};

@@ -1,4 +1,6 @@
 // A whole thread over a linked section in one call: all frames move, with their registers, each by its own map, or none does.
+#![tactic(auto)]
+
 ghost use Rattle.std.specs.Prelude.{◌≡◌, ◌≤◌};
 ghost use Rattle.moves.specs.Limits.{pairs_most};
 ghost use Rattle.relocate.specs.Restore.{restore};

@@ -1,5 +1,7 @@
 // The extents of a thread's frames over a linked section, each by its own map, and whether two of them share a byte (26).
 // No entry point: it requires that the maps are right, the frames' records are found and each frame's extent is known.
+#![tactic(auto)]
+
 ghost use Rattle.std.specs.Prelude.{◌≡◌, true, cond, [], map, ◌*◌, ◌≤◌, ◌<◌, ltb, length};
 ghost use Rattle.stackmap.specs.Check.{Accepted};
 ghost use Rattle.questions.specs.Questions.{first_of};

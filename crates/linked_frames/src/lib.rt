@@ -1,5 +1,7 @@
 // The frames of a thread over a linked section, each by its own map.
 // No entry point: it requires that the maps are right and the frames' records are found.
+#![tactic(auto)]
+
 ghost use Rattle.std.specs.Prelude.{◌*◌, ◌<◌, ◌≡◌, get_or};
 ghost use Rattle.thread.specs.Thread.{frame_numbers};
 ghost use Rattle.linked_moves.specs.Code.{maps_in, LookedIn};

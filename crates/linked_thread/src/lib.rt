@@ -1,5 +1,7 @@
 // A whole thread over a linked section, after the search over all maps: all frames move, with their registers, each by its own map, or none does.
 // No entry point: it requires that the maps are right, of version 3, and the frames' records are found.
+#![tactic(auto)]
+
 ghost use Rattle.std.specs.Prelude.{◌≡◌, true, ◌/◌, ◌≤◌, length};
 ghost use Rattle.moves.specs.Limits.{pairs_most};
 ghost use Rattle.relocate.specs.Restore.{restore};

@@ -1,4 +1,6 @@
 // A replay under an edition of a store: 35 before all else, and each answer 31 where the edition is unknown.
+#![tactic(auto)]
+
 ghost use Rattle.std.specs.Prelude.{◌≡◌};
 ghost use Rattle.relocate.specs.Restore.{restore};
 ghost use Rattle.replay.specs.Replay.{compared, frames_of, answers_under, final_under, replay_answer, replay_image};

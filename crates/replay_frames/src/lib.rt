@@ -1,5 +1,7 @@
 // The frames of a trace, moved one after another and compared: in parts of at most 4,096 frames, whose records are found in one walk each.
 // No entry point: it requires a trace that holds these steps, and settings that the crate above has read.
+#![tactic(auto)]
+
 ghost use Rattle.std.specs.Prelude.{◌≡◌, List, ℕ, ◌-◌, ◌≤◌, ◌<◌, length};
 ghost use Rattle.moves.specs.Limits.{pairs_most};
 ghost use Rattle.relocate.specs.declared.Settings as SettingsType;

@@ -31,7 +31,7 @@ no_counts = record { records = 0; statepoints = 0; pairs = 0; kinds = no_kinds }
 
 -- the walk stands at a place and has counted so much
 pub record Tallying (s : List ℕ) (p : Place) (counts : Counts) : Type 0 where
-  pub is_old : p.old ≡ is_old s
+  pub old_is : p.old ≡ is_old s
   pub constants : p.constants ≡ num_constants s
   pub folding : Folding with_entry s p.constants none p.next p.left p.remaining p.number p.at (as_totals counts)
   pub few : p.number + p.remaining < 4294967296

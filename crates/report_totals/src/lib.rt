@@ -1,4 +1,6 @@
 // The monthly report, one section at a time: document 02, request 10.
+#![tactic(auto)]
+
 ghost use Rattle.std.specs.Prelude.{◌≡◌, cond, ◌≤◌, eqb, length};
 ghost use Rattle.stackmap.specs.Layout.{stack_size_unknown};
 ghost use Rattle.stackmap.specs.Section.{constants_at};

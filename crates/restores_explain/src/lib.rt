@@ -1,4 +1,6 @@
 // Why a slot of a frame moves or does not, by the edition that the frame's move names, with the machine as a number. Nothing is written.
+#![tactic(auto)]
+
 ghost use Rattle.std.specs.Prelude.{◌≡◌};
 ghost use Rattle.explain.specs.Explain.{slot_of};
 ghost use Rattle.restores.specs.Restores.{request};

@@ -1,4 +1,6 @@
 // The move of a whole thread over a linked section by the edition that it names, with the machine as a number.
+#![tactic(auto)]
+
 ghost use Rattle.std.specs.Prelude.{◌≡◌};
 ghost use Rattle.questions.specs.Questions.{ask};
 ghost use Rattle.moves.specs.Settle.{refused_move};

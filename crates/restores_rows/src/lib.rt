@@ -1,5 +1,7 @@
 // Why, for all slots of a frame or of a thread in one call, by the edition that the move names, with the machine as a number. Nothing but the lent
 // list is written.
+#![tactic(auto)]
+
 ghost use Rattle.std.specs.Prelude.{◌≡◌};
 ghost use Rattle.restores.specs.Restores.{request};
 ghost use Rattle.restores.specs.Moves.{numbered};

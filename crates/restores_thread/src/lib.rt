@@ -1,4 +1,6 @@
 // The move of a whole thread by the edition that it names, with the machine as a number.
+#![tactic(auto)]
+
 ghost use Rattle.restores.specs.Restores.{request};
 ghost use Rattle.restores_thread.specs.Threads.{numbered_thread};
 ghost use Rattle.restores_thread.specs.Code.{ThreadsUnder, ByIndexUnder};

@@ -1,4 +1,6 @@
 // A whole thread in one call: all frames move, with their registers, or none does.
+#![tactic(auto)]
+
 ghost use Rattle.std.specs.Prelude.{◌≡◌, true, ◌/◌, ◌≤◌, length};
 ghost use Rattle.moves.specs.Limits.{pairs_most};
 ghost use Rattle.relocate.specs.Restore.{restore, allowed};

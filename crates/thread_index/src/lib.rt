@@ -1,5 +1,7 @@
 // A whole thread in one call that is handed an index of the section. The index is tested; where it is the right one, the call is that
 // without an index.
+#![tactic(auto)]
+
 ghost use Rattle.std.specs.Prelude.{◌≡◌, true, false, ◌≤◌};
 ghost use Rattle.stackmap.specs.Section.{is_old};
 ghost use Rattle.stackmap.specs.Check.{Accepted};

@@ -1,5 +1,7 @@
 // The judgement of a whole thread: what its call would answer, over shared slices. Nothing that is lent is written.
 // No entry point: it requires that the section is accepted and the frames' records are found.
+#![tactic(auto)]
+
 ghost use Rattle.std.specs.Prelude.{◌≡◌, true, ◌/◌, ◌≤◌, ◌<◌, length};
 ghost use Rattle.moves.specs.Limits.{pairs_most};
 ghost use Rattle.moves.specs.Settle.{accepted_move};

@@ -1,4 +1,6 @@
 // What crosses the C boundary: the structs, and the answers of the layers below turned into them, field by field.
+#![tactic(auto)]
+
 ghost use Rattle.std.specs.Prelude.{◌≡◌};
 ghost use Rattle.treskibben_answers.specs.Answer.{answer, move_answer, frame_of, find_answer_of, record_place_of, content_number, location_of, live_out_of};
 ghost use Rattle.questions.specs.Questions.{signed, ask};

@@ -1,5 +1,7 @@
 // What crosses the C boundary of the settings by edition: the answers of the store, field by field, and the place, which is always 0. The
 // store and the settings cross as `editions` has them.
+#![tactic(auto)]
+
 ghost use Rattle.std.specs.Prelude.{◌≡◌};
 ghost use Rattle.editions.specs.Store.{make_in, retire_in, read_in};
 ghost use Rattle.editions.specs.Store as answers;

@@ -1,5 +1,7 @@
 // What crosses the C boundary of the flat sections: the structs, and the answers of the layers below turned into them, field by field. The place
 // of every refusal is 0.
+#![tactic(auto)]
+
 ghost use Rattle.std.specs.Prelude.{◌≡◌};
 ghost use Rattle.treskibben_flat.specs.Flat.{checked, matched, constant_of, frame_of, register_of, record_of, location_of, live_out_of};
 

@@ -1,4 +1,6 @@
 // What crosses the C boundary of the calls on linked sections: their answers as structs of numbers.
+#![tactic(auto)]
+
 ghost use Rattle.std.specs.Prelude.{◌≡◌};
 ghost use Rattle.treskibben_linked.specs.Answer.{count_answer, found_answer};
 

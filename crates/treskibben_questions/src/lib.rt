@@ -1,4 +1,6 @@
 // The questions on a section, with their answers as they cross the C boundary.
+#![tactic(auto)]
+
 ghost use Rattle.std.specs.Prelude.{◌≡◌};
 ghost use Rattle.questions.specs.Questions.{by_address, by_function, record_place, location_answer, live_out_answer};
 ghost use Rattle.treskibben_answers.specs.Answer.{find_answer_of, record_place_of, location_of, live_out_of};

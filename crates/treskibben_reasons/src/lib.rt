@@ -1,4 +1,6 @@
 // What crosses the C boundary of the reasons: a reason as a struct of numbers.
+#![tactic(auto)]
+
 ghost use Rattle.std.specs.Prelude.{◌≡◌};
 ghost use Rattle.moves.specs.Slots.{memory, register};
 ghost use Rattle.explain.specs.Explain.{slot_of};

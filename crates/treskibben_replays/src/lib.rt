@@ -1,4 +1,6 @@
 // What crosses the C boundary of a replay: its outcome as a struct of numbers.
+#![tactic(auto)]
+
 ghost use Rattle.std.specs.Prelude.{◌≡◌};
 ghost use Rattle.treskibben_replays.specs.Answer.{outcome_answer};
 

@@ -1,0 +1,18 @@
+use Rattle.relocate.specs.Restore.{restore}
+use Rattle.replay_call.proofs.Calling.{trace-broken, trace-whole}
+use Rattle.replay_call.proofs.replay.Goals as goal
+
+pub of_steps-requires : goal.of_steps-requires
+of_steps-requires c = let k = rw c.in-Whole.is at c.measure.ensures in k.1
+
+pub returns-in-Broken : goal.returns-in-Broken
+returns-in-Broken c =
+    let a = c.args in
+    let k = rw c.in-Broken.is at c.measure.ensures in
+    trace-broken a.store a.edition (restore a.section.now a.olds.now a.news.now a.first) a.image.now a.trace.now _ k
+
+pub returns-in-Whole : goal.returns-in-Whole
+returns-in-Whole c =
+    let a = c.args in
+    let k = rw c.in-Whole.is at c.measure.ensures in
+    trace-whole a.store a.edition (restore a.section.now a.olds.now a.news.now a.first) a.image.now a.trace.now _ k.0 c.of_steps.ensures

@@ -1,0 +1,10 @@
+use Rattle.questions.specs.Questions.{ask}
+use Rattle.treskibben_answers.proofs.unknown_machine.Goals as goal
+
+pub returns-in-Valid : goal.returns-in-Valid
+unfolding ask
+returns-in-Valid c = rw c.in-Valid.is
+
+pub returns-in-Refused : goal.returns-in-Refused
+unfolding ask
+returns-in-Refused c = rw c.in-Refused.is
