@@ -1,4 +1,4 @@
-//! Links `libtreskibben.a`, the static library that `rt staticlib treskibben` writes, if it is of the
+//! Links `libtreskibben.a`, the static library that `tools/staticlib treskibben` writes, if it is of the
 //! version that this crate is written for.
 //!
 //! It is looked for in `target/staticlib` of the repository, or in the folder that the environment
@@ -80,7 +80,7 @@ fn main() {
     let archive = folder.join(ARCHIVE);
     println!("cargo:rerun-if-changed={}", archive.display());
     let remedy = [
-        "Run `rt staticlib treskibben` in the root of the repository, or let",
+        "Run `tools/staticlib treskibben` in the root of the repository, or let",
         "TRESKIBBEN_LIB name the folder that holds libtreskibben.a.",
     ];
     if !archive.is_file() {

@@ -1,7 +1,7 @@
 //! Compiles `parser.cpp` against LLVM 14's headers. LLVM's stack map parser is all in its header, so that only the
 //! C++ runtime is linked and no library of LLVM. Compiles `check.c`, the check in unproved C.
 //!
-//! Links `target/staticlib/libreads.a` too, where `rt staticlib reads` has written it. Only `bench reads` needs it.
+//! Links `target/staticlib/libreads.a` too, where `tools/staticlib reads` has written it. Only `bench reads` needs it.
 
 use std::ffi::OsStr;
 use std::path::{Path, PathBuf};

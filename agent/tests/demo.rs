@@ -107,7 +107,7 @@ fn the_live_restore_comes_first() {
     assert!(said.lines().all(|line| bytes(line) < 4), "{said}");
 }
 
-/// A small repository with `tools/library`, and an `rt` that only writes down that it was called. It stands outside this one, and
+/// A small repository with `tools/library` and what it calls, and an `rt` that only writes down that it was called. It stands outside this one, and
 /// goes with the test: `rt` refuses a repository that has a source in no listed crate.
 struct Repository(PathBuf);
 
@@ -131,13 +131,11 @@ impl Repository {
         ] {
             fs::create_dir_all(root.join(folder)).unwrap();
         }
-        fs::copy(
-            Path::new(ROOT).join("tools/library"),
-            root.join("tools/library"),
-        )
-        .unwrap();
+        for tool in ["tools/library", "tools/staticlib"] {
+            fs::copy(Path::new(ROOT).join(tool), root.join(tool)).unwrap();
+        }
         let it = Repository(root);
-        it.write("crates.txt", "wire:\nother:\ntreskibben: wire\n");
+        it.write("crates.txt", "wire:\nother:\ntreskibben staticlib: wire\n");
         it.write("crates/wire/src/lib.rt", "");
         it.write("bin/rt", rt);
         let all = fs::Permissions::from_mode(0o755);
@@ -171,14 +169,24 @@ impl Repository {
 }
 
 const RT: &str = r#"#!/bin/sh
-[ "$*" = "staticlib treskibben" ] || exit 2
-touch called
-mkdir -p target/staticlib
+[ "${PWD##*/} $*" = "treskibben lib" ] || exit 2
+touch ../../called
+mkdir -p out ../wire/out
+echo 'rt: chose --jobs 2 for wire'
 echo 'a note of the prover'
-echo 'rt: wire proved (3 s)'
-touch target/staticlib/libtreskibben.a
-echo 'rt: target/staticlib/libtreskibben.a has the functions of treskibben'
+echo 'logic=proved functions=1'
+echo 'rt: chose --jobs 2 for treskibben'
+echo 'logic=proved functions=1'
+touch ../wire/out/rlib out/libtreskibben.a
 "#;
+
+/// The line without the seconds of a proof, which a clock tells.
+fn without_seconds(line: &str) -> String {
+    match line.split_once(" proved (") {
+        Some((before, seconds)) if seconds.ends_with(" s)") => format!("{before} proved ( s)"),
+        _ => line.to_string(),
+    }
+}
 
 #[test]
 fn a_stale_library_is_built_again_and_a_fresh_one_is_not() {
@@ -186,11 +194,11 @@ fn a_stale_library_is_built_again_and_a_fresh_one_is_not() {
     let (well, said, called) = it.library();
     assert!(well && called, "{said}");
     assert!(said.contains("libtreskibben.a is missing: "), "{said}");
-    let lines: Vec<&str> = said.lines().skip(1).collect();
+    let lines: Vec<String> = said.lines().skip(1).map(without_seconds).collect();
     assert_eq!(
         lines,
         [
-            "[1/2] wire proved (3 s)",
+            "[1/2] wire proved ( s)",
             "[2/2] treskibben proved and built"
         ]
     );
@@ -206,20 +214,24 @@ fn a_stale_library_is_built_again_and_a_fresh_one_is_not() {
         "{said}"
     );
     it.age();
-    it.write("crates.txt", "wire:\ntreskibben: wire\n");
+    it.write("crates.txt", "wire:\ntreskibben staticlib: wire\n");
     assert!(it.library().2);
     it.age();
     fs::remove_file(it.0.join("crates/wire/src/lib.rt")).unwrap();
     assert!(it.library().2);
 
-    // Neither a must-fail edit nor a crate that the library doesn't stand on is in it.
+    // Neither a must-fail edit, nor what rt makes, nor a crate that the library doesn't stand on is in it.
     it.age();
     it.write("crates/treskibben/must-fail/new.edit", "");
+    it.write("crates/wire/out/rlib", "");
     it.write("crates/other/new", "");
     assert_eq!(it.library(), (true, String::new(), false));
 
     // A crate below one that the library stands on is in it, named in its line or not.
-    it.write("crates.txt", "wire: other\nother:\ntreskibben: wire\n");
+    it.write(
+        "crates.txt",
+        "wire: other\nother:\ntreskibben staticlib: wire\n",
+    );
     assert!(it.library().2);
     it.age();
     it.write("crates/other/new", "changed");
@@ -230,7 +242,7 @@ fn a_stale_library_is_built_again_and_a_fresh_one_is_not() {
 fn a_library_that_cannot_be_built_is_told() {
     let it = Repository::new(
         "unproved",
-        "#!/bin/sh\necho 'rt: wire NOT PROVED (exit 1, 3 s)'\nexit 1\n",
+        "#!/bin/sh\necho 'rt: the library wire did not build, so nothing above it was checked' >&2\nexit 1\n",
     );
     let library = it.0.join("target/staticlib/libtreskibben.a");
     fs::create_dir_all(library.parent().unwrap()).unwrap();
@@ -242,7 +254,7 @@ fn a_library_that_cannot_be_built_is_told() {
     let (well, said, _) = it.library();
     assert!(!well, "{said}");
     assert!(
-        said.contains("rt: wire NOT PROVED (exit 1, 3 s)\n"),
+        said.contains("rt: the library wire did not build, so nothing above it was checked\n"),
         "{said}"
     );
     assert!(said.contains("the library cannot be built"), "{said}");

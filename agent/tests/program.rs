@@ -1,7 +1,7 @@
 //! The program, run as a process: what it writes is what the second implementation says.
 //!
-//! It is `target/bin/list_section` of the repository, or what `TRESKIBBEN_PROGRAM` names. The random
-//! sections follow from a seed. It is printed; `TRESKIBBEN_SEED` sets it.
+//! It is `crates/list_section/out/list_section` of the repository, where `rt ci` and `rt run` leave it, or what
+//! `TRESKIBBEN_PROGRAM` names. The random sections follow from a seed. It is printed; `TRESKIBBEN_SEED` sets it.
 
 #[allow(dead_code)] // Nothing is counted here.
 mod common;
@@ -30,11 +30,13 @@ const RANDOM: usize = 400;
 fn program() -> PathBuf {
     let path = match env::var_os("TRESKIBBEN_PROGRAM") {
         Some(named) => PathBuf::from(named),
-        None => Path::new(env!("CARGO_MANIFEST_DIR")).join("../target/bin/list_section"),
+        None => {
+            Path::new(env!("CARGO_MANIFEST_DIR")).join("../crates/list_section/out/list_section")
+        }
     };
     assert!(
         path.is_file(),
-        "{} is missing: run `rt check list_section` in the root of the repository, or let \
+        "{} is missing: run `rt run < stdin` in the crate's folder, or let \
          TRESKIBBEN_PROGRAM name the program",
         path.display()
     );

@@ -1,7 +1,8 @@
 //! The report's tool, run as a process on files: what it writes is what the second implementation says, and what the
 //! safe crate's totals are as text.
 //!
-//! It is `target/bin/report_sections` of the repository, or what `TRESKIBBEN_REPORT` names.
+//! It is `crates/report_sections/out/report_sections` of the repository, where `rt ci` and `rt run` leave it, or what
+//! `TRESKIBBEN_REPORT` names.
 
 use crate::common::{say, seed};
 use crate::rows::{C, H};
@@ -22,11 +23,12 @@ const RANDOM: usize = 200;
 fn tool() -> PathBuf {
     let path = match env::var_os("TRESKIBBEN_REPORT") {
         Some(named) => PathBuf::from(named),
-        None => Path::new(env!("CARGO_MANIFEST_DIR")).join("../target/bin/report_sections"),
+        None => Path::new(env!("CARGO_MANIFEST_DIR"))
+            .join("../crates/report_sections/out/report_sections"),
     };
     assert!(
         path.is_file(),
-        "{} is missing: run `rt check report_sections` in the root of the repository, or let \
+        "{} is missing: run `rt run` in the crate's folder, or let \
          TRESKIBBEN_REPORT name the tool",
         path.display()
     );

@@ -54,7 +54,7 @@ mod linked {
 mod linked {
     pub fn by_halves(_: &[u8], _: &[usize], _: u64) -> usize {
         eprintln!("bench: it was built without target/staticlib/libreads.a: run `./bench reads`, which makes it, or");
-        eprintln!("`rt staticlib reads` in the root of the repository, and build bench again");
+        eprintln!("`tools/staticlib reads` in the root of the repository, and build bench again");
         std::process::exit(1)
     }
 
