@@ -1,9 +1,14 @@
 // Standard input, a section of at most 40,960 bytes, to its listing's raw bytes on standard output, or the line that
 // says its refusal. All that matters is in the library `program`.
-fn main() {
-    let mut input = io::large_buffer();
-    let length = io::read_full(libc::STDIN_FILENO, &mut input);
-    let mut output = io::large_buffer();
+#![tactic(auto)]
+
+use std::io;
+use std::io::Write;
+
+fn main(rt: HostRuntime) -> io::Result<()> {
+    let mut input = [0u8; 65536];
+    let length = inputs::read_full(&mut rt.stdin(), &mut input)?;
+    let mut output = [0u8; 65536];
     let written = program::answer(&input[..length], &mut output);
-    io::write_all(libc::STDOUT_FILENO, &output[..written]);
+    rt.stdout().write_all(&output[..written])
 }

@@ -1,20 +1,24 @@
 // The report's tool over the files that its arguments name, each of at most 65,536 bytes; a longer or unreadable one counts as refused.
 // What an operating system call reads is outside every contract; all that matters is in `report_totals` and `report_lines`.
+#![tactic(auto)]
+
 ghost use Rattle.std.specs.Prelude.{◌≡◌, length};
 
-use libc::STDOUT_FILENO;
 use report::{Kinds, Reported, Totals};
+use std::env::FillError;
+use std::io::{Print, Read, Write};
+use std::rt::{Env, Files};
+use std::{fs, io, str};
 
 // One byte more than a file may have, so that a longer one is seen.
 const ROOM: usize = 65537;
 
-// Whether the file's bytes are all there. `read_full` stops at the end and at a read that fails: one more read tells them apart.
-fn is_whole(fd: i32, got: usize) -> bool {
-    if got >= ROOM {
-        return false;
-    }
-    let mut more = [0u8; 1];
-    libc::read(fd, &mut more) == 0
+// Room for a file's name. A longer one names no file.
+const NAME_ROOM: usize = 4096;
+
+// Whether the file's bytes are all there, where no read failed: else one came beyond the most that a file may have.
+fn is_whole(got: usize) -> bool {
+    got < ROOM
 }
 
 // A file that can't be read counts as a refused section, as no bytes are one.
@@ -23,30 +27,45 @@ fn add_refused(totals: Totals) -> Reported {
     report_totals::add(&nothing[..0], totals)
 }
 
-fn add_open(fd: i32, totals: Totals) -> Reported {
+// The file's bytes count where they all came: no read failed, and the file is not too long.
+fn add_open(file: &mut impl Read, totals: Totals) -> Reported {
     let mut bytes = [0u8; ROOM];
-    let n = io::read_full(fd, &mut bytes);
-    let whole = is_whole(fd, n);
-    libc::close(fd);
-    if whole {
-        return report_totals::add(&bytes[..n], totals);
+    match inputs::read_full(file, &mut bytes) {
+        Ok(n) if is_whole(n) => report_totals::add(&bytes[..n], totals),
+        _ => add_refused(totals),
     }
-    add_refused(totals)
+}
+
+// The file that argument i names, where it can be opened. A name that is no UTF-8 can't be passed to `fs`.
+fn open_file<R: Env + Files>(rt: &R, i: usize) -> Option<R::File> {
+    let mut name = [0u8; NAME_ROOM];
+    let n = rt.arg(i, &mut name).ok()?;
+    let path = str::from_utf8(&name[..n]).ok()?;
+    fs::open(rt, path).ok()
 }
 
 // The file that argument i names.
-fn add_file(i: usize, totals: Totals) -> Reported {
-    let mut path = io::buffer();
-    let n = os::arg(i, &mut path);
-    let fd = os::open_read(&path[..n]);
-    if fd < 0 {
-        return add_refused(totals);
+fn add_file(rt: &(impl Env + Files), i: usize, totals: Totals) -> Reported {
+    match open_file(rt, i) {
+        Some(mut file) => add_open(&mut file, totals),
+        None => add_refused(totals),
     }
-    add_open(fd, totals)
+}
+
+// How many arguments there are, the program's own name among them.
+fn arg_count(rt: &impl Env) -> usize {
+    let mut count: usize = 0;
+    while count < usize::MAX {
+        if let Err(FillError::NotPresent) = rt.arg(count, &mut []) {
+            return count;
+        }
+        count += 1;
+    }
+    count
 }
 
 // All files in order; 34 ends the report.
-fn files(count: usize) -> Reported {
+fn files(rt: &(impl Env + Files), count: usize) -> Reported {
     let mut report = Reported {
         number: 0,
         place: 0,
@@ -71,7 +90,7 @@ fn files(count: usize) -> Reported {
     let mut i: usize = 1;
     while i < count {
         let totals = report.totals;
-        report = add_file(i, totals);
+        report = add_file(rt, i, totals);
         if report.number != 0 {
             return report;
         }
@@ -87,9 +106,9 @@ fn room() -> [u8; 512]
     [0; 512]
 }
 
-pub fn run() {
-    let report = files(os::arg_count());
+pub fn run(rt: &(impl Env + Files + Print)) -> io::Result<()> {
+    let report = files(rt, arg_count(rt));
     let mut out = room();
     let n = report_lines::lines(&mut out, report);
-    io::write_all(STDOUT_FILENO, &out[..n]);
+    io::writer(rt).write_all(&out[..n])
 }
