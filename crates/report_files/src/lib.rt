@@ -2,7 +2,8 @@
 // What an operating system call reads is outside every contract; all that matters is in `report_totals` and `report_lines`.
 #![tactic(auto)]
 
-ghost use Rattle.std.specs.Prelude.{◌≡◌, length};
+ghost use Rattle.std.specs.Prelude.{◌≡◌, ◌<◌, ◌≤◌, ◌⊎◌, ◌↔◌, [], length, IfSome, IsTrue};
+ghost use Rattle.report.specs.Totals.{add_section};
 
 use report::{Kinds, Reported, Totals};
 use std::env::FillError;
@@ -17,18 +18,25 @@ const ROOM: usize = 65537;
 const NAME_ROOM: usize = 4096;
 
 // Whether the file's bytes are all there, where no read failed: else one came beyond the most that a file may have.
-fn is_whole(got: usize) -> bool {
+fn is_whole(got: usize) -> bool
+    ensures { IsTrue result ↔ (got < ROOM) }
+{
     got < ROOM
 }
 
 // A file that can't be read counts as a refused section, as no bytes are one.
-fn add_refused(totals: Totals) -> Reported {
+fn add_refused(totals: Totals) -> Reported
+    ensures { result ≡ add_section [] totals }
+{
     let nothing = [0u8; 1];
     report_totals::add(&nothing[..0], totals)
 }
 
 // The file's bytes count where they all came: no read failed, and the file is not too long.
-fn add_open(file: &mut impl Read, totals: Totals) -> Reported {
+fn add_open<R: Read>(file: &mut R, totals: Totals) -> Reported
+    ensures { IfSome (R.remaining file.old) (λ bytes. (result ≡ add_section [] totals)
+        ⊎ ((length bytes ≤ 65536) × (result ≡ add_section bytes totals))) }
+{
     let mut bytes = [0u8; ROOM];
     match inputs::read_full(file, &mut bytes) {
         Ok(n) if is_whole(n) => report_totals::add(&bytes[..n], totals),
@@ -54,14 +62,12 @@ fn add_file(rt: &(impl Env + Files), i: usize, totals: Totals) -> Reported {
 
 // How many arguments there are, the program's own name among them.
 fn arg_count(rt: &impl Env) -> usize {
-    let mut count: usize = 0;
-    while count < usize::MAX {
-        if let Err(FillError::NotPresent) = rt.arg(count, &mut []) {
-            return count;
+    for i in 0..usize::MAX {
+        if let Err(FillError::NotPresent) = rt.arg(i, &mut []) {
+            return i;
         }
-        count += 1;
     }
-    count
+    usize::MAX
 }
 
 // All files in order; 34 ends the report.
@@ -87,14 +93,12 @@ fn files(rt: &(impl Env + Files), count: usize) -> Reported {
             unknown: 0,
         },
     };
-    let mut i: usize = 1;
-    while i < count {
+    for i in 1..count {
         let totals = report.totals;
         report = add_file(rt, i, totals);
         if report.number != 0 {
             return report;
         }
-        i += 1;
     }
     report
 }
