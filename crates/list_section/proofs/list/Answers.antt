@@ -1,5 +1,5 @@
 -- What is written is the front of the program's output, for the bytes that were read.
-use Rattle.std.proofs.Common.{rules, ◌≡◌, ◌<◌, take, arith, subst, length-take-le}
+use Rattle.std.proofs.Common.{rules, ◌≡◌, take, arith, subst, length-take-le}
 use Rattle.std.proofs.lemmas.Result.{on_ok_weaker}
 use Rattle.std.specs.Io.KnownBytes.{Appends}
 use Rattle.list_section.proofs.Whole.{whole, take-sets}
