@@ -1,52 +1,77 @@
 // The report's tool over the files that its arguments name, each of at most 65,536 bytes; a longer or unreadable one counts as refused.
 // What an operating system call reads is outside every contract; all that matters is in `report_totals` and `report_lines`.
-ghost use Rattle.std.specs.Prelude.{◌≡◌, length};
+#![tactic(auto)]
 
-use libc::STDOUT_FILENO;
+ghost use Rattle.std.specs.Prelude.{◌≡◌, ◌<◌, ◌≤◌, ◌⊎◌, ◌↔◌, [], length, IfSome, IsTrue};
+ghost use Rattle.report.specs.Totals.{add_section};
+
 use report::{Kinds, Reported, Totals};
+use std::env::FillError;
+use std::io::{Print, Read, Write};
+use std::rt::{Env, Files};
+use std::{fs, io, str};
 
 // One byte more than a file may have, so that a longer one is seen.
 const ROOM: usize = 65537;
 
-// Whether the file's bytes are all there. `read_full` stops at the end and at a read that fails: one more read tells them apart.
-fn is_whole(fd: i32, got: usize) -> bool {
-    if got >= ROOM {
-        return false;
-    }
-    let mut more = [0u8; 1];
-    libc::read(fd, &mut more) == 0
+// Room for a file's name. A longer one names no file.
+const NAME_ROOM: usize = 4096;
+
+// Whether the file's bytes are all there, where no read failed: else one came beyond the most that a file may have.
+fn is_whole(got: usize) -> bool
+    ensures { IsTrue result ↔ (got < ROOM) }
+{
+    got < ROOM
 }
 
 // A file that can't be read counts as a refused section, as no bytes are one.
-fn add_refused(totals: Totals) -> Reported {
+fn add_refused(totals: Totals) -> Reported
+    ensures { result ≡ add_section [] totals }
+{
     let nothing = [0u8; 1];
     report_totals::add(&nothing[..0], totals)
 }
 
-fn add_open(fd: i32, totals: Totals) -> Reported {
+// The file's bytes count where they all came: no read failed, and the file is not too long.
+fn add_open<R: Read>(file: &mut R, totals: Totals) -> Reported
+    ensures { IfSome (R.remaining file.old) (λ bytes. (result ≡ add_section [] totals)
+        ⊎ ((length bytes ≤ 65536) × (result ≡ add_section bytes totals))) }
+{
     let mut bytes = [0u8; ROOM];
-    let n = io::read_full(fd, &mut bytes);
-    let whole = is_whole(fd, n);
-    libc::close(fd);
-    if whole {
-        return report_totals::add(&bytes[..n], totals);
+    match inputs::read_full(file, &mut bytes) {
+        Ok(n) if is_whole(n) => report_totals::add(&bytes[..n], totals),
+        _ => add_refused(totals),
     }
-    add_refused(totals)
+}
+
+// The file that argument i names, where it can be opened. A name that is no UTF-8 can't be passed to `fs`.
+fn open_file<R: Env + Files>(rt: &R, i: usize) -> Option<R::File> {
+    let mut name = [0u8; NAME_ROOM];
+    let n = rt.arg(i, &mut name).ok()?;
+    let path = str::from_utf8(&name[..n]).ok()?;
+    fs::open(rt, path).ok()
 }
 
 // The file that argument i names.
-fn add_file(i: usize, totals: Totals) -> Reported {
-    let mut path = io::buffer();
-    let n = os::arg(i, &mut path);
-    let fd = os::open_read(&path[..n]);
-    if fd < 0 {
-        return add_refused(totals);
+fn add_file(rt: &(impl Env + Files), i: usize, totals: Totals) -> Reported {
+    match open_file(rt, i) {
+        Some(mut file) => add_open(&mut file, totals),
+        None => add_refused(totals),
     }
-    add_open(fd, totals)
+}
+
+// How many arguments there are, the program's own name among them.
+fn arg_count(rt: &impl Env) -> usize {
+    for i in 0..usize::MAX {
+        if let Err(FillError::NotPresent) = rt.arg(i, &mut []) {
+            return i;
+        }
+    }
+    usize::MAX
 }
 
 // All files in order; 34 ends the report.
-fn files(count: usize) -> Reported {
+fn files(rt: &(impl Env + Files), count: usize) -> Reported {
     let mut report = Reported {
         number: 0,
         place: 0,
@@ -68,14 +93,12 @@ fn files(count: usize) -> Reported {
             unknown: 0,
         },
     };
-    let mut i: usize = 1;
-    while i < count {
+    for i in 1..count {
         let totals = report.totals;
-        report = add_file(i, totals);
+        report = add_file(rt, i, totals);
         if report.number != 0 {
             return report;
         }
-        i += 1;
     }
     report
 }
@@ -87,9 +110,9 @@ fn room() -> [u8; 512]
     [0; 512]
 }
 
-pub fn run() {
-    let report = files(os::arg_count());
+pub fn run(rt: &(impl Env + Files + Print)) -> io::Result<()> {
+    let report = files(rt, arg_count(rt));
     let mut out = room();
     let n = report_lines::lines(&mut out, report);
-    io::write_all(STDOUT_FILENO, &out[..n]);
+    io::writer(rt).write_all(&out[..n])
 }

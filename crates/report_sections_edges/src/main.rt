@@ -1,4 +1,8 @@
 // The same tool on files at the edges: exactly 65,536 and 65,537 bytes, one that is absent, a directory, one named twice.
-fn main() {
-    report_files::run();
+#![tactic(auto)]
+
+use std::io;
+
+fn main(rt: HostRuntime) -> io::Result<()> {
+    report_files::run(&rt)
 }

@@ -1,4 +1,8 @@
 // The same tool without arguments.
-fn main() {
-    report_files::run();
+#![tactic(auto)]
+
+use std::io;
+
+fn main(rt: HostRuntime) -> io::Result<()> {
+    report_files::run(&rt)
 }
