@@ -1,4 +1,6 @@
 // The exported functions, for C and Rust, and nothing else.
+#![tactic(auto)]
+
 ghost use Rattle.std.specs.Prelude.{◌≡◌};
 ghost use Rattle.stackmap.specs.Check.{section_check};
 ghost use Rattle.questions.specs.Questions.{by_address, by_function, record_place, location_answer, live_out_answer};

@@ -1,0 +1,22 @@
+use mathlib.Core.Path.{refl, ap, ◌∙◌}
+use borrow.Author.Tests.{lt-leb, le-leb}
+use Rattle.stackmap.specs.declared.Verdict.{Verdict}
+use Rattle.questions.specs.Questions.{ask}
+use Rattle.moves.specs.Settle.{refused_move}
+use Rattle.treskibben_answers.specs.Answer.{move_answer}
+use Rattle.treskibben.proofs.index_lookups.treskibben_thread_by_index.Goals as goal
+
+pub returns-then-machine-gt-LAST_MACHINE : goal.returns-then-machine-gt-LAST_MACHINE
+returns-then-machine-gt-LAST_MACHINE c =
+    rw (lt-leb _ _ c.if-machine-gt-LAST_MACHINE.true)
+    (c.unknown_machine.ensures ∙ ap (λ (v : Verdict). move_answer (ask refused_move (refused_move 33 0) v)) c.check.ensures, refl, refl)
+
+pub relocate_thread_by_index-requires : goal.relocate_thread_by_index-requires
+relocate_thread_by_index-requires c = c.everything.ensures.1
+
+pub returns : goal.returns
+returns c =
+    let e = c.everything.ensures.0 in
+    let t = rw e at c.relocate_thread_by_index.ensures in
+    let m = c.machine_of-known.ensures in
+    rw (le-leb _ _ c.if-machine-gt-LAST_MACHINE.false, ← m) (c.move_answer.ensures ∙ ap move_answer t.answer_is, t.image_is, t.registers_is)

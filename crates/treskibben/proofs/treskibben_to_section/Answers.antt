@@ -1,0 +1,7 @@
+use mathlib.Core.Path.{◌∙◌}
+use Rattle.treskibben.proofs.treskibben_to_section.Goals as goal
+
+pub returns : goal.returns
+returns c =
+    let t = c.to_section.ensures in
+    (c.conversion_answer.ensures ∙ rw (t.number, t.place, t.written), t.output)
