@@ -15,13 +15,12 @@ use Rattle.moves.specs.Settle.{refused_move}
 use Rattle.editions.specs.declared.Settings as kept
 use Rattle.editions.specs.Store.{look}
 use Rattle.relocate.specs.declared.Settings.{Settings}
-use Rattle.relocate.specs.declared.Machine.TheVariants.{Amd64, Aarch64}
 use Rattle.relocate.specs.Restore.{same_machine}
 use Rattle.relocate.specs.Relocation.{answer, moved, moved_registers}
 use Rattle.thread.specs.Thread.{thread_answer, thread_image, thread_registers}
 use Rattle.editions_settings.specs.Machine.{machine_of}
 use Rattle.editions_settings.specs.Under.{by_found, under}
-use Rattle.restores.specs.Restores.{Request, with_settings}
+use Rattle.restores.specs.Restores.{with_settings}
 use Rattle.restores.specs.Moves.{stopped_of}
 use Rattle.restores_thread.specs.Threads.{thread_by}
 use Rattle.controller.specs.Profile.{profile_check}

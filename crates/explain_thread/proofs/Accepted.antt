@@ -15,7 +15,7 @@ use Rattle.moves.specs.Settle.{refused_move, accepted_move}
 use Rattle.relocate.specs.Restore.{Restore}
 use Rattle.relocate.specs.Stopped.{Stopped}
 use Rattle.relocate.specs.Relocation.{answer, Extent, extent_of}
-use Rattle.thread.specs.Thread.{Thread, shares_one, apart, judged, list_right, frames_from, frames_of, pointers_in, thread_answer}
+use Rattle.thread.specs.Thread.{Thread, shares_one, apart, list_right, frames_from, frames_of, pointers_in, thread_answer}
 use Rattle.thread.specs.Code.{Looked, Ready}
 use Rattle.thread.specs.Theorems.{Movable}
 use Rattle.thread.proofs.Judged.{judged-passes}

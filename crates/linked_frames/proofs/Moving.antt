@@ -1,7 +1,7 @@
 -- The moves of a list's frames, one after another, each by its own map and in its own registers.
 use Prim.Native.Nat.{ℕ, ◌+◌, ◌*◌, ◌-◌, ◌≤◌, ◌<◌}
 use mathlib.Core.Path.{◌≡◌, refl, sym, ap, ◌∙◌}
-use mathlib.Core.List.{List, [], ◌++◌, flatten, append_assoc, append-nil}
+use mathlib.Core.List.{List, [], ◌++◌, flatten, append_assoc}
 use native.Mathlib.Omega.{arith}
 use lib.ListN.{length, take, drop, length-append, drop_of_length-le}
 use lib.Seq.{take_at, drop_at, drop-drop}

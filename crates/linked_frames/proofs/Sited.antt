@@ -1,14 +1,13 @@
 -- Where the record of a frame's address is, over all maps.
-use Prim.Native.Nat.{ℕ, suc, ◌+◌, ◌*◌, ◌-◌, ◌≤◌, ◌<◌}
+use Prim.Native.Nat.{ℕ, suc, ◌+◌, ◌*◌, ◌-◌, ◌<◌}
 use mathlib.Core.Path.{◌≡◌, refl, sym, ap, ◌∙◌}
 use mathlib.Core.List.{List, [], ◌∷◌, ◌++◌, Memᴰ}
 use native.Mathlib.Omega.{arith}
 use lib.ListN.{length, get_or}
 use Rattle.stackmap.specs.Section.{Entry, entries}
 use Rattle.questions.specs.declared.Hits.{Hits}
-use Rattle.questions.specs.Questions.{with_address, first_of}
+use Rattle.questions.specs.Questions.{with_address}
 use Rattle.sorted.specs.Sorted.{LowerBound}
-use Rattle.moves.specs.Window.{part}
 use Rattle.linked.specs.Linked.{Map}
 use Rattle.linked.specs.Find.{MapEntry, of_map, all_with_address}
 use Rattle.thread.specs.Code.{hits_at}

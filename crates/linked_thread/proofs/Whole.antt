@@ -8,7 +8,6 @@ use native.Mathlib.Decide.{ℕ_discrete}
 use borrow.Author.Tests.{ne_eqb, lt-ltb, le-ltb}
 use lib.Dec.{ltb}
 use lib.ListN.{length}
-use Rattle.stackmap.specs.Verdict.{need}
 use Rattle.moves.specs.declared.Move.{Move}
 use Rattle.moves.specs.Table.{table_right}
 use Rattle.moves.specs.Settle.{refused_move, accepted_move}

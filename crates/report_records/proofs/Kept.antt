@@ -1,21 +1,20 @@
 -- What the walk keeps is what the records add.
-use Prim.Native.Nat.{ℕ, ◌+◌, ◌*◌, ◌-◌, ◌≤◌, ◌<◌}
-use mathlib.Core.Path.{◌≡◌, refl, sym, ap, ◌∙◌}
-use mathlib.Core.Bool.{Bool, true, false}
+use Prim.Native.Nat.{ℕ, ◌+◌, ◌≤◌}
+use mathlib.Core.Path.{◌≡◌, refl, sym, ◌∙◌}
 use mathlib.Core.List.{List, [], ◌∷◌}
 use native.Mathlib.Omega.{arith}
 use lib.ListN.{length, drop, length-drop}
 use Rattle.stackmap.specs.declared.Verdict.TheVariants.{Valid}
 use Rattle.stackmap.specs.Verdict.{shift}
-use Rattle.stackmap.specs.Section.{is_old, records_at, record_length, Entry}
+use Rattle.stackmap.specs.Section.{is_old, records_at, Entry}
 use Rattle.stackmap.specs.Record.{record_check}
 use Rattle.stackmap.proofs.Verdicts.{chain_first, shift-valid}
 use Rattle.stackmap.proofs.Within.{is-inside}
 use Rattle.stackmap.proofs.OneWalk.{fold}
 use Rattle.relocate.specs.Code.{RecordInside}
 use Rattle.report.specs.declared.Totals.{Totals}
-use Rattle.report.specs.Totals.{plus, total, of_entry, none}
-use Rattle.report.proofs.Plus.{plus_none, plus-end, plus_assoc, kinds-most, kinds-below, totals_are}
+use Rattle.report.specs.Totals.{plus, total, of_entry}
+use Rattle.report.proofs.Plus.{plus-end, plus_assoc, kinds-most, kinds-below, totals_are}
 use Rattle.report_records.specs.declared.Counts.{Counts}
 use Rattle.report_records.specs.Counts.{as_totals, grown, Most, with_entry}
 

@@ -1,21 +1,20 @@
 -- The walk over the records: it checks them and keeps what they add.
 use Prim.Native.Nat.{ℕ, ◌+◌, ◌-◌, ◌≤◌, ◌<◌}
-use mathlib.Core.Path.{◌≡◌, refl, sym, ap, ◌∙◌}
-use mathlib.Core.Bool.{Bool, true, false, true≢false}
+use mathlib.Core.Path.{◌≡◌, refl, sym, ◌∙◌}
+use mathlib.Core.Bool.{Bool, true, false}
 use mathlib.Core.List.{List}
 use native.Mathlib.Omega.{arith}
 use borrow.Author.Tests.{eqb-true, eqb-false}
 use lib.Dec.{eqb}
 use lib.ListN.{length, drop}
 use Rattle.stackmap.specs.declared.Turn.{Turn}
-use Rattle.stackmap.specs.Section.{num_constants, num_records, is_old, constants_at, records_at, record_length, entries}
+use Rattle.stackmap.specs.Section.{num_constants, is_old, records_at, record_length, entries}
 use Rattle.stackmap.specs.Check.{walk_check}
 use Rattle.stackmap.specs.Walk.{first_turn, Walkable}
 use Rattle.stackmap.proofs.OneWalk.{Folding, here-ends, fold_start, fold_on, fold_end}
 use Rattle.questions.specs.Questions.{ask}
 use Rattle.questions.proofs.Asked.{ask_stop, ask-after, ask-whole}
 use Rattle.relocate.specs.Code.{record_of, RecordInside}
-use Rattle.report.specs.declared.Totals.{Totals}
 use Rattle.report.specs.Totals.{none, no_kinds, plus, total, of_record, of_entry, total_most}
 use Rattle.report.proofs.Plus.{plus_none}
 use Rattle.report_walker.specs.declared.Place.{Place}

@@ -12,9 +12,8 @@ use Rattle.stackmap.specs.Fields.{many}
 use Rattle.stackmap.specs.Section.{Function, num_functions, is_old, constants_at, read_function, read_functions, read_section}
 use Rattle.stackmap.proofs.Steps.{mul_step, many_step}
 use Rattle.report.specs.declared.Totals.{Totals}
-use Rattle.report.specs.Totals.{total_most, none, no_kinds, plus, total, one, of_function}
+use Rattle.report.specs.Totals.{total_most, no_kinds, plus, total, one, of_function}
 use Rattle.report.proofs.Plus.{kinds-none, plus_none, plus-end, plus_assoc, totals_are}
-use Rattle.report_totals.specs.declared.Stacks.{Stacks}
 use Rattle.report_totals.specs.Sizes.{function_totals, Stacked}
 
 size-here : (old : Bool) (s : List ℕ) (p : ℕ) → (read_function old s p).stack_size ≡ word 8 s (p + 8)

@@ -1,15 +1,14 @@
 -- What a section adds, put together.
-use Prim.Native.Nat.{ℕ, ◌+◌, ◌≤◌, ◌<◌}
-use mathlib.Core.Path.{◌≡◌, refl, sym, ap, ◌∙◌}
+use Prim.Native.Nat.{ℕ, ◌<◌}
+use mathlib.Core.Path.{◌≡◌, refl, sym, ◌∙◌}
 use mathlib.Core.Bool.{Bool, true, false, true≢false}
 use mathlib.Core.List.{List}
 use native.Mathlib.Omega.{arith}
-use lib.ListN.{length}
 use Rattle.stackmap.specs.declared.Verdict.{Verdict}
 use Rattle.stackmap.specs.declared.Verdict.TheVariants.{Valid, Refused}
 use Rattle.stackmap.specs.Verdict.{chain}
 use Rattle.stackmap.specs.Section.{num_functions, read_section, entries}
-use Rattle.stackmap.specs.Check.{header_check, tables_check, walk_check, section_check}
+use Rattle.stackmap.specs.Check.{header_check, tables_check, walk_check}
 use Rattle.questions.specs.Questions.{ask}
 use Rattle.questions.proofs.Asked.{ask-refused, ask-begun}
 use Rattle.report.specs.declared.Totals.{Totals}
@@ -18,7 +17,6 @@ use Rattle.report.proofs.Plus.{kinds-start, totals_are, fits_each}
 use Rattle.report_records.specs.declared.Counts.{Counts}
 use Rattle.report_records.specs.Counts.{as_totals}
 use Rattle.report_totals.specs.declared.Stacks.{Stacks}
-use Rattle.report_totals.specs.declared.Share.{Share}
 use Rattle.report_totals.specs.Sizes.{one_section, function_totals, Stacked, Tallied}
 
 module _ (s : List ℕ) where

@@ -1,4 +1,3 @@
-use Prim.Native.Nat.{◌-◌}
 use native.Mathlib.Omega.{arith}
 use Rattle.relocate.specs.Restore.{restore}
 use Rattle.thread.specs.Thread.{thread_of}

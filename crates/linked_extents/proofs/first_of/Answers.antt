@@ -1,6 +1,4 @@
-use Prim.Native.Nat.{◌-◌}
 use mathlib.Core.Path.{sym, ◌∙◌}
-use mathlib.Core.Logic.{⊎_elim}
 use native.Mathlib.Omega.{arith}
 use Rattle.thread_extents.proofs.Earlier.{keeping_start, keeping_stop, keeping_empty, keeping_kept, keeping_end}
 use Rattle.linked_moves.specs.Thread.{extent_over}
