@@ -544,7 +544,7 @@ treskibben_answer treskibben_relocate(const uint8_t *section, size_t length, uin
  *   0       all frames are moved                                     0
  *
  * A list of no frames, with no registers, is accepted, with 0 pointers. The section is not walked again for
- * each frame. The call needs about 263 KiB of stack, treskibben_relocate about 7 KiB and
+ * each frame. The call needs about 263 KiB of stack, treskibben_relocate about 8 KiB and
  * treskibben_find_all_by_index about 33 KiB; treskibben_flat_find needs 1 MiB where frames name over 16,777,216 records in all.
  */
 treskibben_answer treskibben_thread(const uint8_t *section, size_t length, uint8_t *image,

@@ -15,12 +15,20 @@ use std::process::{Command, Output};
 
 const PACKAGE: &str = env!("CARGO_MANIFEST_DIR");
 
-/// A folder in which `samples` and `tools` are those of the repository.
+/// A folder in which `samples` and `tools` are those of the repository. It stands outside, and goes with the test: `rt` refuses a
+/// repository that has a link.
 struct Place(PathBuf);
+
+impl Drop for Place {
+    fn drop(&mut self) {
+        let _ = fs::remove_dir_all(&self.0);
+    }
+}
 
 impl Place {
     fn new(name: &str) -> Place {
-        let folder = Path::new(env!("CARGO_TARGET_TMPDIR")).join(name);
+        let own = format!("treskibben-{name}.{}", std::process::id());
+        let folder = std::env::temp_dir().join(own);
         let _ = fs::remove_dir_all(&folder);
         fs::create_dir_all(folder.join("bin")).unwrap();
         for name in ["samples", "tools"] {
