@@ -6,7 +6,7 @@ use mathlib.Core.List.{List}
 use lib.ListN.{length}
 use lib.Seq.{sets}
 use Rattle.wire.specs.Word.{Bytes}
-use Rattle.stackmap.specs.declared.Verdict.TheVariants.{Refused}
+use Rattle.stackmap.specs.Verdict.{Refused}
 use Rattle.stackmap.specs.Section.{encode_section}
 use Rattle.stackmap.proofs.Back.{encoded-length}
 use Rattle.listing.specs.Listing.{read_items, items_of, read_listing, give, to_section}

@@ -1,7 +1,7 @@
 -- What is shown of the controller's moves and threads.
 use Rattle.std.specs.Prelude.{ℕ, ◌≤◌, ◌≡◌, true}
 use mathlib.Core.List.{List, map, Permᴰ}
-use Rattle.stackmap.specs.declared.Verdict.TheVariants.{Refused}
+use Rattle.stackmap.specs.Verdict.{Refused}
 use Rattle.moves.specs.Settle.{refused_move}
 use Rattle.relocate.specs.Restore.{Restore}
 use Rattle.relocate.specs.Stopped.{Stopped}

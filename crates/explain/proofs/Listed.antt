@@ -6,7 +6,7 @@ use mathlib.Core.List.{List, [], ◌∷◌, ◌++◌, map, map-append, flatten, 
 use native.Mathlib.Omega.{arith}
 use borrow.Author.Tests.{eqb-true, eq-eqb}
 use lib.ListN.{length}
-use Rattle.stackmap.specs.declared.Verdict.TheVariants.{Valid}
+use Rattle.stackmap.specs.Verdict.{Valid}
 use Rattle.stackmap.specs.Check.{section_check}
 use Rattle.moves.specs.Slots.{Slot, memory, register, same}
 use Rattle.moves.specs.Pointers.{Pointer, null, slots}

@@ -12,8 +12,8 @@ use lib.Dec.{eqb, leb}
 use lib.ListN.{length, drop, length-map}
 use Rattle.wire.specs.Word.{Bytes, word}
 use Rattle.wire.proofs.Laws.{word_bound, word-drop}
-use Rattle.stackmap.specs.declared.Verdict.{Verdict}
-use Rattle.stackmap.specs.declared.Verdict.TheVariants.{Valid}
+use Rattle.stackmap.specs.Verdict.{Verdict}
+use Rattle.stackmap.specs.Verdict.{Valid}
 use Rattle.stackmap.specs.Verdict.{shift}
 use Rattle.stackmap.specs.Section.{Record, Owner, Entry, address, num_records, is_old, records_at, read_functions, read_record, read_records, record_owners, entries_from, entries}
 use Rattle.stackmap.specs.Record.{record_check}

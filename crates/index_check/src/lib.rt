@@ -4,7 +4,7 @@
 
 ghost use Rattle.std.specs.Prelude.{◌≡◌, false, ◌≤◌, length, eqb, leb};
 ghost use Rattle.stackmap.specs.Section.{num_records, is_old, records_at, entries};
-ghost use Rattle.stackmap.specs.declared.Verdict.TheVariants.{Valid};
+ghost use Rattle.stackmap.specs.Verdict.{Valid};
 ghost use Rattle.stackmap.specs.Check.{Accepted, walk_check};
 ghost use Rattle.stackmap.specs.Walk.{Walkable};
 ghost use Rattle.stackmap.specs.Layout.{header_size};

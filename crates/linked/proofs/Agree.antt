@@ -9,8 +9,8 @@ use lib.ListN.{length, get_or, drop}
 use lib.Dec.{eqb, leb}
 use lib.Seq.{get_or-drop}
 use Rattle.wire.specs.Word.{word}
-use Rattle.stackmap.specs.declared.Verdict.{Verdict}
-use Rattle.stackmap.specs.declared.Verdict.TheVariants.{Valid}
+use Rattle.stackmap.specs.Verdict.{Verdict}
+use Rattle.stackmap.specs.Verdict.{Valid}
 use Rattle.stackmap.specs.Layout.{function_size, location_size, location_offset_at}
 use Rattle.stackmap.specs.Verdict.{must, chain, pick}
 use Rattle.stackmap.specs.Fields.{many}

@@ -9,8 +9,8 @@ use borrow.Author.Tests.{le-leb, leb-true, eq-eqb, ne_eqb, eqb-false}
 use lib.Dec.{eqb}
 use lib.ListN.{length, get_or, take, drop, length-drop, length-append, get_or-append}
 use lib.Seq.{length-take-le, get_or-take}
-use Rattle.stackmap.specs.declared.Verdict.{Verdict}
-use Rattle.stackmap.specs.declared.Verdict.TheVariants.{Valid, Refused}
+use Rattle.stackmap.specs.Verdict.{Verdict}
+use Rattle.stackmap.specs.Verdict.{Valid, Refused}
 use Rattle.stackmap.specs.Layout.{function_size}
 use Rattle.stackmap.specs.Verdict.{must, chain, bind, shift}
 use Rattle.stackmap.specs.Section.{num_functions, num_constants, num_records, is_old, constants_at, records_at, record_length, read_function, read_functions, read_records, Owner, entries}

@@ -8,7 +8,7 @@ use native.Mathlib.Omega.{arith}
 use native.Mathlib.Nat.{add-zero, zero-add}
 use lib.ListN.{length, take, drop, length-drop, length-append, take-append-drop}
 use lib.Seq.{take-append_seam, drop-append_seam}
-use Rattle.stackmap.specs.declared.Verdict.TheVariants.{Refused}
+use Rattle.stackmap.specs.Verdict.{Refused}
 use Rattle.stackmap.specs.Check.{section_check, Accepted}
 use Rattle.linked.specs.Linked.{Map, map_at, Cut, maps, refusal, before, cut_from, cut}
 use Rattle.linked.specs.Laws.{EachAccepted, joined, laid, contents, Joined, BoundSuffices}

@@ -1,7 +1,7 @@
 -- What the definitions of a linked section are, said in other words.
 use Rattle.std.specs.Prelude.{ℕ, ◌+◌, ◌≤◌, ◌<◌, ◌≡◌, true, false, length}
 use mathlib.Core.List.{List, [], ◌∷◌, ◌++◌, map, Memᴰ}
-use Rattle.stackmap.specs.declared.Verdict.TheVariants.{Refused}
+use Rattle.stackmap.specs.Verdict.{Refused}
 use Rattle.stackmap.specs.Layout.{section_most}
 use Rattle.stackmap.specs.Verdict.{number_of}
 use Rattle.stackmap.specs.Section.{is_old}

@@ -2,8 +2,8 @@
 -- words `Map`, `Cut` and "linked section" are coined here. A map is what document 01 calls a section, and each is checked by document
 -- 01's check. Where this gives 9, the map ends there and the next one begins: nothing lies between two maps.
 use Rattle.std.specs.Prelude.{ℕ, zero, suc, ◌+◌, ◌*◌, cond, List, [], ◌∷◌, ◌++◌, eqb, leb, length, take, drop}
-use Rattle.stackmap.specs.declared.Verdict.{Verdict}
-use Rattle.stackmap.specs.declared.Verdict.TheVariants.{Valid, Refused}
+use Rattle.stackmap.specs.Verdict.{Verdict}
+use Rattle.stackmap.specs.Verdict.{Valid, Refused}
 use Rattle.stackmap.specs.Verdict.{need}
 use Rattle.stackmap.specs.Check.{section_check}
 

@@ -7,8 +7,8 @@ use native.Mathlib.Numerals.{add-one}
 use native.Mathlib.Decide.{ℕ_discrete}
 use lib.ListN.{length, get_or, drop, set, length-drop, length-set}
 use lib.Seq.{get_or-set_same, get_or-set_other}
-use Rattle.stackmap.specs.declared.Verdict.{Verdict}
-use Rattle.stackmap.specs.declared.Verdict.TheVariants.{Valid, Refused}
+use Rattle.stackmap.specs.Verdict.{Verdict}
+use Rattle.stackmap.specs.Verdict.{Valid, Refused}
 use Rattle.stackmap.specs.Verdict.{shift}
 use Rattle.stackmap.specs.Check.{section_check, Accepted}
 use Rattle.stackmap.proofs.Verdicts.{never, shift-valid}

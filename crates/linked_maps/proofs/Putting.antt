@@ -8,7 +8,7 @@ use native.Mathlib.Numerals.{add-one}
 use borrow.Author.Tests.{le-leb, lt-leb}
 use lib.ListN.{length, get_or, take, drop, set, length-drop, length-set}
 use lib.Seq.{sets, sets-eq}
-use Rattle.stackmap.specs.declared.Verdict.TheVariants.{Refused}
+use Rattle.stackmap.specs.Verdict.{Refused}
 use Rattle.stackmap.specs.Verdict.{shift}
 use Rattle.linked.specs.declared.Maps.{Maps}
 use Rattle.linked.specs.Linked.{Map, map_at, Cut, maps, refusal, cut, numbers_of, MapsListed, not_listed, list_maps, maps_of, ask_maps}

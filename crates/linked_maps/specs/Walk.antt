@@ -1,8 +1,8 @@
 -- For the code alone: nothing here has to be believed.
 -- What a walk over the maps of a linked section has counted, and the ends that it has kept.
 use Rattle.std.specs.Prelude.{ℕ, zero, suc, ◌+◌, ◌<◌, ◌≡◌, List, [], length, get_or, drop}
-use Rattle.stackmap.specs.declared.Verdict.{Verdict}
-use Rattle.stackmap.specs.declared.Verdict.TheVariants.{Valid, Refused}
+use Rattle.stackmap.specs.Verdict.{Verdict}
+use Rattle.stackmap.specs.Verdict.{Valid, Refused}
 use Rattle.stackmap.specs.Verdict.{shift}
 use Rattle.stackmap.specs.Check.{section_check}
 use Rattle.linked.specs.Linked.{Map, Cut, maps, refusal}

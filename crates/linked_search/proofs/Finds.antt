@@ -8,7 +8,7 @@ use borrow.Author.Tests.{le-leb, lt-leb}
 use lib.ListN.{length, get_or, set, drop, take}
 use lib.Seq.{get_or-set_same, get_or-set_other, get_or-drop}
 use Rattle.wire.specs.Word.{Bytes}
-use Rattle.stackmap.specs.declared.Verdict.TheVariants.{Refused}
+use Rattle.stackmap.specs.Verdict.{Refused}
 use Rattle.stackmap.specs.Verdict.{must, chain}
 use Rattle.stackmap.specs.Section.{record_length, Entry, entries}
 use Rattle.stackmap.specs.Check.{header_check, section_check, Accepted}

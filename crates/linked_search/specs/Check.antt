@@ -1,7 +1,7 @@
 -- The verdict on a linked section: the refusal of its maps, or 27 at the first byte of a map of version 1.
 use Rattle.std.specs.Prelude.{ℕ, List, length}
-use Rattle.stackmap.specs.declared.Verdict.{Verdict}
-use Rattle.stackmap.specs.declared.Verdict.TheVariants.{Valid, Refused}
+use Rattle.stackmap.specs.Verdict.{Verdict}
+use Rattle.stackmap.specs.Verdict.{Valid, Refused}
 use Rattle.linked.specs.Linked.{cut, ask_maps}
 use Rattle.linked.specs.Find.{none_old}
 

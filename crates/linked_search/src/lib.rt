@@ -4,7 +4,7 @@
 #![tactic(auto)]
 
 ghost use Rattle.std.specs.Prelude.{◌≡◌, true, cond, List, ℕ, ◌+◌, ◌*◌, ◌≤◌, ◌<◌, eqb, length, drop, get_or, set};
-ghost use Rattle.stackmap.specs.declared.Verdict.TheVariants.{Valid};
+ghost use Rattle.stackmap.specs.Verdict.{Valid};
 ghost use Rattle.stackmap.specs.Verdict.{shift};
 ghost use Rattle.stackmap.specs.Section.{is_old, entries};
 ghost use Rattle.questions.specs.Kept.{no_hits};

@@ -7,8 +7,8 @@ use native.Mathlib.Omega.{arith}
 use native.Mathlib.Nat.{zero-add}
 use lib.ListN.{length, set}
 use Rattle.wire.specs.Word.{bytes}
-use Rattle.stackmap.specs.declared.Verdict.{Verdict}
-use Rattle.stackmap.specs.declared.Verdict.TheVariants.{Valid, Refused}
+use Rattle.stackmap.specs.Verdict.{Verdict}
+use Rattle.stackmap.specs.Verdict.{Valid, Refused}
 use Rattle.stackmap.specs.Layout.{function_size}
 use Rattle.stackmap.specs.Fields.{bytes_of, size, all, many}
 use Rattle.stackmap.specs.Section.{Function, section_fields, num_functions, num_constants, num_records, is_old, records_at, read_function, read_constant, read_functions, read_records, read_section}

@@ -8,7 +8,7 @@ use native.Mathlib.Omega.{arith}
 use native.Mathlib.Nat.{one-le-pow}
 use borrow.Author.Tests.{le-leb, leb-true}
 use lib.ListN.{length}
-use Rattle.stackmap.specs.declared.Verdict.TheVariants.{Valid}
+use Rattle.stackmap.specs.Verdict.{Valid}
 use Rattle.stackmap.specs.Layout.{version_number, locations_padding}
 use Rattle.stackmap.specs.Fields.{size, Field, Fit, all}
 use Rattle.stackmap.specs.Section.{Encodable, Function, LiveOut, Location, Record, Section, constant_fields, function_fields, live_out_fields, location_fields, record_head, record_middle, record_end, record_fields, section_header, section_fields}

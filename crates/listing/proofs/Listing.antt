@@ -16,7 +16,7 @@ use Rattle.stackmap.specs.Verdict.{chain, must}
 use Rattle.stackmap.proofs.Fields.{Has, fields_back, has-bytes, has_fit, join, length-bytes_of, many-back, size-all, size-append, size-many, split}
 use Rattle.stackmap.proofs.Items.{byte_word}
 use Rattle.stackmap.proofs.Verdicts.{chain_first, chain-rest, must-held, must-rest}
-use Rattle.stackmap.specs.declared.Verdict.TheVariants.{Valid}
+use Rattle.stackmap.specs.Verdict.{Valid}
 use Rattle.listing.specs.Listing.{function_item, constant_item, record_item, location_item, live_out_item, end_item, record_items, version_item}
 use Rattle.listing.specs.Listing.{item_fields, listing_fields, encode_listing, stands, run, listed_function, listed_constant, listed_location}
 use Rattle.listing.specs.Listing.{listed_live_out, listed_locations, listed_live_outs, listed_record, record_stop, listed_records, records_stop}

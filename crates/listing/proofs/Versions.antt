@@ -12,7 +12,7 @@ use Rattle.wire.specs.Word.{Bytes}
 use Rattle.stackmap.specs.Fields.{Field, Fit, bytes_of, size}
 use Rattle.stackmap.specs.Section.{Encodable, Section}
 use Rattle.stackmap.specs.Verdict.{must, shift}
-use Rattle.stackmap.specs.declared.Verdict.TheVariants.{Valid}
+use Rattle.stackmap.specs.Verdict.{Valid}
 use Rattle.stackmap.proofs.Fields.{bytes_of-append, fields_back, has-bytes, length-bytes_of}
 use Rattle.stackmap.proofs.Items.{byte_word}
 use Rattle.stackmap.proofs.Tests.{and_true}

@@ -10,8 +10,8 @@ use Rattle.listing.specs.Layout.{live_out_item_size, end_item_size}
 use Rattle.stackmap.specs.Section.{Function, LiveOut, Location, Record, Section, encode_section, read_section}
 use Rattle.stackmap.specs.Layout.{version_number}
 use Rattle.stackmap.specs.Verdict.{chain, must, shift}
-use Rattle.stackmap.specs.declared.Verdict.{Verdict}
-use Rattle.stackmap.specs.declared.Verdict.TheVariants.{Valid, Refused}
+use Rattle.stackmap.specs.Verdict.{Verdict}
+use Rattle.stackmap.specs.Verdict.{Valid, Refused}
 
 -- Items are one byte of kind, then a body whose length the kind fixes.
 

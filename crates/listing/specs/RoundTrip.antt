@@ -1,7 +1,7 @@
 -- Demand 2: section to listing to section, or listing to section to listing, gives the same bytes for all that is accepted.
 use Rattle.std.specs.Prelude.{ℕ, ◌≤◌, ◌≡◌, true, length, take}
 use mathlib.Core.List.{List, Memᴰ}
-use Rattle.stackmap.specs.declared.Verdict.TheVariants.{Valid}
+use Rattle.stackmap.specs.Verdict.{Valid}
 use Rattle.wire.specs.Word.{Bytes}
 use Rattle.listing.specs.Layout.{listing_most}
 use Rattle.stackmap.specs.Section.{Encodable, Function, Section}

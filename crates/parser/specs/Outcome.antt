@@ -1,8 +1,8 @@
 -- For the code alone: nothing here has to be believed.
 -- What a listing comes to, for each case of an outcome.
 use Rattle.std.specs.Prelude.{ℕ, ◌+◌, ◌*◌, ◌≤◌, ◌≡◌, Bool, List, length}
-use Rattle.stackmap.specs.declared.Verdict.{Verdict}
-use Rattle.stackmap.specs.declared.Verdict.TheVariants as verdict
+use Rattle.stackmap.specs.Verdict.{Verdict}
+use Rattle.stackmap.specs.Verdict as verdict
 use Rattle.stackmap.specs.Layout.{header_size, function_size, constant_size}
 use Rattle.stackmap.specs.Verdict.{chain}
 use Rattle.stackmap.specs.Fault.{section_fault}

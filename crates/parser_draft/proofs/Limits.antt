@@ -10,7 +10,7 @@ use Rattle.wire.specs.Word.{word}
 use Rattle.stackmap.specs.Verdict.{must, chain}
 use Rattle.stackmap.specs.Fields.{many}
 use Rattle.stackmap.specs.Section.{Record}
-use Rattle.stackmap.specs.declared.Verdict.TheVariants.{Valid}
+use Rattle.stackmap.specs.Verdict.{Valid}
 use Rattle.stackmap.proofs.Steps.{many_step}
 use Rattle.listing.specs.Layout.{record_kind, record_item_size}
 use Rattle.listing.specs.Listing.{stands, listed_function, listed_location, listed_record, no_counts, small_sizes, all_small_sizes}

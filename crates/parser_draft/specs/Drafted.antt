@@ -1,7 +1,7 @@
 -- For the code alone: nothing here has to be believed.
 -- What the items of a listing come to: refused, or all that was counted in them.
 use Rattle.std.specs.Prelude.{ℕ, ◌≤◌, ◌≡◌, Bool, List, length}
-use Rattle.stackmap.specs.declared.Verdict.TheVariants as verdict
+use Rattle.stackmap.specs.Verdict as verdict
 use Rattle.listing.specs.Listing.{items_check}
 use Rattle.parser_items.specs.Draft.{Whole}
 use Rattle.parser_draft.specs.declared.Draft.{Draft}

@@ -9,8 +9,8 @@ use native.Mathlib.Nat.{add-zero, add_assoc}
 use lib.ListN.{get_or}
 use lib.Dec.{leb, eqb, ltb}
 use Rattle.wire.specs.Word.{word}
-use Rattle.stackmap.specs.declared.Verdict.{Verdict}
-use Rattle.stackmap.specs.declared.Verdict.TheVariants.{Valid, Refused}
+use Rattle.stackmap.specs.Verdict.{Verdict}
+use Rattle.stackmap.specs.Verdict.{Valid, Refused}
 use Rattle.stackmap.specs.Layout.{location_size}
 use Rattle.stackmap.specs.Verdict.{must, chain, pick, shift}
 use Rattle.stackmap.specs.Fields.{many, size}

@@ -7,7 +7,7 @@ use native.Mathlib.Omega.{arith}
 use borrow.Author.Tests.{le-leb, lt-leb}
 use lib.ListN.{length}
 use lib.Dec.{leb}
-use Rattle.stackmap.specs.declared.Verdict.TheVariants.{Refused}
+use Rattle.stackmap.specs.Verdict.{Refused}
 use Rattle.stackmap.specs.Fields.{size, all}
 use Rattle.stackmap.specs.Section.{record_fields}
 use Rattle.stackmap.specs.Verdict.{must}

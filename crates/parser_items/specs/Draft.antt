@@ -1,7 +1,7 @@
 -- For the code alone: nothing here has to be believed.
 -- What was counted in the items of a listing that is as it should be.
 use Rattle.std.specs.Prelude.{ℕ, ◌≤◌, ◌≡◌, Bool, List, length}
-use Rattle.stackmap.specs.declared.Verdict.TheVariants as verdict
+use Rattle.stackmap.specs.Verdict as verdict
 use Rattle.listing.specs.Listing.{not_too_many, items_check}
 use Rattle.parser_items.specs.Survey.{records_from, records_after, Planned}
 

@@ -1,8 +1,8 @@
 -- For the code alone: nothing here has to be believed.
 -- Refusals 22 and 23 of a listing whose records begin at a place.
 use Rattle.std.specs.Prelude.{ℕ, ◌+◌, ◌≤◌, List, length, eqb}
-use Rattle.stackmap.specs.declared.Verdict.{Verdict}
-use Rattle.stackmap.specs.declared.Verdict.TheVariants.{Valid, Refused}
+use Rattle.stackmap.specs.Verdict.{Verdict}
+use Rattle.stackmap.specs.Verdict.{Valid, Refused}
 use Rattle.stackmap.specs.Verdict.{must, chain}
 use Rattle.listing.specs.Layout.{end_kind, end_item_size}
 use Rattle.listing.specs.Listing.{stands, not_too_many}

@@ -1,7 +1,7 @@
 -- For the code alone: nothing here has to be believed.
 -- What a pass over the records of a listing finds. Here and in the other modules the listing is what follows the version's item.
 use Rattle.std.specs.Prelude.{ℕ, ◌+◌, ◌*◌, ◌≤◌, ◌≡◌, List, Bool, true, false, length}
-use Rattle.stackmap.specs.declared.Verdict.TheVariants.{Refused}
+use Rattle.stackmap.specs.Verdict.{Refused}
 use Rattle.stackmap.specs.Layout.{record_head_size, location_size, locations_padding, live_out_size, live_outs_padding}
 use Rattle.stackmap.specs.Fields.{size, all, many}
 use Rattle.stackmap.specs.Section.{Function, Record, record_fields}

@@ -5,8 +5,8 @@ use mathlib.Core.List.{List, [], ◌∷◌}
 use mathlib.Core.Bool.{Bool, true, false}
 use native.Mathlib.Omega.{arith}
 use lib.ListN.{length}
-use Rattle.stackmap.specs.declared.Verdict.{Verdict}
-use Rattle.stackmap.specs.declared.Verdict.TheVariants.{Valid}
+use Rattle.stackmap.specs.Verdict.{Verdict}
+use Rattle.stackmap.specs.Verdict.{Valid}
 use Rattle.stackmap.specs.Verdict.{chain, shift}
 use Rattle.stackmap.specs.Fields.{size, all}
 use Rattle.stackmap.specs.Section.{Record, record_fields, Owner, record_owners, address, entries_from}

@@ -1,7 +1,7 @@
 -- What the program writes, by document 01, "The program": the listing's raw bytes, or the line that says the refusal.
 use Rattle.std.specs.Prelude.{ℕ, cond, List, length, leb}
-use Rattle.stackmap.specs.declared.Verdict.{Verdict}
-use Rattle.stackmap.specs.declared.Verdict.TheVariants.{Valid, Refused}
+use Rattle.stackmap.specs.Verdict.{Verdict}
+use Rattle.stackmap.specs.Verdict.{Valid, Refused}
 use Rattle.stackmap.specs.Section.{read_section}
 use Rattle.stackmap.specs.Check.{section_check}
 use Rattle.listing.specs.Listing.{encode_listing}

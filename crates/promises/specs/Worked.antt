@@ -1,8 +1,8 @@
 -- Document 01's worked table, with document 02's change of row D and some rows of version 1: what is asked, and what is answered.
 use Rattle.std.specs.Prelude.{ℕ, zero, suc, ◌≡◌, Bool, true, false, List, [], ◌∷◌, ◌++◌, map, replicate}
 use Rattle.wire.specs.Word.{bytes}
-use Rattle.stackmap.specs.declared.Verdict.{Verdict}
-use Rattle.stackmap.specs.declared.Verdict.TheVariants.{Valid, Refused}
+use Rattle.stackmap.specs.Verdict.{Verdict}
+use Rattle.stackmap.specs.Verdict.{Valid, Refused}
 use Rattle.stackmap.specs.Section.{Location, is_old, encode_section}
 use Rattle.stackmap.specs.Check.{section_check}
 use Rattle.listing.specs.Listing.{Converted, to_listing, to_section}

@@ -10,8 +10,8 @@ use native.Mathlib.Decide.{dec_lt}
 use borrow.Author.Tests.{ne_eqb, le-leb, lt-leb}
 use lib.Dec.{eqb}
 use lib.ListN.{length}
-use Rattle.stackmap.specs.declared.Verdict.{Verdict}
-use Rattle.stackmap.specs.declared.Verdict.TheVariants.{Valid, Refused}
+use Rattle.stackmap.specs.Verdict.{Verdict}
+use Rattle.stackmap.specs.Verdict.{Valid, Refused}
 use Rattle.stackmap.specs.Section.{Function, Owner, Entry, address, num_functions, is_old, read_function, entries}
 use Rattle.stackmap.specs.Check.{section_check, Accepted}
 use Rattle.stackmap.specs.Walk.{function_at, function_number}

@@ -1,8 +1,8 @@
 -- For the code alone: nothing here has to be believed.
 -- What one walk tells of a section that other bytes may follow.
 use Rattle.std.specs.Prelude.{ℕ, ◌^◌, ◌≤◌, ◌<◌, List}
-use Rattle.stackmap.specs.declared.Verdict.{Verdict}
-use Rattle.stackmap.specs.declared.Verdict.TheVariants.{Valid, Refused}
+use Rattle.stackmap.specs.Verdict.{Verdict}
+use Rattle.stackmap.specs.Verdict.{Valid, Refused}
 use Rattle.stackmap.specs.Verdict.{chain}
 use Rattle.stackmap.specs.Section.{num_constants, num_records, is_old, records_at, read_functions, record_owners, entries}
 use Rattle.stackmap.specs.Check.{header_check, tables_check, records_check}

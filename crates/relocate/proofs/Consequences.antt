@@ -10,8 +10,8 @@ use lib.ListN.{length}
 use Rattle.wire.specs.Word.{Bytes}
 use Rattle.wire.proofs.Laws.{word_bound}
 use Rattle.stackmap.specs.Section.{Entry, is_old, read_section}
-use Rattle.stackmap.specs.declared.Verdict.{Verdict}
-use Rattle.stackmap.specs.declared.Verdict.TheVariants.{Valid, Refused}
+use Rattle.stackmap.specs.Verdict.{Verdict}
+use Rattle.stackmap.specs.Verdict.{Valid, Refused}
 use Rattle.stackmap.specs.Check.{section_check}
 use Rattle.moves.specs.declared.Move.{Move}
 use Rattle.moves.specs.Window.{part, splice}

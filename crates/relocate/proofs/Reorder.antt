@@ -11,7 +11,7 @@ use native.Mathlib.Omega.{arith}
 use lib.Dec.{eqb, leb}
 use lib.ListN.{length, get_elem?}
 use Rattle.wire.specs.Word.{Bytes}
-use Rattle.stackmap.specs.declared.Verdict.TheVariants.{Valid}
+use Rattle.stackmap.specs.Verdict.{Valid}
 use Rattle.stackmap.specs.Verdict.{need}
 use Rattle.stackmap.specs.Section.{Function, Section, is_old, read_section, Owner, Entry, address, entries}
 use Rattle.stackmap.specs.Check.{section_check}

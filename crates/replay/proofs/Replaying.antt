@@ -5,7 +5,7 @@ use mathlib.Core.Bool.{Bool, true, false, cond}
 use mathlib.Core.List.{List, [], ◌∷◌, map}
 use native.Mathlib.Omega.{arith}
 use lib.ListN.{length}
-use Rattle.stackmap.specs.declared.Verdict.TheVariants.{Refused}
+use Rattle.stackmap.specs.Verdict.{Refused}
 use Rattle.stackmap.specs.Fields.{many}
 use Rattle.stackmap.specs.Check.{section_check}
 use Rattle.questions.specs.Questions.{ask}

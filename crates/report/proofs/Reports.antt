@@ -5,8 +5,8 @@ use mathlib.Core.Bool.{Bool, true, false, true≢false}
 use mathlib.Core.List.{List, [], ◌∷◌, ◌++◌}
 use native.Mathlib.Omega.{arith}
 use lib.ListN.{length}
-use Rattle.stackmap.specs.declared.Verdict.{Verdict}
-use Rattle.stackmap.specs.declared.Verdict.TheVariants.{Valid, Refused}
+use Rattle.stackmap.specs.Verdict.{Verdict}
+use Rattle.stackmap.specs.Verdict.{Valid, Refused}
 use Rattle.stackmap.specs.Section.{read_section, entries}
 use Rattle.stackmap.specs.Check.{section_check}
 use Rattle.questions.specs.Questions.{ask}

@@ -1,8 +1,8 @@
 -- For the code alone: nothing here has to be believed.
 -- Where a walker can stand, and what a step from there gives.
 use Rattle.std.specs.Prelude.{ℕ, ◌+◌, ◌-◌, ◌≤◌, ◌<◌, ◌≡◌, false, List, length, drop}
-use Rattle.stackmap.specs.declared.Verdict.{Verdict}
-use Rattle.stackmap.specs.declared.Verdict.TheVariants.{Valid, Refused}
+use Rattle.stackmap.specs.Verdict.{Verdict}
+use Rattle.stackmap.specs.Verdict.{Valid, Refused}
 use Rattle.stackmap.specs.Verdict.{shift}
 use Rattle.stackmap.specs.Section.{num_functions, num_constants, num_records, is_old, constants_at, records_at}
 use Rattle.stackmap.specs.Record.{record_check}

@@ -8,7 +8,7 @@ use mathlib.Core.Logic.{⊎_elim}
 use native.Mathlib.Omega.{arith}
 use lib.ListN.{length, drop, replicate}
 use Rattle.wire.specs.Word.{Bytes}
-use Rattle.stackmap.specs.declared.Verdict.TheVariants.{Valid}
+use Rattle.stackmap.specs.Verdict.{Valid}
 use Rattle.stackmap.specs.Layout.{function_size}
 use Rattle.stackmap.specs.Fields.{size, all, many}
 use Rattle.stackmap.specs.Section.{Record, record_fields, section_fields, num_functions, num_records, records_at, read_function, read_constant, record_length, read_record, read_records, read_functions, is_old, read_section, Owner, nobody, owners, record_owners, Entry, entries_from, entries_of, entries}

@@ -11,7 +11,7 @@ use lib.ListN.{length, get_or, drop}
 use lib.Seq.{drop-length}
 use Rattle.wire.specs.Word.{Bytes, word}
 use Rattle.wire.proofs.Laws.{word-drop}
-use Rattle.stackmap.specs.declared.Verdict.TheVariants.{Valid}
+use Rattle.stackmap.specs.Verdict.{Valid}
 use Rattle.stackmap.specs.Layout.{version_number, function_size, location_size, locations_padding}
 use Rattle.stackmap.specs.Fields.{Field, ◌of◌, size, all, many}
 use Rattle.stackmap.specs.Section.{function_fields, constant_fields, location_fields, live_out_fields, record_fields, section_fields, encode_section, Encodable, num_functions, num_constants, num_records, constants_at, records_at, read_function, read_constant, read_location, read_live_out, num_locations, locations_end, num_live_outs, record_length, read_record, read_records, read_functions, is_old, read_section, Owner, record_owners}

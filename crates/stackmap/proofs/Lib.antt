@@ -1,3 +1,4 @@
+pub mod Passed
 pub mod Verdicts
 pub mod Tests
 pub mod Steps

@@ -6,7 +6,7 @@ use mathlib.Core.List.{List, [], ◌∷◌}
 use native.Mathlib.Omega.{arith}
 use native.Mathlib.Numerals.{add-one}
 use lib.ListN.{length, drop}
-use Rattle.stackmap.specs.declared.Verdict.TheVariants.{Valid}
+use Rattle.stackmap.specs.Verdict.{Valid}
 use Rattle.stackmap.specs.declared.Turn.{Turn}
 use Rattle.stackmap.specs.Verdict.{shift}
 use Rattle.stackmap.specs.Section.{num_functions, num_records, records_at, record_length, read_records, is_old, Owner, Entry, entries_from, entries}

@@ -110,3 +110,34 @@ pub owners-some : (read : List ℕ → ℕ → Function) (step n : ℕ) (s : Lis
 unfolding many owners
 owners-some read step zero s at i h = h
 owners-some read step (suc n) s at i h = omega arith
+
+-- The same for a loop that counts up: turn number i of n.
+
+fewer : (n i : ℕ) → n - i - 1 ≡ n - (i + 1)
+fewer n i = omega arith
+
+pub next_place : (k at i : ℕ) → at + k * i + k ≡ at + k * (i + 1)
+next_place k at i = rw (add-one, mul-suc) (omega arith)
+
+-- item number i of n, of k bytes each, ends at the last item's end or before it
+pub item_inside : (k n i : ℕ) → i < n → k * i + k ≤ k * n
+item_inside k zero i h = absurd (omega arith)
+item_inside k (suc n) zero h = rw mul-suc (omega arith)
+item_inside k (suc n) (suc i) h = let r = item_inside k n i (omega arith) in rw (mul-suc, mul-suc) (omega arith)
+
+pub zeros_turn : (n i : ℕ) (s : List ℕ) (at : ℕ) → i < n
+    → zeros (n - i) s (at + i) ≡ must (eqb (get_or s (at + i) 0) 0) 3 (at + i) (zeros (n - (i + 1)) s (at + (i + 1)))
+zeros_turn n i s at h =
+    let e : at + i + 1 ≡ at + (i + 1) = omega arith in
+    rw (zeros_step (n - i) s (at + i) (omega arith), fewer, e)
+
+pub locations_turn : (old : Bool) (n i : ℕ) (s : List ℕ) (c at : ℕ) → i < n
+    → locations old (n - i) s c (at + location_size old * i)
+    ≡ chain (location_check old s c (at + location_size old * i)) (locations old (n - (i + 1)) s c (at + location_size old * (i + 1)))
+locations_turn old n i s c at h =
+    rw (locations_step old (n - i) s c (at + location_size old * i) (omega arith), fewer, next_place (location_size old) at i)
+
+pub live_outs_turn : (n i : ℕ) (s : List ℕ) (at : ℕ) → i < n
+    → live_outs (n - i) s (at + 4 * i) ≡ must (eqb (get_or s (at + 4 * i + 2) 0) 0) 3 (at + 4 * i + 2) (live_outs (n - (i + 1)) s (at + 4 * (i + 1)))
+live_outs_turn n i s at h =
+    rw (live_outs_step (n - i) s (at + 4 * i) (omega arith), fewer, next_place 4 at i)

@@ -1,8 +1,8 @@
 -- The check of a whole section, in document 01's order: 1, 2, 3 in the header, 4 for functions then constants, 5, then each
 -- record, and 9 last.
 use Rattle.std.specs.Prelude.{ℕ, zero, suc, ◌+◌, ◌≡◌, Bool, true, false, cond, ◌||◌, List, [], ◌∷◌, length, get_or, drop, leb, eqb}
-use Rattle.stackmap.specs.declared.Verdict.{Verdict}
-use Rattle.stackmap.specs.declared.Verdict.TheVariants.{Valid}
+use Rattle.stackmap.specs.Verdict.{Verdict}
+use Rattle.stackmap.specs.Verdict.{Valid}
 use Rattle.stackmap.specs.Layout.{header_size, version_number, num_records_at, function_size, constant_size, section_most}
 use Rattle.stackmap.specs.Verdict.{must, chain, bind, shift}
 use Rattle.stackmap.specs.Section.{Function, num_functions, num_constants, num_records, is_old, constants_at, records_at, read_functions, Owner, record_owners, counted}

@@ -2,8 +2,8 @@
 -- bytes written from data can get. A place in a record is counted from the record's first byte.
 use Rattle.std.specs.Prelude.{ℕ, ◌+◌, ◌≡◌, Bool, true, length, leb}
 use mathlib.Core.List.{List, [], ◌∷◌, Memᴰ}
-use Rattle.stackmap.specs.declared.Verdict.{Verdict}
-use Rattle.stackmap.specs.declared.Verdict.TheVariants.{Valid}
+use Rattle.stackmap.specs.Verdict.{Verdict}
+use Rattle.stackmap.specs.Verdict.{Valid}
 use Rattle.stackmap.specs.Layout.{section_most, record_head_size, location_size, kind_least, kind_most, num_records_at}
 use Rattle.stackmap.specs.Verdict.{must, chain, shift}
 use Rattle.stackmap.specs.Fields.{size}

@@ -2,8 +2,8 @@
 -- (3, 6), with 7 at the end of its location. Places are counted from the record's first byte.
 use Rattle.std.specs.Prelude.{ℕ, zero, suc, ◌+◌, ◌*◌, Bool, true, false, List, length, get_or, ltb, leb, eqb}
 use Rattle.wire.specs.Word.{word}
-use Rattle.stackmap.specs.declared.Verdict.{Verdict}
-use Rattle.stackmap.specs.declared.Verdict.TheVariants.{Valid}
+use Rattle.stackmap.specs.Verdict.{Verdict}
+use Rattle.stackmap.specs.Verdict.{Valid}
 use Rattle.stackmap.specs.Layout.{record_head_size, locations_padding, live_outs_padding, location_size, location_offset_at, kind_least, kind_most, kind_const_index, negative_from, live_out_size, address_most}
 use Rattle.stackmap.specs.Verdict.{must, chain, pick}
 use Rattle.stackmap.specs.Section.{num_locations, num_live_outs, live_outs_at, record_length}

@@ -1,7 +1,17 @@
 -- Verdicts: valid up to a place, or a refusal's number and place; and how tests are put one after the other.
-use Rattle.std.specs.Prelude.{ℕ, ◌+◌, Bool, true, false}
-use Rattle.stackmap.specs.declared.Verdict.{Verdict}
-use Rattle.stackmap.specs.declared.Verdict.TheVariants.{Valid, Refused}
+use Rattle.std.specs.Prelude.{ℕ, ◌+◌, Bool, true, false, Result, Ok, Err}
+use Rattle.refusals.specs.declared.Refusal.{Refusal}
+use Rattle.refusals.specs.Refusal.{number_of_cause}
+
+-- A verdict on bytes: they are valid up to a place, or a refusal's number and its place.
+pub data Verdict : Type 0 where
+  Valid : ℕ → Verdict
+  Refused : ℕ → ℕ → Verdict
+
+-- what a function answers, as a verdict
+abbrev pub verdict : Result ℕ Refusal → Verdict
+verdict (Ok e) = Valid e
+verdict (Err r) = Refused (number_of_cause r.0) r.1
 
 -- Document 01's number and place for each case of a verdict; what is accepted has 0 and 0.
 

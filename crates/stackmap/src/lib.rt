@@ -9,12 +9,3 @@ pub struct Turn {
     pub next: usize,
     pub left: u64,
 }
-
-// A verdict on a section or a part of it.
-#[derive(Clone, Copy)]
-pub enum Verdict {
-    // Valid up to this place.
-    Valid(usize),
-    // The number of a refusal, and its place.
-    Refused(u8, usize),
-}

@@ -2,7 +2,7 @@
 -- What a walk has passed over: records that are right and whose addresses do not matter to it.
 use Rattle.std.specs.Prelude.{◌≡◌, ℕ, suc, ◌+◌, ◌-◌, ◌<◌, ◌≤◌, false, List, drop}
 use Rattle.wire.specs.Word.{word}
-use Rattle.stackmap.specs.declared.Verdict.TheVariants.{Valid}
+use Rattle.stackmap.specs.Verdict.{Valid}
 use Rattle.stackmap.specs.Verdict.{shift}
 use Rattle.stackmap.specs.Section.{num_functions, is_old}
 use Rattle.stackmap.specs.Record.{record_check}

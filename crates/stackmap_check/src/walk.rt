@@ -2,7 +2,7 @@
 // No entry point: it requires the tables to be inside and their counts to add up, which `tables::begin` has tested.
 ghost use Rattle.std.specs.Prelude.{◌≡◌, ◌+◌, ◌<◌, ◌≤◌, false, length, drop, ◌≢◌};
 ghost use Rattle.wire.specs.Word.{word};
-ghost use Rattle.stackmap.specs.declared.Verdict.TheVariants.{Valid};
+ghost use Rattle.stackmap.specs.Verdict.{Valid};
 ghost use Rattle.stackmap.specs.Verdict.{shift};
 ghost use Rattle.stackmap.specs.Section.{num_functions, num_constants, num_records, is_old, constants_at, records_at, read_functions, record_owners};
 ghost use Rattle.stackmap.specs.Record.{record_check};

@@ -5,56 +5,55 @@
 ghost use Rattle.std.specs.Prelude.{◌≡◌, ◌+◌, ◌*◌, ◌≤◌, length};
 ghost use Rattle.stackmap.specs.Layout.{location_size, live_out_size};
 ghost use Rattle.wire.specs.Word.{word};
+ghost use Rattle.stackmap.specs.Verdict.{verdict};
 ghost use Rattle.stackmap.specs.Record.{zeros, pool_check, location_check, locations, live_outs, address_right};
 
-use stackmap::{Verdict, layout};
+use refusals::{Cause, Refusal};
+use stackmap::layout;
 
 // The `count` bytes from `at` are zero.
-pub fn zero_bytes(s: &[u8], at: usize, count: usize) -> Verdict
+pub fn zero_bytes(s: &[u8], at: usize, count: usize) -> Result<usize, Refusal>
     requires { at + count ≤ length s.now }
-    ensures { result ≡ zeros count s.now at }
+    ensures { verdict result ≡ zeros count s.now at }
 {
-    let mut p = at;
-    let mut left = count;
-    while left > 0 {
-        if s[p] != 0 {
-            return Verdict::Refused(3, p);
+    for i in 0..count {
+        if s[at + i] != 0 {
+            return Err(Refusal(Cause::NotZero, at + i));
         }
-        p += 1;
-        left -= 1;
     }
-    Verdict::Valid(p)
+    Ok(at + count)
 }
 
 // The pool entry of a location of this kind, whose offset stands at `offset`; it begins at `at` and ends at `end`.
-fn pool(s: &[u8], kind: u8, offset: usize, constants: u32, at: usize, end: usize) -> Verdict
+fn pool(
+    s: &[u8],
+    kind: u8,
+    offset: usize,
+    constants: u32,
+    at: usize,
+    end: usize,
+) -> Result<usize, Refusal>
     requires { offset + 4 ≤ length s.now }
-    ensures { result ≡ pool_check kind (word 4 s.now offset) constants at end }
+    ensures { verdict result ≡ pool_check kind (word 4 s.now offset) constants at end }
 {
     if kind != layout::KIND_CONST_INDEX {
-        return Verdict::Valid(end);
+        return Ok(end);
     }
     let index = wire::u32_at(s, offset);
-    if index >= layout::NEGATIVE_FROM {
-        return Verdict::Refused(7, at);
+    if index >= layout::NEGATIVE_FROM || index >= constants {
+        return Err(Refusal(Cause::NotInPool, at));
     }
-    if index >= constants {
-        return Verdict::Refused(7, at);
-    }
-    Verdict::Valid(end)
+    Ok(end)
 }
 
 // The location at `at`, of a section with `constants` constants.
-fn location(s: &[u8], old: bool, at: usize, constants: u32) -> Verdict
+fn location(s: &[u8], old: bool, at: usize, constants: u32) -> Result<usize, Refusal>
     requires { at + location_size old ≤ length s.now }
-    ensures { result ≡ location_check old s.now constants at }
+    ensures { verdict result ≡ location_check old s.now constants at }
 {
     let kind = s[at];
-    if kind < layout::KIND_LEAST {
-        return Verdict::Refused(6, at);
-    }
-    if kind > layout::KIND_MOST {
-        return Verdict::Refused(6, at);
+    if kind < layout::KIND_LEAST || kind > layout::KIND_MOST {
+        return Err(Refusal(Cause::UnknownKind, at));
     }
     if old {
         return pool(
@@ -67,13 +66,13 @@ fn location(s: &[u8], old: bool, at: usize, constants: u32) -> Verdict
         );
     }
     if s[at + 1] != 0 {
-        return Verdict::Refused(3, at + 1);
+        return Err(Refusal(Cause::NotZero, at + 1));
     }
     if s[at + 6] != 0 {
-        return Verdict::Refused(3, at + 6);
+        return Err(Refusal(Cause::NotZero, at + 6));
     }
     if s[at + 7] != 0 {
-        return Verdict::Refused(3, at + 7);
+        return Err(Refusal(Cause::NotZero, at + 7));
     }
     pool(
         s,
@@ -86,49 +85,40 @@ fn location(s: &[u8], old: bool, at: usize, constants: u32) -> Verdict
 }
 
 // The `count` locations from `at`.
-pub fn each_location(s: &[u8], old: bool, at: usize, count: usize, constants: u32) -> Verdict
+pub fn each_location(
+    s: &[u8],
+    old: bool,
+    at: usize,
+    count: usize,
+    constants: u32,
+) -> Result<usize, Refusal>
     requires { at + location_size old * count ≤ length s.now }
-    ensures { result ≡ locations old count s.now constants at }
+    ensures { verdict result ≡ locations old count s.now constants at }
 {
-    let step = layout::location_size(old);
-    let mut p = at;
-    let mut left = count;
-    while left > 0 {
-        if let Verdict::Refused(n, q) = location(s, old, p, constants) {
-            return Verdict::Refused(n, q);
-        }
-        p += step;
-        left -= 1;
+    let size = layout::location_size(old);
+    for i in 0..count {
+        location(s, old, at + size * i, constants)?;
     }
-    Verdict::Valid(p)
+    Ok(at + size * count)
 }
 
 // The `count` live-outs from `at`.
-pub fn all_live_outs(s: &[u8], at: usize, count: usize) -> Verdict
+pub fn all_live_outs(s: &[u8], at: usize, count: usize) -> Result<usize, Refusal>
     requires { at + live_out_size * count ≤ length s.now }
-    ensures { result ≡ live_outs count s.now at }
+    ensures { verdict result ≡ live_outs count s.now at }
 {
-    let mut p = at;
-    let mut left = count;
-    while left > 0 {
-        if s[p + layout::LIVE_OUT_ZERO_AT] != 0 {
-            return Verdict::Refused(3, p + layout::LIVE_OUT_ZERO_AT);
+    for i in 0..count {
+        let zero = at + layout::LIVE_OUT_SIZE * i + layout::LIVE_OUT_ZERO_AT;
+        if s[zero] != 0 {
+            return Err(Refusal(Cause::NotZero, zero));
         }
-        p += layout::LIVE_OUT_SIZE;
-        left -= 1;
     }
-    Verdict::Valid(p)
+    Ok(at + layout::LIVE_OUT_SIZE * count)
 }
 
 // Whether a function's address and an instruction offset add up to an address; version 1 does not say whose a record is.
 pub fn address_right(old: bool, address: u64, offset: u64) -> bool
     ensures { result ≡ address_right old (address + offset) }
 {
-    if old {
-        return true;
-    }
-    if offset > layout::ADDRESS_MOST - address {
-        return false;
-    }
-    true
+    old || offset <= layout::ADDRESS_MOST - address
 }

@@ -13,7 +13,7 @@ use Rattle.wire.specs.Word.{word}
 use Rattle.wire.proofs.Laws.{word-add, word-drop}
 use Rattle.glance.proofs.Laws.{or_none, none}
 use Rattle.glance.specs.Look.{size, kind, Right, Rights, Outs}
-use Rattle.stackmap.specs.declared.Verdict.TheVariants.{Valid}
+use Rattle.stackmap.specs.Verdict.{Valid}
 use Rattle.stackmap.specs.Layout.{location_size, locations_padding, live_outs_padding}
 use Rattle.stackmap.specs.Verdict.{must, chain, pick}
 use Rattle.stackmap.specs.Section.{num_locations, locations_end, record_length}

@@ -3,7 +3,7 @@
 use Rattle.std.specs.Prelude.{ℕ, ◌+◌, ◌*◌, ◌≤◌, ◌≡◌, Bool, List, length}
 use Rattle.wire.specs.Word.{word}
 use Rattle.glance.specs.Look.{Outs}
-use Rattle.stackmap.specs.declared.Verdict.TheVariants.{Valid}
+use Rattle.stackmap.specs.Verdict.{Valid}
 use Rattle.stackmap.specs.Layout.{address_most, location_size, live_outs_padding}
 use Rattle.stackmap.specs.Section.{num_locations}
 use Rattle.stackmap.specs.Record.{locations}

@@ -4,7 +4,7 @@
 // No entry point: it requires a place inside the section, which the walk has shown.
 ghost use Rattle.std.specs.Prelude.{◌≡◌, true, false, ℕ, ◌+◌, ◌*◌, ◌-◌, ◌%◌, ◌^◌, ◌≤◌, ◌<◌, length, drop};
 ghost use Rattle.wire.specs.Word.{word};
-ghost use Rattle.stackmap.specs.declared.Verdict.TheVariants.{Valid};
+ghost use Rattle.stackmap.specs.Verdict.{Valid};
 ghost use Rattle.glance.specs.Look.{Rights};
 ghost use Rattle.stackmap.specs.Layout.{negative_from, address_most, location_size, locations_padding};
 ghost use Rattle.stackmap.specs.Record.{record_check};

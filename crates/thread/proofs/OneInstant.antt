@@ -8,8 +8,8 @@ use mathlib.Core.List.{List, [], ◌∷◌, map, flatten, Permᴰ}
 use native.Mathlib.Omega.{arith}
 use borrow.Author.Tests.{ne_eqb}
 use lib.ListN.{length}
-use Rattle.stackmap.specs.declared.Verdict.{Verdict}
-use Rattle.stackmap.specs.declared.Verdict.TheVariants.{Valid, Refused}
+use Rattle.stackmap.specs.Verdict.{Verdict}
+use Rattle.stackmap.specs.Verdict.{Valid, Refused}
 use Rattle.stackmap.specs.Verdict.{need}
 use Rattle.stackmap.specs.Check.{section_check}
 use Rattle.stackmap.proofs.Numbers.{Numbered, section-numbered}

@@ -1,8 +1,8 @@
 -- For the code alone: nothing here has to be believed.
 -- What a search keeps of the records of a section that stands in a longer one.
 use Rattle.std.specs.Prelude.{ℕ, suc, ◌+◌, ◌≤◌, ◌<◌, ◌≡◌, cond, List, eqb, get_or}
-use Rattle.stackmap.specs.declared.Verdict.{Verdict}
-use Rattle.stackmap.specs.declared.Verdict.TheVariants.{Valid}
+use Rattle.stackmap.specs.Verdict.{Verdict}
+use Rattle.stackmap.specs.Verdict.{Valid}
 use Rattle.stackmap.specs.Section.{Entry}
 use Rattle.stackmap.proofs.OneWalk.{fold}
 use Rattle.questions.specs.declared.Hits.{Hits}

@@ -5,7 +5,7 @@
 
 ghost use Rattle.std.specs.Prelude.{◌≡◌, true, false, ◌+◌, ◌≤◌, ◌<◌, length, drop};
 ghost use Rattle.wire.specs.Word.{word};
-ghost use Rattle.stackmap.specs.declared.Verdict.TheVariants.{Valid, Refused};
+ghost use Rattle.stackmap.specs.Verdict.{Valid, Refused};
 ghost use Rattle.stackmap.specs.Verdict.{shift};
 ghost use Rattle.stackmap.specs.Section.{num_functions, is_old, constants_at, records_at};
 ghost use Rattle.stackmap.specs.Record.{record_check};

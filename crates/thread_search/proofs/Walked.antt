@@ -11,8 +11,8 @@ use lib.ListN.{length, get_or, drop}
 use lib.Dec.{eqb}
 use Rattle.wire.specs.Word.{Bytes, word}
 use Rattle.wire.proofs.Laws.{word_bound, word-drop}
-use Rattle.stackmap.specs.declared.Verdict.{Verdict}
-use Rattle.stackmap.specs.declared.Verdict.TheVariants.{Valid, Refused}
+use Rattle.stackmap.specs.Verdict.{Verdict}
+use Rattle.stackmap.specs.Verdict.{Valid, Refused}
 use Rattle.stackmap.specs.Verdict.{chain, bind, shift}
 use Rattle.stackmap.specs.Section.{num_constants, num_records, is_old, records_at, read_functions, record_owners, Entry, address, read_record, entries}
 use Rattle.stackmap.specs.Record.{record_check}

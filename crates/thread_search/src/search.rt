@@ -2,7 +2,7 @@
 // first stands for all.
 // No entry point: it requires addresses in order, as `addresses::gather` leaves them.
 ghost use Rattle.std.specs.Prelude.{◌≡◌, ℕ, ◌+◌, ◌^◌, ◌≤◌, ◌<◌, List, length};
-ghost use Rattle.stackmap.specs.declared.Verdict.TheVariants.{Valid};
+ghost use Rattle.stackmap.specs.Verdict.{Valid};
 ghost use Rattle.stackmap.specs.Section.{records_at, entries};
 ghost use Rattle.stackmap.specs.Check.{section_check, Accepted};
 ghost use Rattle.stackmap.specs.Walk.{Walkable};

@@ -1,6 +1,6 @@
 -- The answers that cross the C boundary: number, place, and what was asked for.
 use Rattle.std.specs.Prelude.{ℕ}
-use Rattle.stackmap.specs.declared.Verdict.{Verdict}
+use Rattle.stackmap.specs.Verdict.{Verdict}
 use Rattle.stackmap.specs.Verdict.{number_of, place_of}
 use Rattle.stackmap.specs.Section.{offset_bits}
 use Rattle.questions.specs.declared.Found.{Found}

@@ -1,5 +1,5 @@
 -- A reason as it crosses the C boundary: reason, number, place, pair, old base and new base, with zeros where there is nothing to tell.
-use Rattle.stackmap.specs.declared.Verdict.{Verdict}
+use Rattle.stackmap.specs.Verdict.{Verdict}
 use Rattle.questions.specs.Questions.{ask}
 use Rattle.explain.specs.declared.Reason.{Reason}
 use Rattle.explain.specs.declared.Reason.TheVariants.{Unlisted, OnlyBase, NullBase, Moved, Refused}

@@ -1,25 +1,25 @@
 use borrow.Author.Tests.{eq-eqb, ne_eqb}
 use native.Mathlib.Omega.{arith}
-use mathlib.Core.Path.{◌≡◌}
+use Prim.Native.Nat.{◌-◌}
+use Rattle.std.specs.Prelude.{◌≡◌}
 use Rattle.stackmap.specs.Record.{live_outs}
 use Rattle.stackmap.specs.Verdict.{must}
-use Rattle.stackmap.proofs.Steps.{live_outs_step}
+use Rattle.stackmap.proofs.Steps.{live_outs_turn}
 use Rattle.stackmap_parts.proofs.all_live_outs.Goals as goal
 
-pub returns-then-s-p-ne0 : goal.returns-then-s-p-ne0
+pub returns-then-s-zero-ne0 : goal.returns-then-s-zero-ne0
 unfolding must
-returns-then-s-p-ne0 c =
-    let l = c.loop-left in
-    rw (l.invariant.1, live_outs_step l.left _ _ c.loop-left-test.true, ne_eqb _ _ c.if-s-p-ne0.true)
+returns-then-s-zero-ne0 c =
+    rw (c.loop-i.invariant, live_outs_turn _ _ _ _ c.loop-i-test.true, ne_eqb _ _ c.if-s-zero-ne0.true)
 
-pub loop-left-preserved : goal.loop-left-preserved
+pub loop-i-preserved : goal.loop-i-preserved
 unfolding must
-loop-left-preserved c =
-    let l = c.loop-left in
-    (omega arith, rw (l.invariant.1, live_outs_step l.left _ _ c.loop-left-test.true, eq-eqb _ _ c.if-s-p-ne0.false))
+loop-i-preserved c =
+    rw (c.loop-i.invariant, live_outs_turn _ _ _ _ c.loop-i-test.true, eq-eqb _ _ c.if-s-zero-ne0.false)
 
 pub returns : goal.returns
 unfolding live_outs must
 returns c =
-    let none : c.loop-left.left ≡ 0 = omega arith in
-    rw (c.loop-left.invariant.1, none)
+    let none : c.args.count - c.loop-i.i ≡ 0 = omega arith in
+    let all : c.loop-i.i ≡ c.args.count = omega arith in
+    rw (c.loop-i.invariant, none, all)

@@ -1,50 +1,44 @@
 use native.Mathlib.Omega.{arith}
-use mathlib.Core.Path.{◌≡◌}
+use Prim.Native.Nat.{◌-◌}
+use Rattle.std.specs.Prelude.{◌≡◌}
 use Rattle.stackmap.specs.Layout.{location_size}
 use Rattle.stackmap.specs.Record.{locations}
 use Rattle.stackmap.specs.Verdict.{chain}
-use Rattle.stackmap.proofs.Steps.{mul_step, locations_step}
+use Rattle.stackmap.proofs.Passed.{passed}
+use Rattle.stackmap.proofs.Steps.{item_inside, locations_turn}
 use Rattle.stackmap_parts.proofs.each_location.Goals as goal
 
 pub location-requires : goal.location-requires
-location-requires c = let h = mul_step (location_size c.args.old) c.loop-left.left (omega arith) in omega arith
+location-requires c =
+    let h = item_inside (location_size c.args.old) c.args.count c.loop-i.i c.loop-i-test.true in
+    rw c.location_size-size.ensures.0 (omega arith)
 
-pub returns-in-Refused : goal.returns-in-Refused
+pub returns-in_err-location : goal.returns-in_err-location
 unfolding chain
-returns-in-Refused c =
-    let l = c.loop-left in
+returns-in_err-location c =
     rw (
-      l.invariant.1,
-      locations_step _ l.left _ _ _ (omega arith),
+      c.loop-i.invariant,
+      locations_turn _ _ _ _ _ _ c.loop-i-test.true,
+      ← c.location_size-size.ensures.0,
       ← c.location.ensures,
-      c.in-Refused.is,
+      c.in_err-location.was,
+      passed _ _ c.from_residual.ensures.1,
     )
 
-pub overflow_add-p : goal.overflow_add-p
-overflow_add-p c =
-    let h = mul_step (location_size c.args.old)
-    c.loop-left.left (omega arith) in omega (
-      arith,
-      c.location_size-step.ensures.0,
-    )
-
-pub loop-left-preserved : goal.loop-left-preserved
+pub loop-i-preserved : goal.loop-i-preserved
 unfolding chain
-loop-left-preserved c =
-    let l = c.loop-left in
-    let h = mul_step (location_size c.args.old) l.left (omega arith) in (
-      omega (arith, c.location_size-step.ensures.0),
-      rw (
-        l.invariant.1,
-        locations_step _ l.left _ _ _ (omega arith),
-        ← c.location.ensures,
-        c.in_default.is,
-        c.location_size-step.ensures.0,
-      ),
+loop-i-preserved c =
+    rw (
+      c.loop-i.invariant,
+      locations_turn _ _ _ _ _ _ c.loop-i-test.true,
+      ← c.location_size-size.ensures.0,
+      ← c.location.ensures,
+      c.in_ok-location.was,
     )
 
 pub returns : goal.returns
 unfolding locations chain
 returns c =
-    let none : c.loop-left.left ≡ 0 = omega arith in
-    rw (c.loop-left.invariant.1, none)
+    let none : c.args.count - c.loop-i.i ≡ 0 = omega arith in
+    let all : c.loop-i.i ≡ c.args.count = omega arith in
+    rw (c.location_size-size.ensures.0, c.loop-i.invariant, none, all)

@@ -1,3 +1,4 @@
+use Rattle.std.proofs.Common.{inl, inr}
 use native.Mathlib.Omega.{arith}
 use Rattle.stackmap.specs.Record.{location_zeros, location_check}
 use Rattle.stackmap.specs.Verdict.{must}
@@ -11,11 +12,7 @@ bounds-s-at c = let h = location_least c.args.old in search rules
 
 pub returns-then-kind-lt-KIND_LEAST : goal.returns-then-kind-lt-KIND_LEAST
 unfolding location_check must
-returns-then-kind-lt-KIND_LEAST c = search tests
-
-pub returns-then-kind-gt-KIND_MOST : goal.returns-then-kind-gt-KIND_MOST
-unfolding location_check must
-returns-then-kind-gt-KIND_MOST c = search tests
+returns-then-kind-lt-KIND_LEAST c = elim c.then-kind-lt-KIND_LEAST.either [ inl h ↦ search tests | inr h ↦ search tests ]
 
 pub pool-requires : goal.pool-requires
 pool-requires c = let h = rw c.if-old.true at c.requires in omega arith

@@ -1,5 +1,5 @@
 use Rattle.std.proofs.Common.{◌≡◌, sym, ap, ◌∙◌, arith, eqb-true}
-use Rattle.stackmap.specs.declared.Verdict.TheVariants.{Valid}
+use Rattle.stackmap.specs.Verdict.{Valid}
 use Rattle.stackmap.proofs.Within.{here-inside}
 use Rattle.stackmap_check.proofs.Pass.{shifted}
 use Rattle.stackmap_check.proofs.walk.past.Goals as goal

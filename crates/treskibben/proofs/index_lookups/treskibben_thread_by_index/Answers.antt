@@ -1,6 +1,6 @@
 use mathlib.Core.Path.{refl, ap, ◌∙◌}
 use borrow.Author.Tests.{lt-leb, le-leb}
-use Rattle.stackmap.specs.declared.Verdict.{Verdict}
+use Rattle.stackmap.specs.Verdict.{Verdict}
 use Rattle.questions.specs.Questions.{ask}
 use Rattle.moves.specs.Settle.{refused_move}
 use Rattle.treskibben_answers.specs.Answer.{move_answer}
