@@ -12,7 +12,7 @@ returns-then-old c = rw c.if-old.true
 
 pub returns-else-old : goal.returns-else-old
 unfolding address_right
-returns-else-old c = elim leb_tells c.args.offset (18446744073709551615 - c.args.address) [
-    inl h ↦ rw (h.0, c.if-old.false, le-leb _ _ (omega arith))
+returns-else-old c = elim (leb_tells c.args.offset (18446744073709551615 - c.args.address)) [
+  | inl h ↦ rw (h.0, c.if-old.false, le-leb _ _ (omega arith))
   | inr h ↦ rw (h.0, c.if-old.false, lt-leb _ _ (omega arith))
-  ]
+]
