@@ -1,5 +1,5 @@
 use native.Mathlib.Omega.{arith}
-use Prim.Native.Nat.{◌+◌, ◌-◌, ◌≤◌}
+use Prim.Native.Nat.{◌+◌, ◌-◌, ◌≤◌, ◌<◌}
 use Rattle.std.proofs.Common.{inl, inr}
 use Rattle.std.proofs.lemmas.Bool.{le-leb, lt-leb}
 use Rattle.std.proofs.lemmas.Bool.Decides.{leb_tells}
@@ -13,6 +13,6 @@ returns-then-old c = rw c.if-old.true
 pub returns-else-old : goal.returns-else-old
 unfolding address_right
 returns-else-old c = elim (leb_tells c.args.offset (18446744073709551615 - c.args.address)) [
-  | inl h ↦ rw (h.0, c.if-old.false, le-leb _ _ (omega arith))
-  | inr h ↦ rw (h.0, c.if-old.false, lt-leb _ _ (omega arith))
+  | inl h ↦ let k : c.args.address + c.args.offset ≤ 18446744073709551615 = omega arith in rw (h.0, c.if-old.false, le-leb _ _ k)
+  | inr h ↦ let k : 18446744073709551615 < c.args.address + c.args.offset = omega arith in rw (h.0, c.if-old.false, lt-leb _ _ k)
 ]
