@@ -105,15 +105,9 @@ module _ {read : List ℕ → ℕ → Function} {step : ℕ} {s : List ℕ} {who
   unfolding counted many
   add-end z = let x = rw z at a.same in eqb_iff rest 0 whole total (λ h. omega arith) (λ h. omega arith)
 
--- records are ahead only while functions are
-pub owners-some : (read : List ℕ → ℕ → Function) (step n : ℕ) (s : List ℕ) (at i : ℕ) → 0 < length (owners i (many read step n s at)) → 0 < n
-unfolding many owners
-owners-some read step zero s at i h = h
-owners-some read step (suc n) s at i h = omega arith
-
 -- The same for a loop that counts up: turn number i of n.
 
-fewer : (n i : ℕ) → n - i - 1 ≡ n - (i + 1)
+pub fewer : (n i : ℕ) → n - i - 1 ≡ n - (i + 1)
 fewer n i = omega arith
 
 pub next_place : (k at i : ℕ) → at + k * i + k ≡ at + k * (i + 1)
@@ -124,6 +118,18 @@ pub item_inside : (k n i : ℕ) → i < n → k * i + k ≤ k * n
 item_inside k zero i h = absurd (omega arith)
 item_inside k (suc n) zero h = rw mul-suc (omega arith)
 item_inside k (suc n) (suc i) h = let r = item_inside k n i (omega arith) in rw (mul-suc, mul-suc) (omega arith)
+
+-- the function number f of n, counted up from the one at `at`
+pub add_turn : {read : List ℕ → ℕ → Function} {step n : ℕ} (at i : ℕ) {s : List ℕ} {whole total rest k : ℕ}
+    → Adding read step s whole total (at + step * i) (n - i) rest → k ≡ (read s (at + step * i)).count → i < n → k ≤ rest
+    → Adding read step s whole total (at + step * (i + 1)) (n - (i + 1)) (rest - k)
+add_turn {step = step} {n = n} at i a e h o = rw (← next_place step at i, ← fewer n i) (add_on a e (omega arith) o)
+
+-- records are ahead only while functions are
+pub owners-some : (read : List ℕ → ℕ → Function) (step n : ℕ) (s : List ℕ) (at i : ℕ) → 0 < length (owners i (many read step n s at)) → 0 < n
+unfolding many owners
+owners-some read step zero s at i h = h
+owners-some read step (suc n) s at i h = omega arith
 
 pub zeros_turn : (n i : ℕ) (s : List ℕ) (at : ℕ) → i < n
     → zeros (n - i) s (at + i) ≡ must (eqb (get_or s (at + i) 0) 0) 3 (at + i) (zeros (n - (i + 1)) s (at + (i + 1)))

@@ -3,7 +3,7 @@
 ghost use Rattle.std.specs.Prelude.{◌≡◌, ◌+◌, ◌<◌, ◌≤◌, false, length, drop, ◌≢◌};
 ghost use Rattle.wire.specs.Word.{word};
 ghost use Rattle.stackmap.specs.Verdict.{Valid};
-ghost use Rattle.stackmap.specs.Verdict.{shift};
+ghost use Rattle.stackmap.specs.Verdict.{verdict, shift};
 ghost use Rattle.stackmap.specs.Section.{num_functions, num_constants, num_records, is_old, constants_at, records_at, read_functions, record_owners};
 ghost use Rattle.stackmap.specs.Record.{record_check};
 ghost use Rattle.stackmap.specs.Check.{records_check};
@@ -11,7 +11,8 @@ ghost use Rattle.stackmap.specs.Walk.{ahead, owner_at, first_turn, Turning, Walk
 ghost use Rattle.stackmap.proofs.Turns.{Walking};
 ghost use Rattle.stackmap_check.specs.Pass.{Not, Stopped};
 
-use stackmap::{Turn, Verdict, layout};
+use refusals::Refusal;
+use stackmap::{Turn, layout};
 use stackmap_quick::quick;
 use stackmap_record::record;
 use stackmap_tables::tables;
@@ -45,49 +46,53 @@ pub fn owner_address(s: &[u8], old: bool, function: usize) -> u64
 }
 
 // The record at `at`, of a function at `address`, checked so that what is wrong is named.
-fn exact_at(s: &[u8], old: bool, constants: u32, address: u64, at: usize) -> Verdict
+fn exact_at(s: &[u8], old: bool, constants: u32, address: u64, at: usize) -> Result<usize, Refusal>
     requires { at ≤ length s.now }
-    ensures { result ≡ shift at (record_check old (drop at s.now) constants address) }
+    ensures { verdict result ≡ shift at (record_check old (drop at s.now) constants address) }
 {
     match record::check_record(&s[at..], old, constants, address) {
-        Verdict::Refused(n, p) => Verdict::Refused(n, at + p),
-        Verdict::Valid(size) => Verdict::Valid(at + size),
+        Err(Refusal(cause, place)) => Err(Refusal(cause, at + place)),
+        Ok(size) => Ok(at + size),
     }
 }
 
 // The record at `at`, of function number `function`, or of nobody: by quick looks, and where they say nothing exactly.
-pub fn record_at(s: &[u8], old: bool, constants: u32, function: usize, at: usize) -> Verdict
+// The check of a section has an instance of its own, since with two callers `plain`, `other` and `exact_at` stay functions of their own,
+// and what is around them is compiled into each walk. Compiled into one function they would share its registers.
+fn one_record<const IN_CHECK: bool>(
+    s: &[u8],
+    old: bool,
+    constants: u32,
+    function: usize,
+    at: usize,
+) -> Result<usize, Refusal>
     requires { (old ≡ is_old s.now) × (constants_at s.now ≤ length s.now) × (is_old s.now ≡ false → function < num_functions s.now) × (at ≤ length s.now) }
-    ensures { result ≡ shift at (record_check (is_old s.now) (drop at s.now) constants (owner_at s.now function).function.address) }
+    ensures { verdict result ≡ shift at (record_check (is_old s.now) (drop at s.now) constants (owner_at s.now function).function.address) }
 {
     let address = owner_address(s, old, function);
     let end = quick::plain(s, old, address, at);
     if end > 1 {
-        return Verdict::Valid(end);
+        return Ok(end);
     }
     let next = quick::other(s, old, constants, address, at, end == 1);
     if next > 0 {
-        return Verdict::Valid(next);
+        return Ok(next);
     }
     exact_at(s, old, constants, address, at)
 }
 
-// The same for `all_records` alone: with two callers `plain`, `other` and `exact_at` stay functions of their own, and what is around them is
-// compiled into each walk. Compiled into one function they would share its registers.
-fn next_record(s: &[u8], old: bool, constants: u32, function: usize, at: usize) -> Verdict
+// The record at `at`, for walks that keep something of each record.
+pub fn record_at(
+    s: &[u8],
+    old: bool,
+    constants: u32,
+    function: usize,
+    at: usize,
+) -> Result<usize, Refusal>
     requires { (old ≡ is_old s.now) × (constants_at s.now ≤ length s.now) × (is_old s.now ≡ false → function < num_functions s.now) × (at ≤ length s.now) }
-    ensures { result ≡ shift at (record_check (is_old s.now) (drop at s.now) constants (owner_at s.now function).function.address) }
+    ensures { verdict result ≡ shift at (record_check (is_old s.now) (drop at s.now) constants (owner_at s.now function).function.address) }
 {
-    let address = owner_address(s, old, function);
-    let end = quick::plain(s, old, address, at);
-    if end > 1 {
-        return Verdict::Valid(end);
-    }
-    let next = quick::other(s, old, constants, address, at, end == 1);
-    if next > 0 {
-        return Verdict::Valid(next);
-    }
-    exact_at(s, old, constants, address, at)
+    one_record::<false>(s, old, constants, function, at)
 }
 
 // Where a walk stops: whose turn it is, how many records are ahead, and where the next one begins.
@@ -142,10 +147,9 @@ pub fn pass(
     requires { (old ≡ is_old s.now) × (constants_at s.now ≤ length s.now) × Walking s.now constants (records_at s.now) from.next from.left count at }
     ensures { Stopped s.now constants (Not wanted) from.next from.left count at result.next result.left result.remaining result.at }
 {
-    let mut remaining = count;
     let mut turn = from;
     let mut p = at;
-    while remaining > 0 {
+    for passed in 0..count {
         let t = owner(s, turn);
         let next = t.next;
         let left = t.left;
@@ -155,7 +159,7 @@ pub fn pass(
             return Stop {
                 next,
                 left,
-                remaining,
+                remaining: count - passed,
                 at: p,
             };
         }
@@ -164,14 +168,13 @@ pub fn pass(
             next,
             left: left - 1,
         };
-        remaining -= 1;
     }
     let next = turn.next;
     let left = turn.left;
     Stop {
         next,
         left,
-        remaining,
+        remaining: 0,
         at: p,
     }
 }
@@ -192,29 +195,23 @@ pub fn start(s: &[u8], old: bool) -> Turn
 }
 
 // All records; the first stands at `at`.
-pub fn all_records(s: &[u8], at: usize) -> Verdict
+pub fn all_records(s: &[u8], at: usize) -> Result<usize, Refusal>
     requires { Walkable s.now × (at ≤ length s.now) }
-    ensures { result ≡ records_check (is_old s.now) (record_owners (is_old s.now) (num_records s.now) (read_functions s.now)) s.now (num_constants s.now) at }
+    ensures { verdict result ≡ records_check (is_old s.now) (record_owners (is_old s.now) (num_records s.now) (read_functions s.now)) s.now (num_constants s.now) at }
 {
     let constants = wire::u32_at(s, layout::NUM_CONSTANTS_AT);
-    let mut remaining = wire::u32_at(s, layout::NUM_RECORDS_AT);
+    let count = wire::u32_at(s, layout::NUM_RECORDS_AT);
     let old = tables::is_old(s);
     let mut turn = start(s, old);
     let mut p = at;
-    while remaining > 0 {
+    for passed in 0..count {
         let t = owner(s, turn);
         let next = t.next;
-        match next_record(s, old, constants, next - 1, p) {
-            Verdict::Refused(n, q) => return Verdict::Refused(n, q),
-            Verdict::Valid(end) => {
-                p = end;
-            }
-        }
+        p = one_record::<true>(s, old, constants, next - 1, p)?;
         turn = Turn {
             next,
             left: t.left - 1,
         };
-        remaining -= 1;
     }
-    Verdict::Valid(p)
+    Ok(p)
 }

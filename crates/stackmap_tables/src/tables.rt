@@ -4,10 +4,11 @@ ghost use Rattle.std.specs.Prelude.{◌≡◌, ◌+◌, ◌*◌, ◌≤◌, ◌<
 ghost use Rattle.stackmap.specs.Layout.{header_size};
 ghost use Rattle.stackmap.specs.Section.{num_functions, is_old, constants_at};
 ghost use Rattle.stackmap.specs.Walk.{function_number};
-ghost use Rattle.stackmap.specs.Verdict.{chain};
+ghost use Rattle.stackmap.specs.Verdict.{verdict, chain};
 ghost use Rattle.stackmap.specs.Check.{header_check, tables_check};
 
-use stackmap::{Verdict, layout};
+use refusals::{Cause, Refusal};
+use stackmap::layout;
 
 // Whether the section is of version 1.
 pub fn is_old(s: &[u8]) -> bool
@@ -17,9 +18,9 @@ pub fn is_old(s: &[u8]) -> bool
     s[0] == layout::OLD_VERSION
 }
 
-fn tables(s: &[u8]) -> Verdict
+fn tables(s: &[u8]) -> Result<usize, Refusal>
     requires { header_size ≤ length s.now }
-    ensures { result ≡ tables_check s.now }
+    ensures { verdict result ≡ tables_check s.now }
 {
     let functions = wire::u32_at(s, layout::NUM_FUNCTIONS_AT) as usize;
     let constants = wire::u32_at(s, layout::NUM_CONSTANTS_AT) as usize;
@@ -27,35 +28,29 @@ fn tables(s: &[u8]) -> Verdict
     let step = layout::function_size(is_old(s));
     let after = layout::HEADER_SIZE + step * functions;
     if after > s.len() {
-        return Verdict::Refused(
-            4,
-            layout::HEADER_SIZE + step * ((s.len() - layout::HEADER_SIZE) / step),
-        );
+        let whole = (s.len() - layout::HEADER_SIZE) / step;
+        return Err(Refusal(Cause::CutOff, layout::HEADER_SIZE + step * whole));
     }
     let end = after + layout::CONSTANT_SIZE * constants;
     if end > s.len() {
-        return Verdict::Refused(
-            4,
-            after + layout::CONSTANT_SIZE * ((s.len() - after) / layout::CONSTANT_SIZE),
-        );
+        let whole = (s.len() - after) / layout::CONSTANT_SIZE;
+        return Err(Refusal(Cause::CutOff, after + layout::CONSTANT_SIZE * whole));
     }
     if is_old(s) {
-        return Verdict::Valid(end);
+        return Ok(end);
     }
     if stackmap_header::counts_add_up(s, functions, records) {
-        Verdict::Valid(end)
+        Ok(end)
     } else {
-        Verdict::Refused(5, layout::NUM_RECORDS_AT)
+        Err(Refusal(Cause::WrongCounts, layout::NUM_RECORDS_AT))
     }
 }
 
 // All that comes before the records: valid up to the first record's byte.
-pub fn begin(s: &[u8]) -> Verdict
-    ensures { result ≡ chain (header_check s.now) (tables_check s.now) }
+pub fn begin(s: &[u8]) -> Result<usize, Refusal>
+    ensures { verdict result ≡ chain (header_check s.now) (tables_check s.now) }
 {
-    if let Verdict::Refused(n, p) = stackmap_header::check_header(s) {
-        return Verdict::Refused(n, p);
-    }
+    stackmap_header::check_header(s)?;
     tables(s)
 }
 

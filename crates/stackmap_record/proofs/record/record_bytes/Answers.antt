@@ -5,6 +5,7 @@ use Rattle.stackmap.specs.Record.{record_bytes}
 use Rattle.stackmap.specs.Section.{record_length}
 use Rattle.stackmap.specs.Verdict.{chain}
 use Rattle.stackmap.proofs.Steps.{times_most}
+use Rattle.stackmap.proofs.Passed.{passed}
 use Rattle.stackmap.proofs.Within.{header_inside}
 use borrow.Author.Rules.{rules}
 use Rattle.stackmap_record.proofs.record.record_bytes.Goals as goal
@@ -52,16 +53,17 @@ zero_bytes-requires c =
     ≤ length c.args.s.now = rw (← c.u16_at-locations.ensures, ← c.location_size.ensures.0, ← c.locations_padding-padding.ensures.0, ← c.u16_at-outs.ensures) at c.requires in
     let h = room in omega arith
 
-pub returns-in-Refused : goal.returns-in-Refused
+pub returns-in_err-zero_bytes : goal.returns-in_err-zero_bytes
 unfolding record_bytes record_length chain
-returns-in-Refused c =
+returns-in_err-zero_bytes c =
     rw (
       ← c.u16_at-locations.ensures,
       ← c.location_size.ensures.0,
       ← c.locations_padding-padding.ensures.0,
       ← c.u16_at-outs.ensures,
       ← c.zero_bytes.ensures,
-      c.in-Refused.is,
+      c.in_err-zero_bytes.was,
+      passed _ _ c.from_residual.ensures.1,
     )
 
 pub each_location-requires : goal.each_location-requires
@@ -71,18 +73,19 @@ each_location-requires c =
     ≤ length c.args.s.now = rw (← c.u16_at-locations.ensures, ← c.location_size.ensures.0, ← c.locations_padding-padding.ensures.0, ← c.u16_at-outs.ensures) at c.requires in
     let h = rw c.location_size.ensures.0 at (room) in omega arith
 
-pub returns-in-Refused-each_location : goal.returns-in-Refused-each_location
+pub returns-in_err-each_location : goal.returns-in_err-each_location
 unfolding record_bytes record_length chain
-returns-in-Refused-each_location c =
+returns-in_err-each_location c =
     rw (
       ← c.u16_at-locations.ensures,
       ← c.location_size.ensures.0,
       ← c.locations_padding-padding.ensures.0,
       ← c.u16_at-outs.ensures,
       ← c.zero_bytes.ensures,
-      c.in_default.is,
+      c.in_ok-zero_bytes.was,
       ← c.each_location.ensures,
-      c.in-Refused-each_location.is,
+      c.in_err-each_location.was,
+      passed _ _ c.from_residual-in_err-each_location.ensures.1,
     )
 
 pub zero_bytes-requires-2 : goal.zero_bytes-requires-2
@@ -92,20 +95,21 @@ zero_bytes-requires-2 c =
     ≤ length c.args.s.now = rw (← c.u16_at-locations.ensures, ← c.location_size.ensures.0, ← c.locations_padding-padding.ensures.0, ← c.u16_at-outs.ensures) at c.requires in
     let h = room in omega arith
 
-pub returns-in-Refused-zero_bytes : goal.returns-in-Refused-zero_bytes
+pub returns-in_err-zero_bytes-2 : goal.returns-in_err-zero_bytes-2
 unfolding record_bytes record_length chain
-returns-in-Refused-zero_bytes c =
+returns-in_err-zero_bytes-2 c =
     rw (
       ← c.u16_at-locations.ensures,
       ← c.location_size.ensures.0,
       ← c.locations_padding-padding.ensures.0,
       ← c.u16_at-outs.ensures,
       ← c.zero_bytes.ensures,
-      c.in_default.is,
+      c.in_ok-zero_bytes.was,
       ← c.each_location.ensures,
-      c.in_default-each_location.is,
+      c.in_ok-each_location.was,
       ← c.zero_bytes-2.ensures,
-      c.in-Refused-zero_bytes.is,
+      c.in_err-zero_bytes-2.was,
+      passed _ _ c.from_residual-in_err-zero_bytes-2.ensures.1,
     )
 
 pub overflow_add-end-3 : goal.overflow_add-end-3
@@ -122,22 +126,23 @@ all_live_outs-requires c =
     ≤ length c.args.s.now = rw (← c.u16_at-locations.ensures, ← c.location_size.ensures.0, ← c.locations_padding-padding.ensures.0, ← c.u16_at-outs.ensures) at c.requires in
     let h = room in omega arith
 
-pub returns-in-Refused-all_live_outs : goal.returns-in-Refused-all_live_outs
+pub returns-in_err-all_live_outs : goal.returns-in_err-all_live_outs
 unfolding record_bytes record_length chain
-returns-in-Refused-all_live_outs c =
+returns-in_err-all_live_outs c =
     rw (
       ← c.u16_at-locations.ensures,
       ← c.location_size.ensures.0,
       ← c.locations_padding-padding.ensures.0,
       ← c.u16_at-outs.ensures,
       ← c.zero_bytes.ensures,
-      c.in_default.is,
+      c.in_ok-zero_bytes.was,
       ← c.each_location.ensures,
-      c.in_default-each_location.is,
+      c.in_ok-each_location.was,
       ← c.zero_bytes-2.ensures,
-      c.in_default-zero_bytes.is,
+      c.in_ok-zero_bytes-2.was,
       ← c.all_live_outs.ensures,
-      c.in-Refused-all_live_outs.is,
+      c.in_err-all_live_outs.was,
+      passed _ _ c.from_residual-in_err-all_live_outs.ensures.1,
     )
 
 pub zero_bytes-requires-3 : goal.zero_bytes-requires-3
@@ -147,24 +152,25 @@ zero_bytes-requires-3 c =
     ≤ length c.args.s.now = rw (← c.u16_at-locations.ensures, ← c.location_size.ensures.0, ← c.locations_padding-padding.ensures.0, ← c.u16_at-outs.ensures) at c.requires in
     let h = room in omega arith
 
-pub returns-in-Refused-zero_bytes-2 : goal.returns-in-Refused-zero_bytes-2
+pub returns-in_err-zero_bytes-3 : goal.returns-in_err-zero_bytes-3
 unfolding record_bytes record_length chain
-returns-in-Refused-zero_bytes-2 c =
+returns-in_err-zero_bytes-3 c =
     rw (
       ← c.u16_at-locations.ensures,
       ← c.location_size.ensures.0,
       ← c.locations_padding-padding.ensures.0,
       ← c.u16_at-outs.ensures,
       ← c.zero_bytes.ensures,
-      c.in_default.is,
+      c.in_ok-zero_bytes.was,
       ← c.each_location.ensures,
-      c.in_default-each_location.is,
+      c.in_ok-each_location.was,
       ← c.zero_bytes-2.ensures,
-      c.in_default-zero_bytes.is,
+      c.in_ok-zero_bytes-2.was,
       ← c.all_live_outs.ensures,
-      c.in_default-all_live_outs.is,
+      c.in_ok-all_live_outs.was,
       ← c.zero_bytes-3.ensures,
-      c.in-Refused-zero_bytes-2.is,
+      c.in_err-zero_bytes-3.was,
+      passed _ _ c.from_residual-in_err-zero_bytes-3.ensures.1,
     )
 
 pub overflow_add-result-2 : goal.overflow_add-result-2
@@ -183,13 +189,13 @@ returns c =
       ← c.locations_padding-padding.ensures.0,
       ← c.u16_at-outs.ensures,
       ← c.zero_bytes.ensures,
-      c.in_default.is,
+      c.in_ok-zero_bytes.was,
       ← c.each_location.ensures,
-      c.in_default-each_location.is,
+      c.in_ok-each_location.was,
       ← c.zero_bytes-2.ensures,
-      c.in_default-zero_bytes.is,
+      c.in_ok-zero_bytes-2.was,
       ← c.all_live_outs.ensures,
-      c.in_default-all_live_outs.is,
+      c.in_ok-all_live_outs.was,
       ← c.zero_bytes-3.ensures,
-      c.in_default-zero_bytes-2.is,
+      c.in_ok-zero_bytes-3.was,
     )

@@ -19,8 +19,8 @@ overflow_mul-after c = let h = times_most _ 24 c.u32_at-functions.result c.funct
 pub overflow_add-after : goal.overflow_add-after
 overflow_add-after c = let h = times_most _ 24 c.u32_at-functions.result c.function_size-step.ensures.1 in search rules
 
-pub nonzero_div-result : goal.nonzero_div-result
-nonzero_div-result c =
+pub nonzero_div-whole : goal.nonzero_div-whole
+nonzero_div-whole c =
     let h = function-least c.is_old.result in omega (arith, c.function_size-step.ensures.0)
 
 -- the functions that are wholly inside take no more than there is
