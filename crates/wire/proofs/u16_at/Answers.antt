@@ -1,6 +1,6 @@
 use mathlib.Core.Path.{◌∙◌}
-use Rattle.wire.proofs.Laws.{chunk_reads}
+use Rattle.wire.proofs.Laws.{part_reads}
 use Rattle.wire.proofs.u16_at.Goals as goal
 
 pub returns : goal.returns
-returns c = c.from_le_bytes.ensures ∙ chunk_reads 1 c.args.s.now _ c.args.at (rw c.unwrap.ensures at c.first_chunk.ensures.cases)
+returns c = c.from_le_bytes.ensures ∙ part_reads 1 c.args.s.now _ c.args.at (rw c.unwrap.ensures at c.as_array.ensures.cases)
