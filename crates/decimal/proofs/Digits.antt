@@ -7,9 +7,11 @@ use native.Mathlib.Omega.{arith}
 use native.Mathlib.Nat.{add-zero, pow-suc}
 use borrow.Author.Tests.{lt-ltb, le-ltb}
 use lib.Dec.{ltb}
-use native.Mathlib.Numerals.{add-one}
-use lib.ListN.{length, set, get_or, take, length-append}
-use lib.Seq.{sets, take-suc, length-take-le}
+use lib.ListN.{length, set, length-append}
+use lib.Seq.{sets, drop-drop}
+use borrow.Rule.Slice.PartMut.{put_mid}
+use Rattle.std.proofs.lemmas.List.{append_assoc}
+use Rattle.std.proofs.lemmas.List.Edits.{sets-eq}
 use Rattle.wire.proofs.Laws.{sets-append}
 use Rattle.decimal.specs.Line.{digits}
 
@@ -49,11 +51,11 @@ sets_last (x ∷ xs) l i y =
     let p : suc i + length xs ≡ i + suc (length xs) = omega arith in
     rw p at (sets_last xs (set l i x) (suc i) y)
 
--- a text of which i bytes are written
-pub text_on : (l text : List ℕ) (at i : ℕ) → i < length text → set (sets l at (take i text)) (at + i) (get_or text i 0) ≡ sets l at (take (i + 1) text)
-text_on l text at i h =
-    let k : length (take i text) ≡ i = length-take-le i text (omega arith) in
-    rw (add-one, take-suc text i 0 h, sets_last, k)
+-- a text put in the place of as many bytes
+pub part_sets : (text l : List ℕ) (at : ℕ) → at + length text ≤ length l → put_mid at (at + length text - at) l text ≡ sets l at text
+part_sets text l at h =
+    let p : at + length text - at ≡ length text = omega arith in
+    rw (sets-eq text l at h, append_assoc, p, drop-drop)
 
 -- four stretches of stores and one more byte
 pub line-put : (l t d a e : List ℕ) (y n p q r : ℕ) → n ≡ 0 + length t → p ≡ n + length d → q ≡ p + length a → r ≡ q + length e

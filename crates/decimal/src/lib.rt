@@ -11,12 +11,9 @@ pub fn put_text(out: &mut [u8], at: usize, text: &[u8]) -> usize
     requires { at + length text.now ≤ length out.old }
     ensures { (result ≡ at + length text.now) × (out.new ≡ sets out.old at text.now) }
 {
-    let mut i: usize = 0;
-    while i < text.len() {
-        out[at + i] = text[i];
-        i += 1;
-    }
-    at + i
+    let next = at + text.len();
+    out[at..next].copy_from_slice(text);
+    next
 }
 
 // Writes the decimal digits of `n`, at most `most` of them, and gives the place after them.
@@ -25,10 +22,10 @@ pub fn put_digits(out: &mut [u8], at: usize, n: usize, most: usize) -> usize
     ensures { (result ≡ at + length (digits most n)) × (out.new ≡ sets out.old at (digits most n)) }
 {
     if n < 10 {
-        out[at] = 48 + (n % 10) as u8;
+        out[at] = b'0' + n as u8;
         return at + 1;
     }
     let next = put_digits(out, at, n / 10, most - 1);
-    out[next] = 48 + (n % 10) as u8;
+    out[next] = b'0' + (n % 10) as u8;
     next + 1
 }

@@ -25,10 +25,6 @@ pub most : (old : Bool) → size old ≤ 12
 most true = omega arith
 most false = omega arith
 
-pub under : (old : Bool) (n : ℕ) → 4 ≤ n → (size old * 8 - size old * n ≤ size old * 4) × (size old * 4 ≤ size old * n)
-under true n h = (omega arith, omega arith)
-under false n h = (omega arith, omega arith)
-
 -- Bits: where numbers together are low, each of them is.
 
 or_left : (x y : ℕ) → x ≤ bit_or x y
@@ -201,54 +197,25 @@ outs-more s at n x z = record { each = λ i h. go i h (dec_lt i n) }
     go i h (yes l) = x.each i l
     go i h (no l) = let e : i ≡ n = omega arith in rw e z
 
--- The places of four looks, worked out in bytes, and what they tell together.
+-- What four looks at four tell together.
 
-pub second_at : (old : Bool) (at n : ℕ) → 4 ≤ n → at + size old * 4 - (size old * 8 - size old * n) ≡ at + size old * (4 - (8 - n))
-second_at true at n h = omega arith
-second_at false at n h = omega arith
-
-pub third_at : (old : Bool) (at n : ℕ) → at + (size old * n - size old * 8) ≡ at + size old * (n - 8)
-third_at true at n = omega arith
-third_at false at n = omega arith
-
-pub last-at : (old : Bool) (at n : ℕ) → 4 ≤ n → at + size old * n - size old * 4 ≡ at + size old * (n - 4)
-last-at true at n h = omega arith
-last-at false at n h = omega arith
-
-pub covered : (old : Bool) (s : List ℕ) (limit at n a b c d p q r : ℕ) → 4 ≤ n → n ≤ 16
-    → (p ≡ at + size old * (4 - (8 - n))) × (q ≡ at + size old * (n - 8)) × (r ≡ at + size old * (n - 4)) → Low old (together a b c d)
-    → (Low old a → Rights old s limit at 4) → (Low old b → Rights old s limit p 4) → (Low old c → Rights old s limit q 4)
-    → (Low old d → Rights old s limit r 4) → Rights old s limit at n
-covered old s limit at n a b c d p q r h k e l x y z w =
+pub covered : (old : Bool) (s : List ℕ) (limit at n a b c d : ℕ) → 4 ≤ n → n ≤ 16 → Low old (together a b c d)
+    → (Low old a → Rights old s limit at 4) → (Low old b → Rights old s limit (at + size old * (4 - (8 - n))) 4)
+    → (Low old c → Rights old s limit (at + size old * (n - 8)) 4) → (Low old d → Rights old s limit (at + size old * (n - 4)) 4)
+    → Rights old s limit at n
+covered old s limit at n a b c d h k l x y z w =
     let each = low-each old a b c d l in
-    cover old s limit at n h k (x each.0) (rw e.0 at (y each.1)) (rw e.1 at (z each.2)) (rw e.2 at (w each.3))
+    cover old s limit at n h k (x each.0) (y each.1) (z each.2) (w each.3)
 
--- The places of five looks at three, worked out in bytes, and what they tell together.
+-- What five looks at three tell together.
 
-pub up_to_three : (old : Bool) (n : ℕ) → 3 ≤ n → size old * 3 - (size old * 3 - (size old * n - size old * 3)) ≡ size old * (3 - (6 - n))
-up_to_three true n h = omega arith
-up_to_three false n h = omega arith
-
-pub up_to_six : (old : Bool) (n : ℕ) → 3 ≤ n → size old * 6 - (size old * 6 - (size old * n - size old * 3)) ≡ size old * (6 - (9 - n))
-up_to_six true n h = omega arith
-up_to_six false n h = omega arith
-
-pub before_last : (old : Bool) (n : ℕ) → 3 ≤ n → size old * n - size old * 3 - size old * (3 - (6 - n)) ≡ size old * (n - 6)
-before_last true n h = omega arith
-before_last false n h = omega arith
-
-pub last_three : (old : Bool) (n : ℕ) → 3 ≤ n → (size old * n - size old * 3 ≡ size old * (n - 3)) × (size old * 3 ≤ size old * n)
-last_three true n h = (omega arith, omega arith)
-last_three false n h = (omega arith, omega arith)
-
-pub covered_by_threes : (old : Bool) (s : List ℕ) (limit at n a b c d e p q r t : ℕ) → 3 ≤ n → n ≤ 15
-    → (p ≡ at + size old * (3 - (6 - n))) × (q ≡ at + size old * (6 - (9 - n))) × (r ≡ at + size old * (n - 6)) × (t ≡ at + size old * (n - 3))
-    → Low old (bit_or (together a b c d) e) → (Low old a → Rights old s limit at 3) → (Low old b → Rights old s limit p 3)
-    → (Low old c → Rights old s limit q 3) → (Low old d → Rights old s limit r 3) → (Low old e → Rights old s limit t 3) → Rights old s limit at n
-covered_by_threes old s limit at n a b c d e p q r t h k i l v w x y z =
+pub covered_by_threes : (old : Bool) (s : List ℕ) (limit at n a b c d e : ℕ) → 3 ≤ n → n ≤ 15 → Low old (bit_or (together a b c d) e)
+    → (Low old a → Rights old s limit at 3) → (Low old b → Rights old s limit (at + size old * (3 - (6 - n))) 3)
+    → (Low old c → Rights old s limit (at + size old * (6 - (9 - n))) 3) → (Low old d → Rights old s limit (at + size old * (n - 6)) 3)
+    → (Low old e → Rights old s limit (at + size old * (n - 3)) 3) → Rights old s limit at n
+covered_by_threes old s limit at n a b c d e h k l v w x y z =
     let each = low-each old a b c d (low-left old (together a b c d) e l) in
-    cover_threes old s limit at n h k (v each.0) (rw i.0 at (w each.1)) (rw i.1 at (x each.2)) (rw i.2 at (y each.3))
-    (rw i.3 at (z (low-right old (together a b c d) e l)))
+    cover_threes old s limit at n h k (v each.0) (w each.1) (x each.2) (y each.3) (z (low-right old (together a b c d) e l))
 
 -- Up to eight zero bytes together.
 

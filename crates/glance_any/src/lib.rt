@@ -2,7 +2,7 @@
 // No entry point: each function requires that its bytes are inside.
 #![tactic(auto)]
 
-ghost use Rattle.std.specs.Prelude.{◌≡◌, true, false, ℕ, ◌+◌, ◌*◌, ◌-◌, ◌^◌, ◌≤◌, ◌<◌, length};
+ghost use Rattle.std.specs.Prelude.{◌≡◌, true, ℕ, ◌+◌, ◌*◌, ◌-◌, ◌^◌, ◌≤◌, ◌<◌, [], ◌∷◌, length};
 ghost use Rattle.glance.specs.Look.{Right, Rights, Low};
 ghost use Rattle.glance.specs.Look as look;
 
@@ -18,37 +18,18 @@ fn four(s: &[u8], old: bool, at: usize) -> u64
     a | b | (c | d)
 }
 
-// What is left of a, and 0 where b is more.
-fn minus(a: usize, b: usize) -> usize
-    ensures { result ≡ a - b }
-{
-    if a < b {
-        return 0;
-    }
-    a - b
-}
-
-// Where three of four looks at four to sixteen locations begin. The first begins with the first location; they may overlap.
-#[derive(Clone, Copy)]
-pub struct Starts {
-    pub second: usize,
-    pub third: usize,
-    pub last: usize,
-}
-
-// After the first four, before the last four, and the last four: worked out in bytes.
-fn spread(old: bool, at: usize, count: usize) -> Starts
+// Where three of four looks at four to sixteen locations begin: after the first four, before the last four, and the last four; worked
+// out in bytes. The first look begins with the first location; they may overlap.
+fn spread(old: bool, at: usize, count: usize) -> [usize; 3]
     requires { (at + look.size old * count < 2 ^ 64) × (4 ≤ count) × (count ≤ 16) }
-    ensures { (result.second ≡ at + look.size old * (4 - (8 - count))) × (result.third ≡ at + look.size old * (count - 8)) × (result.last ≡ at + look.size old * (count - 4)) }
+    ensures { result ≡ (at + look.size old * (4 - (8 - count))) ∷ (at + look.size old * (count - 8)) ∷ (at + look.size old * (count - 4)) ∷ [] }
 {
     let four = glance::place(old, 0, 4);
     let eight = glance::place(old, 0, 8);
     let all = glance::place(old, 0, count);
-    Starts {
-        second: at + four - minus(eight, all),
-        third: at + minus(all, eight),
-        last: at + all - four,
-    }
+    let second = four - eight.saturating_sub(all);
+    let third = all.saturating_sub(eight);
+    [at + second, at + third, at + all - four]
 }
 
 // The eight bytes of a location, less one, and less one more if it is a ConstIndex whose index is below `limit`.
@@ -58,12 +39,11 @@ fn adjusted(s: &[u8], old: bool, at: usize, limit: u32) -> u64
 {
     let v = glance::word_less(s, at);
     let index = wire::u32_at(s, glance::place(old, at, 1) - 4);
-    if index < limit {
-        if v % 256 == 4 {
-            return v - 1;
-        }
+    if index < limit && v % 256 == 4 {
+        v - 1
+    } else {
+        v
     }
-    v
 }
 
 // The words of the four locations from `at`, of any kind, together.
@@ -83,36 +63,20 @@ fn any_four(s: &[u8], old: bool, at: usize, limit: u32) -> bool
     requires { at + look.size old * 4 ≤ length s.now }
     ensures { result ≡ true → Rights old s.now limit at 4 }
 {
-    if glance::low(old, four(s, old, at)) {
-        return true;
-    }
-    glance::low(old, four_of_any(s, old, at, limit))
+    glance::low(old, four(s, old, at)) || glance::low(old, four_of_any(s, old, at, limit))
 }
 
-// Four to sixteen locations of version 3, of any kind, as `sixteen` looks at them.
-fn any_sixteen(s: &[u8], at: usize, count: usize, limit: u32) -> bool
-    requires { (at + look.size false * count ≤ length s.now) × (4 ≤ count) × (count ≤ 16) }
-    ensures { result ≡ true → Rights false s.now limit at count }
+// Four to sixteen locations, of any kind, by one test. Each of the two versions is compiled with the size of its locations.
+fn any_sixteen<const OLD: bool>(s: &[u8], at: usize, count: usize, limit: u32) -> bool
+    requires { (at + look.size OLD * count ≤ length s.now) × (4 ≤ count) × (count ≤ 16) }
+    ensures { result ≡ true → Rights OLD s.now limit at count }
 {
-    let p = spread(false, at, count);
-    let w = four_of_any(s, false, at, limit);
-    let x = four_of_any(s, false, p.second, limit);
-    let y = four_of_any(s, false, p.third, limit);
-    let z = four_of_any(s, false, p.last, limit);
-    glance::low(false, w | x | (y | z))
-}
-
-// The same of version 1.
-fn old_any_sixteen(s: &[u8], at: usize, count: usize, limit: u32) -> bool
-    requires { (at + look.size true * count ≤ length s.now) × (4 ≤ count) × (count ≤ 16) }
-    ensures { result ≡ true → Rights true s.now limit at count }
-{
-    let p = spread(true, at, count);
-    let w = four_of_any(s, true, at, limit);
-    let x = four_of_any(s, true, p.second, limit);
-    let y = four_of_any(s, true, p.third, limit);
-    let z = four_of_any(s, true, p.last, limit);
-    glance::low(true, w | x | (y | z))
+    let [second, third, last] = spread(OLD, at, count);
+    let w = four_of_any(s, OLD, at, limit);
+    let x = four_of_any(s, OLD, second, limit);
+    let y = four_of_any(s, OLD, third, limit);
+    let z = four_of_any(s, OLD, last, limit);
+    glance::low(OLD, w | x | (y | z))
 }
 
 // Locations of any kind from number `begun` on, one by one.
@@ -120,11 +84,8 @@ fn rest(s: &[u8], old: bool, at: usize, count: usize, limit: u32, begun: usize) 
     requires { (at + look.size old * count ≤ length s.now) × (begun ≤ count) }
     ensures { result ≡ true → Rights old s.now limit at begun → Rights old s.now limit at count }
 {
-    let mut done = begun;
-    while done < count {
-        if glance::low(old, adjusted(s, old, glance::place(old, at, done), limit)) {
-            done += 1;
-        } else {
+    for i in begun..count {
+        if !glance::low(old, adjusted(s, old, glance::place(old, at, i), limit)) {
             return false;
         }
     }
@@ -136,15 +97,13 @@ fn by_fours(s: &[u8], old: bool, at: usize, count: usize, limit: u32) -> bool
     requires { at + look.size old * count ≤ length s.now }
     ensures { result ≡ true → Rights old s.now limit at count }
 {
-    let mut done: usize = 0;
-    while count - done >= 4 {
-        if any_four(s, old, glance::place(old, at, done), limit) {
-            done += 4;
-        } else {
+    let fours = count / 4;
+    for i in 0..fours {
+        if !any_four(s, old, glance::place(old, at, 4 * i), limit) {
             return false;
         }
     }
-    rest(s, old, at, count, limit, done)
+    rest(s, old, at, count, limit, 4 * fours)
 }
 
 // Whether the locations from `at`, of any kind, are right: four to sixteen by one test.
@@ -152,13 +111,12 @@ pub fn any(s: &[u8], old: bool, at: usize, count: usize, limit: u32) -> bool
     requires { at + look.size old * count ≤ length s.now }
     ensures { result ≡ true → Rights old s.now limit at count }
 {
-    if count >= 4 {
-        if count <= 16 {
-            if old {
-                return old_any_sixteen(s, at, count, limit);
-            }
-            return any_sixteen(s, at, count, limit);
-        }
+    if count < 4 || count > 16 {
+        return by_fours(s, old, at, count, limit);
     }
-    by_fours(s, old, at, count, limit)
+    if old {
+        any_sixteen::<true>(s, at, count, limit)
+    } else {
+        any_sixteen::<false>(s, at, count, limit)
+    }
 }

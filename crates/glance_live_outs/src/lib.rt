@@ -5,22 +5,12 @@
 ghost use Rattle.std.specs.Prelude.{◌≡◌, true, ◌+◌, ◌*◌, ◌≤◌, ◌<◌, length, get_or};
 ghost use Rattle.glance.specs.Look.{Outs};
 
-// The smaller of two.
-fn least(i: usize, last: usize) -> usize
-    ensures { (result ≤ last) × (i ≤ last → result ≡ i) }
-{
-    if i < last {
-        return i;
-    }
-    last
-}
-
 // The byte of live-out number i, or of number `last` where that is less, that has to be zero.
 fn zero_byte(s: &[u8], at: usize, i: usize, last: usize) -> u8
     requires { at + 4 * last + 4 ≤ length s.now }
     ensures { i ≤ last → result ≡ get_or s.now (at + 4 * i + 2) 0 }
 {
-    s[at + 4 * least(i, last) + 2]
+    s[at + 4 * i.min(last) + 2]
 }
 
 // Up to eight live-outs, the last of them number `last`: so that their number costs no branch.
@@ -40,12 +30,10 @@ fn each_out(s: &[u8], at: usize, count: usize) -> bool
     requires { at + 4 * count ≤ length s.now }
     ensures { result ≡ true → Outs s.now at count }
 {
-    let mut done: usize = 0;
-    while done < count {
-        if s[at + 4 * done + 2] != 0 {
+    for i in 0..count {
+        if s[at + 4 * i + 2] != 0 {
             return false;
         }
-        done += 1;
     }
     true
 }
@@ -55,10 +43,8 @@ pub fn live_outs(s: &[u8], at: usize, count: usize) -> bool
     requires { at + 4 * count ≤ length s.now }
     ensures { result ≡ true → Outs s.now at count }
 {
-    if count > 0 {
-        if count <= 8 {
-            return eight_outs(s, at, count - 1);
-        }
+    if 0 < count && count <= 8 {
+        return eight_outs(s, at, count - 1);
     }
     each_out(s, at, count)
 }

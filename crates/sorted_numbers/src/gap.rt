@@ -5,8 +5,6 @@ ghost use Rattle.std.specs.Prelude.{ℕ, ◌+◌, ◌≤◌, ◌<◌, length, ge
 ghost use Rattle.sorted.specs.Sorted.{Sorted, LowerBound};
 ghost use Rattle.sorted_numbers.specs.Numbers.{Between};
 
-const MOST: u64 = 18446744073709551615;
-
 // The first `place` entries are at most `below`, and the others at least `above`.
 #[derive(Clone, Copy)]
 pub struct Gap {
@@ -21,10 +19,8 @@ pub fn place(list: &[u64], count: usize, gap: Gap, x: u64) -> usize
         × Between list.now count gap.below gap.above gap.place }
     ensures { LowerBound list.now count x result }
 {
-    if gap.below < x {
-        if x <= gap.above {
-            return gap.place;
-        }
+    if gap.below < x && x <= gap.above {
+        return gap.place;
     }
     sorted::lower_bound(list, count, x)
 }
@@ -34,10 +30,7 @@ fn before(list: &[u64], count: usize, i: usize) -> u64
     requires { (count ≤ length list.now) × Sorted list.now count × (i ≤ count) }
     ensures { (j : ℕ) → j < i → get_or list.now j 0 ≤ result }
 {
-    if i > 0 {
-        return list[i - 1];
-    }
-    0
+    if i > 0 { list[i - 1] } else { 0 }
 }
 
 // The entry at i, which is at most all after it; where there is none, the highest number.
@@ -45,10 +38,7 @@ fn from(list: &[u64], count: usize, i: usize) -> u64
     requires { (count ≤ length list.now) × Sorted list.now count }
     ensures { (j : ℕ) → i ≤ j → j < count → result ≤ get_or list.now j 0 }
 {
-    if i < count {
-        return list[i];
-    }
-    MOST
+    if i < count { list[i] } else { u64::MAX }
 }
 
 // The gap around x, whose lower bound is i; where x is an entry, the gap above it.
@@ -56,14 +46,12 @@ pub fn around(list: &[u64], count: usize, x: u64, i: usize) -> Gap
     requires { (count ≤ length list.now) × Sorted list.now count × LowerBound list.now count x i }
     ensures { Between list.now count result.below result.above result.place }
 {
-    if i < count {
-        if list[i] == x {
-            return Gap {
-                below: x,
-                above: from(list, count, i + 1),
-                place: i + 1,
-            };
-        }
+    if i < count && list[i] == x {
+        return Gap {
+            below: x,
+            above: from(list, count, i + 1),
+            place: i + 1,
+        };
     }
     Gap {
         below: before(list, count, i),

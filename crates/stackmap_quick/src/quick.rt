@@ -114,7 +114,7 @@ fn of_version_3(s: &[u8], at: usize, count: usize) -> usize
         return 0;
     }
     let next = no_live_outs(s, pad, padding);
-    if glance::plain(s, at + layout::RECORD_HEAD_SIZE, count) {
+    if glance::plain::<false>(s, at + layout::RECORD_HEAD_SIZE, count) {
         return next;
     }
     0
@@ -130,7 +130,7 @@ fn of_version_1(s: &[u8], at: usize, count: usize) -> usize
         return 0;
     }
     let next = no_live_outs(s, pad, 0);
-    if glance::old_plain(s, at + layout::RECORD_HEAD_SIZE, count) {
+    if glance::plain::<true>(s, at + layout::RECORD_HEAD_SIZE, count) {
         return next;
     }
     0

@@ -1,5 +1,5 @@
 use Prim.Native.Nat.{◌+◌, ◌-◌, ◌/◌, ◌%◌}
-use mathlib.Core.Path.{◌≡◌, refl}
+use mathlib.Core.Path.{refl}
 use mathlib.Core.List.{[], ◌∷◌}
 use lib.ListN.{length-append}
 use Rattle.decimal.specs.Line.{digits}
@@ -11,8 +11,7 @@ pub returns-then-n-lt10 : goal.returns-then-n-lt10
 returns-then-n-lt10 t c =
     let a = c.args in
     let e = digits_last a.most a.n c.requires.1 c.if-n-lt10.true in
-    let m : a.n % 10 ≡ a.n = omega arith in
-    rw (e, m) (refl, refl)
+    rw e (refl, refl)
 
 pub put_digits-next-requires : goal.put_digits-next-requires
 put_digits-next-requires t c =

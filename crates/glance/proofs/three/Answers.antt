@@ -1,28 +1,12 @@
-use Rattle.std.proofs.Common.{arith}
 use Rattle.wire.specs.Word.{Bytes}
-use Rattle.glance.proofs.Laws.{eight, low_three}
+use Rattle.glance.proofs.Laws.{low_three}
 use Rattle.glance.proofs.three.Goals as goal
-
-pub word_less-a-requires : goal.word_less-a-requires
-word_less-a-requires c = let h = eight c.args.old c.args.at 0 3 _ (omega arith) c.requires in omega arith
-
-pub word_less-b-requires : goal.word_less-b-requires
-word_less-b-requires c =
-    let a = c.args in
-    let h = eight a.old a.at 1 3 _ (omega arith) c.requires in
-    omega (arith, c.place.ensures)
-
-pub word_less-c-requires : goal.word_less-c-requires
-word_less-c-requires c =
-    let a = c.args in
-    let h = eight a.old a.at 2 3 _ (omega arith) c.requires in
-    omega (arith, c.place-2.ensures)
 
 pub returns : goal.returns
 returns c =
     λ h limit.
     let a = c.args in
-    let b : Bytes a.s.now = record { below = λ i. (c.shared_slice_known-1.given i).fits } in
+    let b : Bytes a.s.now = record { below = λ i. (c.type_inv.s i).fits } in
     let e =
     rw (
       c.word_less-a.ensures,

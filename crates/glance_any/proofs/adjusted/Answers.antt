@@ -3,38 +3,22 @@ use mathlib.Core.Path.{◌≡◌}
 use native.Mathlib.Omega.{arith}
 use Rattle.wire.specs.Word.{Bytes, word}
 use Rattle.glance.specs.Look.{size, less}
-use Rattle.glance.proofs.Laws.{eight, least, of_low, of_index}
+use Rattle.glance.proofs.Laws.{of_low, of_index}
 use Rattle.glance_any.proofs.adjusted.Goals as goal
-
-pub word_less-v-requires : goal.word_less-v-requires
-word_less-v-requires c = let h = eight c.args.old c.args.at 0 1 _ (omega arith) c.requires in omega arith
-
-pub overflow_sub-place : goal.overflow_sub-place
-overflow_sub-place c = let h = least c.args.old in omega (arith, c.place.ensures)
-
-pub u32_at-index-requires : goal.u32_at-index-requires
-u32_at-index-requires c = let h = least c.args.old in let p = c.requires in omega (arith, c.place.ensures)
 
 pub returns-then-v-eq4 : goal.returns-then-v-eq4
 returns-then-v-eq4 c =
     λ l.
     let a = c.args in
-    let b : Bytes a.s.now = record { below = λ i. (c.shared_slice_known-1.given i).fits } in
+    let b : Bytes a.s.now = record { below = λ i. (c.type_inv.s i).fits } in
     let q : c.place.result - 4 ≡ a.at + size a.old - 4 = omega (arith, c.place.ensures) in
     let p : word 4 a.s.now (a.at + size a.old - 4) < a.limit = rw (← q, ← c.u32_at-index.ensures) (omega arith) in
     let e : less a.s.now a.at % 256 ≡ 4 = rw (← c.word_less-v.ensures) (omega arith) in
     of_index a.s.now a.at b a.old a.limit e p (rw c.word_less-v.ensures at l)
 
-pub returns-else-v-eq4 : goal.returns-else-v-eq4
-returns-else-v-eq4 c =
-    λ l.
-    let a = c.args in
-    let b : Bytes a.s.now = record { below = λ i. (c.shared_slice_known-1.given i).fits } in
-    of_low a.s.now a.at b a.old (rw c.word_less-v.ensures at l) a.limit
-
 pub returns-else-index-limit : goal.returns-else-index-limit
 returns-else-index-limit c =
     λ l.
     let a = c.args in
-    let b : Bytes a.s.now = record { below = λ i. (c.shared_slice_known-1.given i).fits } in
+    let b : Bytes a.s.now = record { below = λ i. (c.type_inv.s i).fits } in
     of_low a.s.now a.at b a.old (rw c.word_less-v.ensures at l) a.limit

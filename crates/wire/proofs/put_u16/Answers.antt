@@ -1,14 +1,5 @@
-use Prim.Native.Nat.{◌/◌, ◌%◌}
-use mathlib.Core.Path.{◌≡◌}
-use native.Mathlib.Numerals.{add-one}
-use Rattle.wire.specs.Word.{bytes}
-use native.Mathlib.Omega.{arith}
-use lib.ListN.{length-set}
+use Rattle.wire.proofs.Laws.{part_written}
 use Rattle.wire.proofs.put_u16.Goals as goal
 
-pub bounds-out-at-2 : goal.bounds-out-at-2
-bounds-out-at-2 c = simp length-set (omega arith)
-
 pub returns : goal.returns
-unfolding bytes
-returns c = let q : c.args.x / 256 % 256 ≡ c.args.x / 256 = omega arith in rw (q, add-one)
+returns c = rw (c.copy_from_slice.ensures.after, c.to_le_bytes.ensures) (part_written 2 c.args.x c.args.at c.args.out.now c.requires)

@@ -1,22 +1,6 @@
-use native.Mathlib.Omega.{arith}
-use Prim.Native.Nat.{◌+◌}
-use Rattle.wire.specs.Word.{word}
+use mathlib.Core.Path.{◌∙◌}
+use Rattle.wire.proofs.Laws.{part_reads}
 use Rattle.wire.proofs.u16_at.Goals as goal
 
-pub overflow_cast-result : goal.overflow_cast-result
-overflow_cast-result c = omega (arith, c.shared_slice_known-1.given c.args.at)
-
-pub overflow_cast-result-2 : goal.overflow_cast-result-2
-overflow_cast-result-2 c = omega (arith, c.shared_slice_known-2-1.given (c.args.at + 1))
-
-pub overflow_mul-result : goal.overflow_mul-result
-overflow_mul-result c = omega (arith, c.shared_slice_known-2-1.given (c.args.at + 1))
-
-pub overflow_add-result-2 : goal.overflow_add-result-2
-overflow_add-result-2 c =
-    omega
-    (arith, c.shared_slice_known-1.given c.args.at, c.shared_slice_known-2-1.given (c.args.at + 1))
-
 pub returns : goal.returns
-unfolding word
-returns c = omega arith
+returns c = c.from_le_bytes.ensures ∙ part_reads 1 c.args.s.now _ c.args.at (rw c.unwrap.ensures at c.as_array.ensures.cases)

@@ -1,6 +1,6 @@
-use native.Mathlib.Omega.{arith}
-use Rattle.wire.proofs.Laws.{word-add}
+use mathlib.Core.Path.{◌∙◌}
+use Rattle.wire.proofs.Laws.{part_reads}
 use Rattle.wire.proofs.u64_at.Goals as goal
 
 pub returns : goal.returns
-returns c = omega (arith, word-add 4 4 c.args.s.now c.args.at)
+returns c = c.from_le_bytes.ensures ∙ part_reads 7 c.args.s.now _ c.args.at (rw c.unwrap.ensures at c.as_array.ensures.cases)
