@@ -12,15 +12,6 @@ use Rattle.flat_keys.specs.Keys.{Filled, Keyed}
 pub fill_front : (s keys rest : List ℕ) (m : ℕ) → Filled s keys m → m ≤ length keys → Filled s (keys ++ rest) m
 fill_front s keys rest m h l = record { each = λ j u. get_or-append keys rest 0 j (omega arith) ∙ h.each j u; small = h.small }
 
--- no keys at all
-pub keyed_none : (s keys : List ℕ) → Keyed s keys 0
-keyed_none s keys =
-    record {
-      sorted = record { order = λ i j l m. absurd (omega arith) };
-      each = λ j l. absurd (omega arith);
-      small = λ j l. absurd (omega arith);
-    }
-
 -- keys filled in and put in order
 pub keyed_sorted : (s before after : List ℕ) (m : ℕ) → Filled s before m → Rearranged before after m → Sorted after m → Keyed s after m
 keyed_sorted s before after m f r o =
