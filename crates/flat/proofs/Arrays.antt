@@ -1,7 +1,7 @@
 -- Refusal 38 as equations, and the plain bounds that follow from them.
-use Prim.Native.Nat.{ℕ, ◌+◌, ◌*◌, ◌-◌, ◌/◌, ◌%◌, ◌≤◌, ◌<◌}
-use mathlib.Core.Path.{◌≡◌, refl, sym, ◌∙◌}
-use mathlib.Core.Bool.{Bool, true, false, ◌&&◌, true≢false}
+use Prim.Native.Nat.{ℕ, ◌+◌, ◌*◌, ◌%◌, ◌≤◌}
+use mathlib.Core.Path.{◌≡◌, refl, sym}
+use mathlib.Core.Bool.{Bool, true, false}
 use mathlib.Core.List.{List}
 use native.Mathlib.Omega.{arith}
 use borrow.Author.Tests.{eqb-true, eq-eqb}
@@ -9,7 +9,6 @@ use lib.Dec.{eqb}
 use lib.ListN.{length}
 use Rattle.flat.specs.Layout.{align}
 use Rattle.flat.specs.Places.{constants_at, frames_at, registers_at, records_at, locations_at, live_outs_at, num_constants, num_frames, num_registers, num_records, num_locations, num_live_outs, offsets_right}
-use Rattle.flat.specs.Fronts.{Fronts}
 use Rattle.flat.proofs.Steps.{and_true}
 
 pub record Right (s : List ℕ) : Type 0 where
@@ -78,13 +77,3 @@ arranged s r =
 -- the frames are not inside
 pub right_outside : (s : List ℕ) → (registers_at s ≤ length s → ⊥) → false ≡ offsets_right s
 right_outside s f = right_not s (λ r. f (let a = arranged s r in omega arith))
-
--- what the first half of the test tells, either way
-pub fronts_not : (s : List ℕ) → false ≡ offsets_right s → (◌≡◌ {A = Bool} false true → Fronts s) × (◌≡◌ {A = Bool} false false → false ≡ offsets_right s)
-fronts_not s e = ((λ z. absurd (true≢false (sym z))), (λ z. e))
-
-pub fronts_told : (s : List ℕ) → Fronts s → (◌≡◌ {A = Bool} true true → Fronts s) × (◌≡◌ {A = Bool} true false → false ≡ offsets_right s)
-fronts_told s f = ((λ z. f), (λ z. absurd (true≢false z)))
-
-pub not_live_outs : (s : List ℕ) (l o n a : ℕ) → o ≡ live_outs_at s → l ≡ locations_at s → n ≡ num_locations s → a ≡ align 2 (l + 8 * n) → (o ≡ a → ⊥) → false ≡ offsets_right s
-not_live_outs s l o n a e f g h k = right_not s (λ r. k (let x = r.live-outs in omega arith))

@@ -1,9 +1,8 @@
 -- Steps of the folds over an array, and what a test of every item tells.
-use Prim.Native.Nat.{ℕ, zero, suc, ◌+◌, ◌*◌, ◌-◌, ◌≤◌, ◌<◌, max}
+use Prim.Native.Nat.{ℕ, zero, suc, ◌+◌, ◌-◌, ◌≤◌, ◌<◌, max}
 use mathlib.Core.Path.{◌≡◌, refl, sym, ap, ◌∙◌}
 use mathlib.Core.Bool.{Bool, true, false, ◌&&◌, true≢false}
 use native.Mathlib.Omega.{arith}
-use native.Mathlib.Nat.{mul-le-mul_left, mul-suc}
 use native.Mathlib.Numerals.{add-one}
 use native.Mathlib.Decide.{ℕ_discrete}
 use Rattle.flat.specs.Places.{greatest, every}
@@ -12,10 +11,6 @@ use Rattle.flat.specs.Steps.{Testing}
 pub and_true : (a b : Bool) → (a && b) ≡ true → (a ≡ true) × (b ≡ true)
 and_true true b h = (refl, h)
 and_true false b h = absurd (true≢false (sym h))
-
--- one item more of a stride
-pub stride : (size i n : ℕ) → i < n → size * i + size ≤ size * n
-stride size i n l = omega (arith, mul-le-mul_left size l, mul-suc size i)
 
 -- The greatest.
 
@@ -47,18 +42,8 @@ every_step p i n l =
     let k : n - i ≡ suc (n - (i + 1)) = omega arith in
     rw (k, add-one)
 
-pub test_start : (p : ℕ → Bool) (n : ℕ) → Testing p n 0
-test_start p n = let z : n - 0 ≡ n = omega arith in record { most = omega arith; same = rw z }
-
 pub test_on : (p : ℕ → Bool) (n i : ℕ) → Testing p n i → i < n → p i ≡ true → Testing p n (i + 1)
 test_on p n i t l e = record { most = omega arith; same = t.same ∙ every_step p i n l ∙ rw e }
-
-pub test_stop : (p : ℕ → Bool) (n i : ℕ) → Testing p n i → i < n → p i ≡ false → every p 0 n ≡ false
-test_stop p n i t l e = t.same ∙ every_step p i n l ∙ rw e
-
-pub test_end : (p : ℕ → Bool) (n i : ℕ) → Testing p n i → n ≤ i → every p 0 n ≡ true
-unfolding every
-test_end p n i t l = let z : n - i ≡ 0 = let m = t.most in omega arith in t.same ∙ rw z
 
 pub every-told : (p : ℕ → Bool) (i n : ℕ) → every p i n ≡ true → (j : ℕ) → i ≤ j → j < i + n → p j ≡ true
 unfolding every

@@ -23,14 +23,13 @@ fn fours_below(s: &[u8], limit: u8, at: usize, step: usize, n: usize) -> usize
     requires { (0 < step) × (at + step * n < length s.now + step) }
     ensures { Testing (λ k. ltb (get_or s.now (at + step * k) 0) limit) n result }
 {
-    let mut i: usize = 0;
-    while n - i >= 4 {
+    for q in 0..n / 4 {
+        let i = 4 * q;
         if four(s, at + step * i, step) >= limit {
             return i;
         }
-        i += 4;
     }
-    i
+    n / 4 * 4
 }
 
 // Whether n bytes, each a step after the one before, are below a limit.
@@ -38,15 +37,8 @@ pub fn each_below(s: &[u8], limit: u8, at: usize, step: usize, n: usize) -> bool
     requires { (0 < step) × (at + step * n < length s.now + step) }
     ensures { result ≡ clear s.now limit at step n }
 {
-    let mut i = fours_below(s, limit, at, step, n);
-    while i < n {
-        let p = at + step * i;
-        if s[p] >= limit {
-            return false;
-        }
-        i += 1;
-    }
-    true
+    let looked = fours_below(s, limit, at, step, n);
+    (looked..n).all(|k| s[at + step * k] < limit)
 }
 
 // Whether n pairs of bytes, each a step after the one before, are below two limits.
@@ -54,18 +46,10 @@ pub fn pairs_below(s: &[u8], low: u8, high: u8, at: usize, step: usize, n: usize
     requires { (1 < step) × (at + 1 + step * n < length s.now + step) }
     ensures { result ≡ (clear s.now low at step n && clear s.now high (at + 1) step n) }
 {
-    let mut i: usize = 0;
-    while i < n {
-        let p = at + step * i;
-        if s[p] >= low {
-            return false;
-        }
-        if s[p + 1] >= high {
-            return false;
-        }
-        i += 1;
-    }
-    true
+    (0..n).all(|k| {
+        let p = at + step * k;
+        s[p] < low && s[p + 1] < high
+    })
 }
 
 // Whether the ranges of n frames end within the records.
@@ -73,39 +57,30 @@ pub fn frames_inside(s: &[u8], frames: usize, n: usize, records: usize) -> bool
     requires { frames + frame_size * n ≤ length s.now }
     ensures { result ≡ along (frame_inside s.now records) frames frame_size n }
 {
-    let mut i: usize = 0;
-    while i < n {
-        let at = frames + layout::FRAME_SIZE * i;
-        if offsets::range_end(
+    (0..n).all(|k| {
+        let at = frames + layout::FRAME_SIZE * k;
+        offsets::range_end(
             s,
             at + layout::RECORD_INDEX_AT,
             at + layout::RECORD_COUNT_AT,
-        ) > records
-        {
-            return false;
-        }
-        i += 1;
-    }
-    true
+        ) <= records
+    })
 }
 
 fn record_inside(s: &[u8], at: usize, locations: usize, outs: usize) -> bool
     requires { at + record_size ≤ length s.now }
     ensures { result ≡ record_inside s.now locations outs at }
 {
-    if offsets::range_end(
+    offsets::range_end(
         s,
         at + layout::LOCATION_INDEX_AT,
         at + layout::LOCATION_COUNT_AT,
-    ) > locations
-    {
-        return false;
-    }
-    offsets::range_end(
-        s,
-        at + layout::LIVE_OUT_INDEX_AT,
-        at + layout::LIVE_OUT_COUNT_AT,
-    ) <= outs
+    ) <= locations
+        && offsets::range_end(
+            s,
+            at + layout::LIVE_OUT_INDEX_AT,
+            at + layout::LIVE_OUT_COUNT_AT,
+        ) <= outs
 }
 
 // Whether the ranges of n records end within the locations and live-outs.
@@ -113,12 +88,5 @@ pub fn records_inside(s: &[u8], records: usize, n: usize, locations: usize, outs
     requires { records + record_size * n ≤ length s.now }
     ensures { result ≡ along (record_inside s.now locations outs) records record_size n }
 {
-    let mut i: usize = 0;
-    while i < n {
-        if !record_inside(s, records + layout::RECORD_SIZE * i, locations, outs) {
-            return false;
-        }
-        i += 1;
-    }
-    true
+    (0..n).all(|k| record_inside(s, records + layout::RECORD_SIZE * k, locations, outs))
 }

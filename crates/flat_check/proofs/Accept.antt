@@ -5,15 +5,25 @@ use mathlib.Core.Bool.{Bool, true}
 use mathlib.Core.List.{List}
 use native.Mathlib.Omega.{arith}
 use borrow.Author.Tests.{leb-true}
-use Rattle.flat.specs.Places.{range_end, frames_at, num_frames, num_records}
+use lib.ListN.{length}
+use Rattle.flat.specs.Places.{range_end, frames_at, num_frames, num_records, offsets_right}
 use Rattle.flat.proofs.Steps.{and_true, every-told}
 use Rattle.flat.proofs.Arrays.{Arranged, arranged, right-told}
 use Rattle.flat.specs.Places.{along, frame_inside}
-use Rattle.flat_check.specs.Check.{ranges_right}
-use Rattle.flat_check.proofs.Chain.{Told}
+use Rattle.flat_check.specs.Check.{ranges_right, Accepted}
+use Rattle.flat_check.proofs.Chain.{Told, accepted-told}
+
+pub right_arranged : (s : List ℕ) → offsets_right s ≡ true → Arranged s
+right_arranged s h = arranged s (right-told s h)
 
 pub told_arranged : (s : List ℕ) → Told s → Arranged s
-told_arranged s t = arranged s (right-told s t.offsets)
+told_arranged s t = right_arranged s t.offsets
+
+pub accepted_least : (s : List ℕ) → Accepted s → 32 ≤ length s
+accepted_least s h = (accepted-told s h).least
+
+pub accepted_arranged : (s : List ℕ) → Accepted s → Arranged s
+accepted_arranged s h = told_arranged s (accepted-told s h)
 
 -- a test along an array tells of each item
 pub along-told : (test : ℕ → Bool) (at step n : ℕ) → along test at step n ≡ true → (i : ℕ) → i < n → test (at + step * i) ≡ true

@@ -1,37 +1,14 @@
 -- The chain of refusals: where it stands after each test, and what acceptance tells.
 use Prim.Native.Nat.{ℕ, zero, suc, ◌≤◌, ◌<◌}
 use mathlib.Core.Path.{◌≡◌, refl, sym, ◌∙◌}
-use mathlib.Core.Bool.{Bool, true, false, not, ◌&&◌}
+use mathlib.Core.Bool.{Bool, true, false}
 use mathlib.Core.List.{List}
 use native.Mathlib.Omega.{arith}
-use borrow.Author.Tests.{leb-true, eqb-true, le-leb, lt-leb, eq-eqb, ne_eqb, not-true, not-false}
+use borrow.Author.Tests.{leb-true, eqb-true, le-leb, lt-leb, eq-eqb, ne_eqb}
 use lib.ListN.{length, get_or}
-use Rattle.flat.specs.Places.{frames_at, records_at, num_frames, num_records, num_locations, num_live_outs, offsets_right}
+use Rattle.flat.specs.Places.{offsets_right}
 use Rattle.flat.proofs.Steps.{and_true}
-use Rattle.flat.specs.Places.{along, frame_inside, record_inside}
 use Rattle.flat_check.specs.Check.{need, version_right, ranges_right, reserved_clear, flat_check, Accepted, ask}
-
--- two tests, each by its value
-pub both-same : {a b x y r : Bool} → r ≡ (a && b) → a ≡ x → b ≡ y → r ≡ (x && y)
-both-same h e f = h ∙ rw (e, f)
-
--- Refusal 39.
-
-module _ (s : List ℕ) (frames n m : ℕ) (r : Bool) (a : frames ≡ frames_at s) (b : n ≡ num_frames s) (c : m ≡ num_records s)
-    (h : r ≡ along (frame_inside s m) frames 28 n) where
-  frames-all : r ≡ along (frame_inside s (num_records s)) (frames_at s) 28 (num_frames s)
-  frames-all = rw (a, b, c) at h
-
-  pub ranges_stop : not r ≡ true → false ≡ ranges_right s
-  unfolding ranges_right
-  ranges_stop t = rw (← frames-all, not-true r t)
-
-  pub ranges_rest : (records l o : ℕ) (q : Bool) → not r ≡ false → records ≡ records_at s → l ≡ num_locations s → o ≡ num_live_outs s
-      → q ≡ along (record_inside s l o) records 22 m → q ≡ ranges_right s
-  unfolding ranges_right
-  ranges_rest records l o q t d e f k =
-      let g : q ≡ along (record_inside s (num_locations s) (num_live_outs s)) (records_at s) 22 (num_records s) = rw (c, d, e, f) at k in
-      rw (← frames-all, not-false r t, ← g)
 
 -- The check after each test.
 

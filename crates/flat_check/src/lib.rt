@@ -13,10 +13,7 @@ mod reserved;
 pub fn check(s: &[u8]) -> u8
     ensures { result ≡ flat_check s.now }
 {
-    if s.len() < layout::SECTION_LEAST {
-        return 36;
-    }
-    if s.len() > layout::SECTION_MOST {
+    if s.len() < layout::SECTION_LEAST || s.len() > layout::SECTION_MOST {
         return 36;
     }
     if s[0] != layout::VERSION {

@@ -6,6 +6,7 @@ ghost use Rattle.flat_check.specs.Check.{ranges_right};
 
 use flat::{layout, offsets};
 
+#[tactic(auto, using(crate::proofs::Accept::right_arranged), unfolding(crate::specs::Check::ranges_right))]
 pub fn ranges_right(s: &[u8]) -> bool
     requires { (section_least ≤ length s.now) × (offsets_right s.now ≡ true) }
     ensures { result ≡ ranges_right s.now }
@@ -13,14 +14,12 @@ pub fn ranges_right(s: &[u8]) -> bool
     let frames = offsets::offset(s, layout::FRAMES_OFFSET_AT);
     let records = offsets::offset(s, layout::RECORDS_OFFSET_AT);
     let n = offsets::num_records(s);
-    if !flat_along::frames_inside(s, frames, offsets::num_frames(s), n) {
-        return false;
-    }
-    flat_along::records_inside(
-        s,
-        records,
-        n,
-        offsets::num_locations(s),
-        offsets::num_live_outs(s),
-    )
+    flat_along::frames_inside(s, frames, offsets::num_frames(s), n)
+        && flat_along::records_inside(
+            s,
+            records,
+            n,
+            offsets::num_locations(s),
+            offsets::num_live_outs(s),
+        )
 }

@@ -6,35 +6,27 @@ ghost use Rattle.flat_check.specs.Check.{header_clear, frames_clear, registers_c
 
 use flat::{layout, offsets};
 
-fn both(a: bool, b: bool) -> bool
-    ensures { result ≡ (a && b) }
-{
-    if a { b } else { false }
-}
-
 fn header_clear(s: &[u8]) -> bool
     requires { section_least ≤ length s.now }
     ensures { result ≡ header_clear s.now }
 {
-    both(
-        flat_along::each_below(
-            s,
-            layout::BELOW_NONE,
-            layout::HEADER_RESERVED_AT,
-            1,
-            layout::HEADER_RESERVED_SIZE,
-        ),
-        flat_along::each_below(
-            s,
-            layout::BELOW_NONE,
-            layout::HEADER_SIZE,
-            1,
-            layout::HEADER_PADDING,
-        ),
+    flat_along::each_below(
+        s,
+        layout::BELOW_NONE,
+        layout::HEADER_RESERVED_AT,
+        1,
+        layout::HEADER_RESERVED_SIZE,
+    ) && flat_along::each_below(
+        s,
+        layout::BELOW_NONE,
+        layout::HEADER_SIZE,
+        1,
+        layout::HEADER_PADDING,
     )
 }
 
 // The two flag bytes of each frame.
+#[tactic(auto, using(crate::proofs::Accept::right_arranged))]
 fn frames_clear(s: &[u8]) -> bool
     requires { (section_least ≤ length s.now) × (offsets_right s.now ≡ true) }
     ensures { result ≡ frames_clear s.now }
@@ -59,16 +51,13 @@ fn registers_clear(s: &[u8], n: usize) -> bool
     let at = offsets::offset(s, layout::REGISTERS_OFFSET_AT);
     let next = offsets::offset(s, layout::RECORDS_OFFSET_AT);
     let end = at + layout::REGISTER_SIZE * n;
-    both(
-        flat_along::each_below(
-            s,
-            layout::BELOW_ONE,
-            at + layout::REGISTER_FLAGS_AT,
-            layout::REGISTER_SIZE,
-            n,
-        ),
-        flat_along::each_below(s, layout::BELOW_NONE, end, 1, next - end),
-    )
+    flat_along::each_below(
+        s,
+        layout::BELOW_ONE,
+        at + layout::REGISTER_FLAGS_AT,
+        layout::REGISTER_SIZE,
+        n,
+    ) && flat_along::each_below(s, layout::BELOW_NONE, end, 1, next - end)
 }
 
 // The records, and the padding after them.
@@ -80,16 +69,13 @@ fn records_clear(s: &[u8]) -> bool
     let n = offsets::num_records(s);
     let next = offsets::offset(s, layout::LOCATIONS_OFFSET_AT);
     let end = at + layout::RECORD_SIZE * n;
-    both(
-        flat_along::each_below(
-            s,
-            layout::BELOW_ONE,
-            at + layout::RECORD_FLAGS_AT,
-            layout::RECORD_SIZE,
-            n,
-        ),
-        flat_along::each_below(s, layout::BELOW_NONE, end, 1, next - end),
-    )
+    flat_along::each_below(
+        s,
+        layout::BELOW_ONE,
+        at + layout::RECORD_FLAGS_AT,
+        layout::RECORD_SIZE,
+        n,
+    ) && flat_along::each_below(s, layout::BELOW_NONE, end, 1, next - end)
 }
 
 // The locations and the live-outs.
@@ -101,37 +87,30 @@ fn items_clear(s: &[u8]) -> bool
     let next = offsets::offset(s, layout::LIVE_OUTS_OFFSET_AT);
     let n = offsets::num_locations(s);
     let m = offsets::num_live_outs(s);
-    both(
-        flat_along::each_below(
-            s,
-            layout::BELOW_NONE,
-            at + layout::LOCATION_RESERVED_AT,
-            layout::LOCATION_SIZE,
-            n,
-        ),
-        flat_along::each_below(
-            s,
-            layout::BELOW_NONE,
-            next + layout::LIVE_OUT_RESERVED_AT,
-            layout::LIVE_OUT_SIZE,
-            m,
-        ),
+    flat_along::each_below(
+        s,
+        layout::BELOW_NONE,
+        at + layout::LOCATION_RESERVED_AT,
+        layout::LOCATION_SIZE,
+        n,
+    ) && flat_along::each_below(
+        s,
+        layout::BELOW_NONE,
+        next + layout::LIVE_OUT_RESERVED_AT,
+        layout::LIVE_OUT_SIZE,
+        m,
     )
 }
 
 // All of them; the section has so many frame registers.
+#[tactic(auto, unfolding(crate::specs::Check::reserved_clear))]
 pub fn reserved_clear(s: &[u8], registers: usize) -> bool
     requires { (section_least ≤ length s.now) × (offsets_right s.now ≡ true) × (registers ≡ num_registers s.now) }
     ensures { result ≡ reserved_clear s.now }
 {
-    both(
-        both(
-            both(
-                both(header_clear(s), frames_clear(s)),
-                registers_clear(s, registers),
-            ),
-            records_clear(s),
-        ),
-        items_clear(s),
-    )
+    header_clear(s)
+        && frames_clear(s)
+        && registers_clear(s, registers)
+        && records_clear(s)
+        && items_clear(s)
 }

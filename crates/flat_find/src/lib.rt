@@ -12,23 +12,22 @@ use flat_match::{MatchAnswer, keys, not_found};
 // Where the frames name more records than this, the records' offsets are put in order first: to do so takes less than to try them all.
 const NAMED_MOST: u64 = 16777216;
 
-// The first match in frame order, then record order, by the keys of the first `count` records.
-fn in_frames(s: &[u8], address: u64, keys: &[u64], count: usize) -> MatchAnswer
-    requires { Accepted s.now × (count ≤ length keys.now) × (count ≤ keys_most) × Keyed s.now keys.now count }
+// The first match in frame order, then record order, by the keys of the first records.
+#[tactic(auto, using(flat_check::proofs::Accept::accepted_least, flat_check::proofs::Accept::accepted_arranged))]
+fn in_frames(s: &[u8], address: u64, keys: &[u64]) -> MatchAnswer
+    requires { Accepted s.now × (length keys.now ≤ keys_most) × Keyed s.now keys.now (length keys.now) }
     ensures { result ≡ first_of (matches s.now address) }
 {
     let frames = offsets::offset(s, layout::FRAMES_OFFSET_AT);
     let n = offsets::num_frames(s);
-    let mut i: usize = 0;
-    while i < n {
+    for i in 0..n {
         let at = frames + layout::FRAME_SIZE * i;
-        let k = wire::u16_at(s, at + layout::RECORD_INDEX_AT) as usize;
-        let number = wire::u16_at(s, at + layout::RECORD_COUNT_AT) as usize;
-        let hit = keys::in_frame(s, address, i, k, number, keys, count);
+        let k = usize::from(wire::u16_at(s, at + layout::RECORD_INDEX_AT));
+        let number = usize::from(wire::u16_at(s, at + layout::RECORD_COUNT_AT));
+        let hit = keys::in_frame(s, address, i, k, number, keys, keys.len());
         if hit.number == 0 {
             return hit;
         }
-        i += 1;
     }
     not_found(41)
 }
@@ -38,8 +37,7 @@ fn one_by_one(s: &[u8], address: u64) -> MatchAnswer
     requires { Accepted s.now }
     ensures { result ≡ first_of (matches s.now address) }
 {
-    let none = [0u64; 1];
-    in_frames(s, address, &none, 0)
+    in_frames(s, address, &[])
 }
 
 // The same by the keys of all records that a frame can name.
@@ -49,7 +47,7 @@ fn by_keys(s: &[u8], address: u64) -> MatchAnswer
 {
     let mut ordered = [0u64; flat_keys::KEYS_MOST];
     let count = flat_keys::order(s, &mut ordered);
-    in_frames(s, address, &ordered, count)
+    in_frames(s, address, &ordered[..count])
 }
 
 // A record by its address: 36 to 40, then 41.
@@ -61,7 +59,8 @@ pub fn find(s: &[u8], address: u64) -> MatchAnswer
         return not_found(refusal);
     }
     if flat_keys::named(s) > NAMED_MOST {
-        return by_keys(s, address);
+        by_keys(s, address)
+    } else {
+        one_by_one(s, address)
     }
-    one_by_one(s, address)
 }

@@ -15,52 +15,47 @@ pub const KEYS_MOST: usize = 131072;
 
 pub const KEY_STEP: u64 = 131072;
 
-fn smaller(a: usize, b: usize) -> usize
-    ensures { (result ≤ a) × (result ≤ b) }
-{
-    if a < b { a } else { b }
-}
-
-// The keys of the first `count` records: the offset, and the record's number after it.
-fn fill(s: &[u8], keys: &mut [u64], count: usize)
-    requires { (section_least ≤ length s.now) × (records_at s.now + record_size * count ≤ length s.now) × (count ≤ length keys.old) × (count ≤ keys_most) }
-    ensures { (length keys.new ≡ length keys.old) × Filled s.now keys.new count }
+// The keys of the first records, as many as the list has: the offset, and the record's number after it.
+fn fill(s: &[u8], keys: &mut [u64])
+    requires { (section_least ≤ length s.now) × (records_at s.now + record_size * length keys.old ≤ length s.now) × (length keys.old ≤ keys_most) }
+    ensures { (length keys.new ≡ length keys.old) × Filled s.now keys.new (length keys.old) }
 {
     let records = offsets::offset(s, layout::RECORDS_OFFSET_AT);
-    let mut j: usize = 0;
-    while j < count {
+    for (j, key) in keys.iter_mut().enumerate() {
         let offset = wire::u32_at(
             s,
             records + layout::RECORD_SIZE * j + layout::INSTRUCTION_OFFSET_AT,
-        ) as u64;
-        keys[j] = offset * KEY_STEP + j as u64;
-        j += 1;
+        );
+        *key = u64::from(offset) * KEY_STEP + j as u64;
     }
 }
 
 // Puts the keys of the first records in order, as many as there are and a frame can name. Answers their number.
+#[tactic(auto, using(flat_check::proofs::Accept::accepted_least, flat_check::proofs::Accept::accepted_arranged))]
 pub fn order(s: &[u8], keys: &mut [u64]) -> usize
     requires { Accepted s.now × (keys_most ≤ length keys.old) }
     ensures { (length keys.new ≡ length keys.old) × (result ≤ keys_most) × Keyed s.now keys.new result }
 {
     let records = offsets::num_records(s);
-    let count = smaller(records, KEYS_MOST);
-    fill(s, keys, count);
+    let count = records.min(KEYS_MOST);
+    fill(s, &mut keys[..count]);
     sorted_numbers::sort(keys, count);
     count
 }
 
 // How many records the frames name in all, each as often as it is named.
+#[tactic(auto, using(flat_check::proofs::Accept::accepted_least, flat_check::proofs::Accept::accepted_arranged))]
 pub fn named(s: &[u8]) -> u64
     requires { Accepted s.now }
 {
     let frames = offsets::offset(s, layout::FRAMES_OFFSET_AT);
     let n = offsets::num_frames(s);
-    let mut sum: u64 = 0;
-    let mut k: usize = 0;
-    while k < n {
-        sum += wire::u16_at(s, frames + layout::FRAME_SIZE * k + layout::RECORD_COUNT_AT) as u64;
-        k += 1;
+    let mut sum = 0;
+    for k in 0..n {
+        sum += u64::from(wire::u16_at(
+            s,
+            frames + layout::FRAME_SIZE * k + layout::RECORD_COUNT_AT,
+        ));
     }
     sum
 }

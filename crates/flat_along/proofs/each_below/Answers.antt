@@ -1,29 +1,14 @@
-use borrow.Author.Tests.{lt-ltb, le-ltb}
-use native.Mathlib.Omega.{arith}
-use mathlib.Core.Path.{sym}
-use Rattle.flat.proofs.Steps.{stride, test_on, test_stop, test_end}
+use Rattle.std.proofs.Common.{rules, refl, ◌∙◌, ◌+◌, ◌*◌, sym}
+use Rattle.std.proofs.lemmas.Iterator.{YieldsList-from_range}
+use Rattle.std.proofs.lemmas.Iterator.Search.{all_from_yields_List}
+use lib.Dec.{ltb}
+use lib.ListN.{get_or}
 use Rattle.flat.specs.Places.{along}
+use Rattle.flat_along.proofs.Below.{every_number}
 use Rattle.flat_along.proofs.each_below.Goals as goal
-
-pub loop-i-init : goal.loop-i-init
-loop-i-init c = c.fours_below-i.ensures
-
-pub overflow_mul-p : goal.overflow_mul-p
-overflow_mul-p c = omega (arith, stride c.args.step c.loop-i.i c.args.n (omega arith))
-
-pub overflow_add-p : goal.overflow_add-p
-overflow_add-p c = omega (arith, stride c.args.step c.loop-i.i c.args.n (omega arith))
-
-pub bounds-s-p : goal.bounds-s-p
-bounds-s-p c = omega (arith, stride c.args.step c.loop-i.i c.args.n (omega arith))
-
-pub returns-then-s-p : goal.returns-then-s-p
-unfolding along
-returns-then-s-p c = sym (test_stop _ _ _ c.loop-i.invariant (omega arith) (le-ltb _ _ c.if-s-p.true))
-
-pub loop-i-preserved : goal.loop-i-preserved
-loop-i-preserved c = test_on _ _ _ c.loop-i.invariant (omega arith) (lt-ltb _ _ c.if-s-p.false)
 
 pub returns : goal.returns
 unfolding along
-returns c = sym (test_end _ _ _ c.loop-i.invariant (omega arith))
+returns c =
+    all_from_yields_List (λ k. ltb (get_or c.args.s.now (c.args.at + c.args.step * k) 0) c.args.limit) _ _ _ c.all.ensures.ran
+    (YieldsList-from_range c.fours_below-looked.result c.args.n _ refl refl) (λ x b q k. search rules) ∙ every_number _ _ _ ∙ sym c.fours_below-looked.ensures.same

@@ -1,34 +1,18 @@
-use native.Mathlib.Omega.{arith}
-use Rattle.flat.proofs.Steps.{stride, test_start}
-use Rattle.flat_along.proofs.Below.{first-over, second-over, pair_on, pair_end}
+use Rattle.std.proofs.Common.{ℕ, ◌≡◌, arith, rules, refl, ◌∙◌, ◌+◌, ◌*◌, sym}
+use Rattle.std.proofs.lemmas.Iterator.{YieldsList-from_range}
+use Rattle.std.proofs.lemmas.Iterator.Search.{all_from_yields_List}
+use lib.Dec.{ltb}
+use lib.ListN.{get_or}
+use mathlib.Core.Bool.{◌&&◌}
+use Rattle.flat.specs.Places.{along}
+use Rattle.flat.proofs.Steps.{every-both}
+use Rattle.flat_along.proofs.Below.{every_number}
 use Rattle.flat_along.proofs.pairs_below.Goals as goal
 
-pub loop-i-init : goal.loop-i-init
-loop-i-init c = test_start _ _
-
-pub overflow_mul-p : goal.overflow_mul-p
-overflow_mul-p c = omega (arith, stride c.args.step c.loop-i.i c.args.n (omega arith))
-
-pub overflow_add-p : goal.overflow_add-p
-overflow_add-p c = omega (arith, stride c.args.step c.loop-i.i c.args.n (omega arith))
-
-pub bounds-s-p : goal.bounds-s-p
-bounds-s-p c = omega (arith, stride c.args.step c.loop-i.i c.args.n (omega arith))
-
-pub returns-then-s-p : goal.returns-then-s-p
-returns-then-s-p c = first-over _ _ _ _ _ _ _ c.loop-i.invariant (omega arith) c.if-s-p.true
-
-pub overflow_add-p-in-loop-i : goal.overflow_add-p-in-loop-i
-overflow_add-p-in-loop-i c = omega (arith, stride c.args.step c.loop-i.i c.args.n (omega arith))
-
-pub bounds-s-p-in-loop-i : goal.bounds-s-p-in-loop-i
-bounds-s-p-in-loop-i c = omega (arith, stride c.args.step c.loop-i.i c.args.n (omega arith))
-
-pub returns-then-s-p-2 : goal.returns-then-s-p-2
-returns-then-s-p-2 c = second-over _ _ _ _ _ _ _ c.loop-i.invariant (omega arith) c.if-s-p-2.true
-
-pub loop-i-preserved : goal.loop-i-preserved
-loop-i-preserved c = pair_on _ _ _ _ _ _ _ c.loop-i.invariant (omega arith) c.if-s-p.false c.if-s-p-2.false
-
 pub returns : goal.returns
-returns c = pair_end _ _ _ _ _ _ _ c.loop-i.invariant (omega arith)
+unfolding along
+returns c =
+    let low = λ (k : ℕ). ltb (get_or c.args.s.now (c.args.at + c.args.step * k) 0) c.args.low in
+    let high = λ (k : ℕ). ltb (get_or c.args.s.now (c.args.at + 1 + c.args.step * k) 0) c.args.high in
+    all_from_yields_List (λ k. low k && high k) _ _ _ c.all.ensures.ran
+    (YieldsList-from_range 0 c.args.n c.args.n refl (omega arith)) (λ x b q k. let e : c.args.at + 1 + c.args.step * x ≡ c.args.at + c.args.step * x + 1 = omega arith in rw e (search rules)) ∙ every_number _ _ _ ∙ sym (every-both low high 0 c.args.n)

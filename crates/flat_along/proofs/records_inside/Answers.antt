@@ -1,19 +1,12 @@
-use native.Mathlib.Omega.{arith}
-use mathlib.Core.Path.{sym, ◌∙◌}
-use Rattle.flat.proofs.Steps.{test_start, test_on, test_stop, test_end}
-use Rattle.flat.specs.Places.{along}
+use Rattle.std.proofs.Common.{rules, arith, refl, ◌∙◌, ◌+◌, ◌*◌}
+use Rattle.std.proofs.lemmas.Iterator.{YieldsList-from_range}
+use Rattle.std.proofs.lemmas.Iterator.Search.{all_from_yields_List}
+use Rattle.flat.specs.Places.{record_inside, along}
+use Rattle.flat_along.proofs.Below.{every_number}
 use Rattle.flat_along.proofs.records_inside.Goals as goal
-
-pub loop-i-init : goal.loop-i-init
-loop-i-init c = test_start _ _
-
-pub returns-then-not-record_inside : goal.returns-then-not-record_inside
-unfolding along
-returns-then-not-record_inside c = sym (test_stop _ _ _ c.loop-i.invariant (omega arith) (sym c.record_inside.ensures ∙ c.if-not-record_inside.true))
-
-pub loop-i-preserved : goal.loop-i-preserved
-loop-i-preserved c = test_on _ _ _ c.loop-i.invariant (omega arith) (sym c.record_inside.ensures ∙ c.if-not-record_inside.false)
 
 pub returns : goal.returns
 unfolding along
-returns c = sym (test_end _ _ _ c.loop-i.invariant (omega arith))
+returns c =
+    all_from_yields_List (λ k. record_inside c.args.s.now c.args.locations c.args.outs (c.args.records + 22 * k)) _ _ _ c.all.ensures.ran
+    (YieldsList-from_range 0 c.args.n c.args.n refl (omega arith)) (λ x b q k. search rules) ∙ every_number _ _ _

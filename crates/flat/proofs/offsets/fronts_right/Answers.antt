@@ -1,53 +1,40 @@
+use mathlib.Core.Path.{sym, ◌∙◌}
+use mathlib.Core.Bool.{true≢false}
 use native.Mathlib.Omega.{arith}
-use Rattle.flat.specs.Places.{num_constants, num_frames}
-use Rattle.flat.proofs.Arrays.{right_not, right_outside, fronts_not, fronts_told}
-use borrow.Author.Rules.{rules}
+use borrow.Author.Tests.{eqb-true, eqb-false, leb-true}
+use Rattle.flat.proofs.Arrays.{right_not, right_outside}
 use Rattle.flat.proofs.offsets.fronts_right.Goals as goal
-
-pub returns-then-s-registers : goal.returns-then-s-registers
-returns-then-s-registers c = fronts_not _ (right_outside _ (λ h. omega arith))
-
-pub returns-then-constants-after : goal.returns-then-constants-after
-returns-then-constants-after c = fronts_not _ (right_not _ (λ r. omega (arith, r.constants)))
-
-pub after-requires-2 : goal.after-requires-2
-unfolding num_constants
-after-requires-2 c = search rules
+use Rattle.flat.proofs.offsets.fronts_right.Goals.{then-registers-s, else-registers-s, then-constants-after, else-constants-after}
 
 pub returns-then-frames-after : goal.returns-then-frames-after
-returns-then-frames-after c = fronts_not _ (right_not _ (λ r. omega (arith, r.frames)))
+returns-then-frames-after c = (
+  (λ t. elim c.if-constants-after.branch [
+    | then-constants-after w ↦ elim c.if-registers-s.branch [
+      | then-registers-s v ↦
+          let d = eqb-true _ _ (sym v.value-is ∙ w.if-constants-after.true) in
+          let e = eqb-true _ _ (sym w.value-is ∙ c.if-frames-after.true) in
+          let f = eqb-true _ _ t in
+          record {
+            constants = omega (arith, c.offset-constants.ensures.0, v.after.ensures);
+            frames = omega (arith, c.offset-frames.ensures.0, c.offset-constants.ensures.0, w.after-then-constants-after.ensures, w.num_constants.ensures);
+            registers = omega (arith, c.offset-registers.ensures.0, c.offset-frames.ensures.0, c.after-then-frames-after.ensures, c.num_frames.ensures);
+            inside = omega (arith, c.offset-registers.ensures.0, v.if-registers-s.true);
+          }
+      | else-registers-s v ↦ absurd (let e = leb-true _ _ (sym v.value-is ∙ w.if-constants-after.true) in omega (arith, v.if-registers-s.false))
+    ]
+    | else-constants-after w ↦ absurd (true≢false (sym c.if-frames-after.true ∙ w.value-is ∙ w.if-constants-after.false))
+  ]),
+  (λ t. right_not _ (λ r. let e = eqb-false _ _ t in omega (arith, r.registers, c.offset-registers.ensures.0, c.offset-frames.ensures.0, c.after-then-frames-after.ensures, c.num_frames.ensures))),
+)
 
-pub after-requires-3 : goal.after-requires-3
-unfolding num_frames
-after-requires-3 c = search rules
-
-pub returns-then-registers-after : goal.returns-then-registers-after
-returns-then-registers-after c = fronts_not _ (right_not _ (λ r. omega (arith, r.registers)))
-
-pub returns : goal.returns
-returns c =
-    fronts_told _ (record {
-      constants = omega (
-        arith,
-        c.offset-constants.ensures.0,
-        c.if-constants-after.false,
-        c.after.ensures,
-      );
-      frames = omega (
-        arith,
-        c.offset-frames.ensures.0,
-        c.offset-constants.ensures.0,
-        c.if-frames-after.false,
-        c.after-2.ensures,
-        c.num_constants.ensures,
-      );
-      registers = omega (
-        arith,
-        c.offset-registers.ensures.0,
-        c.offset-frames.ensures.0,
-        c.if-registers-after.false,
-        c.after-3.ensures,
-        c.num_frames.ensures,
-      );
-      inside = omega (arith, c.offset-registers.ensures.0, c.if-s-registers.false);
-    })
+pub returns-else-frames-after : goal.returns-else-frames-after
+returns-else-frames-after c = (
+  (λ t. absurd (true≢false (sym t ∙ c.if-frames-after.false))),
+  (λ t. elim c.if-constants-after.branch [
+    | then-constants-after w ↦ right_not _ (λ r. let e = eqb-false _ _ (sym w.value-is ∙ t) in omega (arith, r.frames, w.after-then-constants-after.ensures, w.num_constants.ensures))
+    | else-constants-after w ↦ elim c.if-registers-s.branch [
+      | then-registers-s v ↦ right_not _ (λ r. let e = eqb-false _ _ (sym v.value-is ∙ w.if-constants-after.false) in omega (arith, r.constants, v.after.ensures))
+      | else-registers-s v ↦ right_outside _ (λ h. omega (arith, v.if-registers-s.false))
+    ]
+  ]),
+)

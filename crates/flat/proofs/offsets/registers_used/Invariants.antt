@@ -4,7 +4,4 @@ use Rattle.flat.specs.Places.{greatest, registers_used}
 use Rattle.flat.proofs.offsets.registers_used.Given as goal
 
 abbrev pub invariant-loop-i : goal.invariant-loop-i
-invariant-loop-i l = (l.i ≤ l.n) × (l.most ≤ 131070) × (greatest (registers_used l.s l.frames) 0 l.n ≡ max l.most (greatest (registers_used l.s l.frames) l.i (l.n - l.i)))
-
-abbrev pub decreases-loop-i : goal.decreases-loop-i
-decreases-loop-i l = l.n - l.i
+invariant-loop-i l = (l.most ≤ 131070) × (greatest (registers_used l.s l.frames) 0 l.n ≡ max l.most (greatest (registers_used l.s l.frames) l.i (l.n - l.i)))
