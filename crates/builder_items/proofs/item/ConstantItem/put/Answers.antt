@@ -1,5 +1,5 @@
 use Rattle.builder_items.proofs.Puts.{constant-put}
-use Rattle.builder_items.proofs.item.constant.Goals as goal
+use Rattle.builder_items.proofs.item.ConstantItem.put.Goals as goal
 
 pub returns : goal.returns
 returns c =
