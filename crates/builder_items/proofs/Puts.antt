@@ -4,17 +4,21 @@ use mathlib.Core.Path.{◌≡◌, refl, sym, ◌∙◌}
 use mathlib.Core.Bool.{true, false}
 use mathlib.Core.List.{List, [], ◌∷◌, ◌++◌, append_assoc}
 use native.Mathlib.Omega.{arith}
-use native.Mathlib.Nat.{add-zero, add_assoc}
-use native.Mathlib.Numerals.{add-one}
-use lib.ListN.{length, get_or, set}
+use native.Mathlib.Nat.{add-zero, add_assoc, mul-le-mul_left}
+use lib.ListN.{length, get_or, set, replicate, take, drop, length-drop}
 use lib.Seq.{sets, length-sets}
+use Rattle.std.proofs.lemmas.List.Edits.{sets-eq, paste_all}
+use Rattle.std.proofs.lemmas.Slice.{put_mid-paste}
+use Rattle.std.proofs.Common.{length-take-le}
+use borrow.Rule.Slice.PartMut.{put_mid}
 use Rattle.wire.specs.Word.{Bytes, word, bytes}
 use Rattle.wire.proofs.Laws.{word-add, word_bound, bytes_split, length-bytes, sets-append}
 use Rattle.stackmap.specs.Fields.{Field, ◌of◌, bytes_of, size, all, many}
 use Rattle.stackmap.specs.Section.{function_fields, constant_fields, location_fields, live_out_fields}
 use Rattle.stackmap.proofs.Fields.{length-bytes_of, bytes_of-append}
 use Rattle.stackmap.proofs.Items.{byte_word}
-use Rattle.stackmap.proofs.Steps.{mul_step, many_step}
+use Rattle.stackmap.proofs.Steps.{many_step}
+use Rattle.builder_items.specs.Run.{fields_of}
 use Rattle.listing.specs.Listing.{listed_function, listed_constant, listed_location, listed_live_out}
 
 -- Fields.
@@ -39,10 +43,24 @@ puts-all fs out a = rw add-zero at (puts-from fs out a 0)
 
 -- Bytes.
 
-pub zeros_step : (n : ℕ) (out : List ℕ) (p : ℕ) → 0 < n → sets out p (bytes n 0) ≡ sets (set out p 0) (p + 1) (bytes (n - 1) 0)
+pub zero_bytes : (n : ℕ) → bytes n 0 ≡ replicate n 0
 unfolding bytes
-zeros_step zero out p h = absurd (omega arith)
-zeros_step (suc n) out p h = let b : suc n - 1 ≡ n = omega arith in rw (b, add-one)
+zero_bytes zero = refl
+zero_bytes (suc n) = rw (zero_bytes n)
+
+-- after a write to `out[a..e]`, whose part holds ys now
+pub part-sets : (a e : ℕ) (out ys vs : List ℕ) → ys ≡ vs → a + length vs ≡ e → e ≤ length out → put_mid a (e - a) out ys ≡ sets out a vs
+part-sets a e out ys vs p l h =
+    let k : length vs ≡ e - a = omega arith in
+    let r : a + length vs ≤ length out = omega arith in
+    put_mid-paste a (e - a) out ys vs (length vs) p k refl ∙ paste_all out a vs (length vs) refl ∙ sym (sets-eq vs out a r ∙ append_assoc (take a out) vs _)
+
+pub zeros-put : (a n : ℕ) (out ys : List ℕ) → a + n ≤ length out → ys ≡ replicate (length (take (a + n - a) (drop a out))) 0
+    → put_mid a (a + n - a) out ys ≡ sets out a (bytes n 0)
+zeros-put a n out ys h e =
+    let d : a + n - a ≤ length (drop a out) = rw length-drop (omega arith) in
+    let k : length (take (a + n - a) (drop a out)) ≡ n = length-take-le (a + n - a) (drop a out) d ∙ omega arith in
+    part-sets a (a + n) out ys (bytes n 0) (rw (k, ← zero_bytes) at e) (rw length-bytes) h
 
 -- Items.
 
@@ -116,38 +134,61 @@ module _ (l : List ℕ) (at : ℕ) (out : List ℕ) (to : ℕ) where
         let z : word 1 l (at + 3) % 256 ≡ get_or l (at + 3) 0 = rw byte_word (omega arith) in
         rw (add-zero, z) at (puts-all (live_out_fields (listed_live_out l at)) out to)
 
--- Items of one size, one after the other.
+-- Items of one kind, one after the other.
 
-module _ {A : Type 0} (fields : A → List Field) (read : List ℕ → ℕ → A) (k step : ℕ) where
-  -- of n items from `at` on, `left` are still to be put: from p on, to q
-  pub record Putting (l : List ℕ) (at n : ℕ) (out₀ : List ℕ) (to : ℕ) (out : List ℕ) (p q left : ℕ) : Type 0 where
-    pub inside : p + step * left ≤ length l
-    pub room : q + k * left ≤ length out
-    pub long : length out ≡ length out₀
-    pub same : sets out₀ to (bytes_of (all fields (many read step n l at))) ≡ sets out q (bytes_of (all fields (many read step left l p)))
+-- what n items are read as, by their fields
+pub all_fields : {A : Type 0} (fields : A → List Field) (read : List ℕ → ℕ → A) (step n : ℕ) (l : List ℕ) (at : ℕ)
+    → fields_of (λ l at. fields (read l at)) step n l at ≡ all fields (many read step n l at)
+unfolding all many
+all_fields fields read step zero l at = refl
+all_fields fields read step (suc n) l at = rw (all_fields fields read step n l (at + step))
 
-module _ {A : Type 0} {fields : A → List Field} {read : List ℕ → ℕ → A} {k step : ℕ} {l : List ℕ} {at n : ℕ} {out₀ : List ℕ} {to : ℕ} where
-  pub put-start : at + step * n ≤ length l → to + k * n ≤ length out₀ → Putting fields read k step l at n out₀ to out₀ at to n
-  put-start i r = record { inside = i; room = r; long = refl; same = refl }
+module _ (fields : List ℕ → ℕ → List Field) (step long : ℕ) (l : List ℕ) (at n : ℕ) (out₀ : List ℕ) (to : ℕ) where
+  -- the first i of the items from `at` are put
+  pub record Putting (out : List ℕ) (i : ℕ) : Type 0 where
+    pub most : i ≤ n
+    pub inside : at + step * n ≤ length l
+    pub room : to + long * n ≤ length out
+    pub long_lem : length out ≡ length out₀
+    pub same : sets out₀ to (bytes_of (fields_of fields step n l at)) ≡ sets out (to + long * i) (bytes_of (fields_of fields step (n - i) l (at + step * i)))
 
-  -- one item is put
-  pub put_on : {out : List ℕ} {p q left : ℕ} (out' : List ℕ) → ((x : A) → size (fields x) ≡ k) → Putting fields read k step l at n out₀ to out p q left → 0 < left
-      → out' ≡ sets out q (bytes_of (fields (read l p))) → Putting fields read k step l at n out₀ to out' (p + step) (q + k) (left - 1)
-  put_on {out} {p} {q} {left} out' even w h e =
-      let i = w.inside in
-      let r = w.room in
-      let g = w.long in
-      let z : length out' ≡ length out = rw (e, length-sets) in
-      record {
-        inside = omega (arith, mul_step step left h);
-        room = omega (arith, mul_step k left h);
-        long = omega arith;
-        same = w.same ∙ rw (many_step read step left l p h, e)
-            (unfold all in sym (then_put (fields (read l p)) (all fields (many read step (left - 1) l (p + step))) out q (q + k) (rw (even (read l p)))));
-      }
+module _ {fields : List ℕ → ℕ → List Field} {step long : ℕ} {l : List ℕ} {at n : ℕ} {out₀ : List ℕ} {to : ℕ} where
+  pub put-start : at + step * n ≤ length l → to + long * n ≤ length out₀ → Putting fields step long l at n out₀ to out₀ 0
+  put-start i r =
+      let a : at + step * 0 ≡ at = omega arith in
+      let b : to + long * 0 ≡ to = omega arith in
+      let c : n - 0 ≡ n = omega arith in
+      record { most = omega arith; inside = i; room = r; long_lem = refl; same = rw (a, b, c) }
 
-  -- all are put
-  pub put-end : {out : List ℕ} {p q left : ℕ} → Putting fields read k step l at n out₀ to out p q left → left ≡ 0
-      → out ≡ sets out₀ to (bytes_of (all fields (many read step n l at)))
-  unfolding many all bytes_of
-  put-end w z = sym (w.same ∙ rw z)
+  module _ {out : List ℕ} {i : ℕ} (w : Putting fields step long l at n out₀ to out i) where
+    -- the next item is inside, and there is room for it
+    pub put_here : i < n → (at + step * i + step ≤ length l) × (to + long * i + long ≤ length out)
+    put_here h =
+        let k = w.inside in
+        let r = w.room in
+        let f : i + 1 ≤ n = omega arith in
+        (omega (arith, mul-le-mul_left step f), omega (arith, mul-le-mul_left long f))
+
+    -- one item is put
+    pub put_on : (out' : List ℕ) → ((l : List ℕ) (at : ℕ) → size (fields l at) ≡ long) → i < n
+        → out' ≡ sets out (to + long * i) (bytes_of (fields l (at + step * i))) → Putting fields step long l at n out₀ to out' (i + 1)
+    put_on out' even h e =
+        let g = w.long_lem in
+        let r = w.room in
+        let z : length out' ≡ length out = rw (e, length-sets) in
+        let a : at + step * (i + 1) ≡ at + step * i + step = omega arith in
+        let b : to + long * (i + 1) ≡ to + long * i + long = omega arith in
+        let c : n - (i + 1) ≡ n - i - 1 = omega arith in
+        record {
+          most = omega arith;
+          inside = w.inside;
+          room = omega arith;
+          long_lem = omega arith;
+          same = w.same ∙ rw (many_step fields step (n - i) l (at + step * i) (omega arith), e, a, b, c)
+              (unfold all in sym (then_put (fields l (at + step * i)) (fields_of fields step (n - i - 1) l (at + step * i + step)) out (to + long * i) (to + long * i + long) (rw (even l (at + step * i)))));
+        }
+
+    -- all are put
+    pub put-end : i ≡ n → out ≡ sets out₀ to (bytes_of (fields_of fields step n l at))
+    unfolding many all bytes_of
+    put-end z = let c : n - i ≡ 0 = omega arith in sym (w.same ∙ rw c)

@@ -7,26 +7,28 @@ ghost use Rattle.stackmap.specs.Fields.{bytes_of, all, many};
 ghost use Rattle.stackmap.specs.Section.{function_fields, constant_fields, location_fields, live_out_fields};
 ghost use Rattle.listing.specs.Layout.{function_item_size, constant_item_size, location_item_size, live_out_item_size};
 ghost use Rattle.listing.specs.Listing.{listed_function, listed_constant, listed_location, listed_live_out};
+ghost use Rattle.builder_items.specs.Run.{fields_of};
 
-use crate::item;
-use listing::numbers;
-use stackmap::layout;
+use crate::item::{Constant, Function, Item, LiveOut, Location};
+
+// The `n` items of this kind from `at`.
+fn items<T: Item>(item: &T, l: &[u8], at: usize, n: usize, out: &mut [u8], to: usize)
+    requires { (at + T.listing_size * n ≤ length l.now) × (to + T.section_size item.now * n ≤ length out.old) }
+    ensures { out.new ≡ sets out.old to (bytes_of (fields_of (T.fields item.now) T.listing_size n l.now at)) }
+{
+    let from = item.listing_size();
+    let step = item.section_size();
+    for i in 0..n {
+        item.put(l, at + from * i, out, to + step * i);
+    }
+}
 
 // The `n` function items from `at`.
 pub fn functions(l: &[u8], old: bool, at: usize, n: usize, out: &mut [u8], to: usize)
     requires { (at + function_item_size * n ≤ length l.now) × (to + function_size old * n ≤ length out.old) }
     ensures { out.new ≡ sets out.old to (bytes_of (all (function_fields old) (many listed_function function_item_size n l.now at))) }
 {
-    let step = layout::function_size(old);
-    let mut p = at;
-    let mut q = to;
-    let mut left = n;
-    while left > 0 {
-        item::function(l, old, p, out, q);
-        p += numbers::FUNCTION_ITEM_SIZE;
-        q += step;
-        left -= 1;
-    }
+    items(&Function { old }, l, at, n, out, to);
 }
 
 // The `n` constant items from `at`.
@@ -34,15 +36,7 @@ pub fn constants(l: &[u8], at: usize, n: usize, out: &mut [u8], to: usize)
     requires { (at + constant_item_size * n ≤ length l.now) × (to + constant_size * n ≤ length out.old) }
     ensures { out.new ≡ sets out.old to (bytes_of (all constant_fields (many listed_constant constant_item_size n l.now at))) }
 {
-    let mut p = at;
-    let mut q = to;
-    let mut left = n;
-    while left > 0 {
-        item::constant(l, p, out, q);
-        p += numbers::CONSTANT_ITEM_SIZE;
-        q += layout::CONSTANT_SIZE;
-        left -= 1;
-    }
+    items(&Constant, l, at, n, out, to);
 }
 
 // The `n` location items from `at`.
@@ -50,16 +44,7 @@ pub fn locations(l: &[u8], old: bool, at: usize, n: usize, out: &mut [u8], to: u
     requires { (at + location_item_size * n ≤ length l.now) × (to + location_size old * n ≤ length out.old) }
     ensures { out.new ≡ sets out.old to (bytes_of (all (location_fields old) (many listed_location location_item_size n l.now at))) }
 {
-    let step = layout::location_size(old);
-    let mut p = at;
-    let mut q = to;
-    let mut left = n;
-    while left > 0 {
-        item::location(l, old, p, out, q);
-        p += numbers::LOCATION_ITEM_SIZE;
-        q += step;
-        left -= 1;
-    }
+    items(&Location { old }, l, at, n, out, to);
 }
 
 // The `n` live-out items from `at`.
@@ -67,13 +52,5 @@ pub fn live_outs(l: &[u8], at: usize, n: usize, out: &mut [u8], to: usize)
     requires { (at + live_out_item_size * n ≤ length l.now) × (to + live_out_size * n ≤ length out.old) }
     ensures { out.new ≡ sets out.old to (bytes_of (all live_out_fields (many listed_live_out live_out_item_size n l.now at))) }
 {
-    let mut p = at;
-    let mut q = to;
-    let mut left = n;
-    while left > 0 {
-        item::live_out(l, p, out, q);
-        p += numbers::LIVE_OUT_ITEM_SIZE;
-        q += layout::LIVE_OUT_SIZE;
-        left -= 1;
-    }
+    items(&LiveOut, l, at, n, out, to);
 }

@@ -18,6 +18,10 @@ use Rattle.parser_items.specs.Count.{RecordCounted}
 use Rattle.builder_records.specs.Put.{head_fields}
 use Rattle.builder_items.proofs.Puts.{then_put, puts-all}
 
+-- a product by the size that was answered
+pub scaled : (a b n : ℕ) → a ≡ b → a * n ≡ b * n
+scaled a b n e = rw e
+
 -- the head
 pub head-put : (l : List ℕ) (at n : ℕ) (out : List ℕ) (to : ℕ)
     → sets (sets (sets (sets out to (bytes 8 (word 8 l (at + 1)))) (to + 8) (bytes 4 (word 4 l (at + 9)))) (to + 12) (bytes 2 0)) (to + 14) (bytes 2 n)

@@ -58,16 +58,16 @@ module _ {l : List ℕ} {old : Bool} {from : ℕ} {out₀ : List ℕ} {to : ℕ}
         let z = sized-here s (ready-stands w.ready h) old in
         omega arith
 
-    pub records_on : (out' : List ℕ) → out' ≡ sets out q (bytes_of (record_fields old (listed_record l at)))
-        → PuttingRecords l old from out₀ to out' stop (q + record_size old a b) (left - 1)
-    records_on out' e =
+    pub records_on : {left' : ℕ} → left' ≡ left - 1 → (out' : List ℕ) → out' ≡ sets out q (bytes_of (record_fields old (listed_record l at)))
+        → PuttingRecords l old from out₀ to out' stop (q + record_size old a b) left'
+    records_on f out' e =
         let y = ready-stands w.ready h in
         let r = w.room in
         let g = w.long in
         let z = sized-here s y old in
         let k : length out' ≡ length out = rw (e, length-sets) in
         record {
-          ready = ready_on w.ready h s;
+          ready = rw f (ready_on w.ready h s);
           room = omega arith;
           long = omega arith;
           same = w.same ∙ rw (records-here s y, e)

@@ -33,6 +33,7 @@ fn head(l: &[u8], at: usize, n: usize, out: &mut [u8], to: usize)
 }
 
 // The record item at `at` with its locations and live-outs, and the paddings after both.
+#[tactic(auto, using(crate::proofs::RecordPut::scaled))]
 fn whole_record(l: &[u8], old: bool, at: usize, shape: shape::Shape, out: &mut [u8], to: usize)
     requires { RecordCounted l.now at shape.locations shape.outs shape.stop × (shape.locations ≤ items_most) × (shape.outs ≤ items_most) × (to + record_size old shape.locations shape.outs ≤ length out.old) }
     ensures { out.new ≡ sets out.old to (bytes_of (record_fields old (listed_record l.now at))) }
@@ -60,13 +61,11 @@ pub fn records(l: &[u8], old: bool, from: usize, n: usize, out: &mut [u8], to: u
     ensures { out.new ≡ sets out.old to (bytes_of (all (record_fields old) (records_from l.now from))) }
 {
     let mut at = from;
-    let mut q = to;
-    let mut left = n;
-    while left > 0 {
+    let mut next = to;
+    for _ in 0..n {
         let shape = shape::record_shape(l, at);
-        whole_record(l, old, at, shape, out, q);
-        q += shape::record_size(old, shape);
+        whole_record(l, old, at, shape, out, next);
+        next += shape::record_size(old, shape);
         at = shape.stop;
-        left -= 1;
     }
 }

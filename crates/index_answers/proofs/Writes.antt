@@ -1,10 +1,13 @@
 -- Answers written one after the other, and what the call gives.
-use Prim.Native.Nat.{ℕ, suc, ◌+◌, ◌*◌, ◌≤◌, ◌<◌}
+use Prim.Native.Nat.{ℕ, suc, ◌+◌, ◌*◌, ◌-◌, ◌≤◌, ◌<◌}
 use mathlib.Core.Path.{◌≡◌, refl, sym, ap, ◌∙◌}
 use mathlib.Core.Bool.{false}
-use mathlib.Core.List.{List, [], ◌∷◌}
+use mathlib.Core.List.{List, [], ◌∷◌, append_assoc}
 use native.Mathlib.Omega.{arith}
-use lib.ListN.{length, get_or, drop, length-append}
+use borrow.Rule.Slice.PartMut.{put_mid}
+use Rattle.std.proofs.lemmas.List.Edits.{sets-eq, paste_all}
+use Rattle.std.proofs.lemmas.Slice.{put_mid-paste}
+use lib.ListN.{take, length, get_or, drop, length-append}
 use lib.Seq.{sets, length-sets, drop-cons, drop-length}
 use Rattle.wire.proofs.Laws.{sets-append}
 use Rattle.stackmap.specs.Section.{Entry, num_functions, is_old}
@@ -12,7 +15,13 @@ use Rattle.stackmap.specs.Walk.{Walkable}
 use Rattle.questions.specs.declared.Found.{Found}
 use Rattle.questions.specs.Questions.{with_address, first_of}
 use Rattle.index.specs.Index.{five_numbers, answers_of}
-use Rattle.index.specs.Answers.{Answers}
+
+-- after a write to `out[a..e]`, whose part holds ys now
+pub part-sets : (a e : ℕ) (out ys vs : List ℕ) → ys ≡ vs → a + length vs ≡ e → e ≤ length out → put_mid a (e - a) out ys ≡ sets out a vs
+part-sets a e out ys vs p l h =
+    let k : length vs ≡ e - a = omega arith in
+    let r : a + length vs ≤ length out = omega arith in
+    put_mid-paste a (e - a) out ys vs (length vs) p k refl ∙ paste_all out a vs (length vs) refl ∙ sym (sets-eq vs out a r ∙ append_assoc (take a out) vs _)
 
 -- One answer more.
 

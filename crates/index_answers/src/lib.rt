@@ -16,11 +16,13 @@ fn put(answers: &mut [u64], at: usize, looked: Looked)
     requires { at + 5 ≤ length answers.old }
     ensures { answers.new ≡ sets answers.old at (five looked) }
 {
-    answers[at] = looked.number;
-    answers[at + 1] = 0;
-    answers[at + 2] = looked.index;
-    answers[at + 3] = looked.function;
-    answers[at + 4] = looked.sharing;
+    answers[at..at + 5].copy_from_slice(&[
+        looked.number,
+        0,
+        looked.index,
+        looked.function,
+        looked.sharing,
+    ]);
 }
 
 // All answers, one after the other.
@@ -36,11 +38,9 @@ fn answer_marked(
     requires { Indexed s.now index.now n × Marked s.now marks.now count × (5 * length addresses.now ≤ length answers.old) }
     ensures { answers.new ≡ sets answers.old 0 (answers_of (entries s.now) addresses.now) }
 {
-    let mut i: usize = 0;
-    while i < addresses.len() {
-        let looked = index_lookup::look_up(s, index, n, marks, count, addresses[i]);
+    for (i, &address) in addresses.iter().enumerate() {
+        let looked = index_lookup::look_up(s, index, n, marks, count, address);
         put(answers, 5 * i, looked);
-        i += 1;
     }
 }
 

@@ -1,6 +1,6 @@
 -- For the code alone: nothing here has to be believed.
 -- How a list is told to be a section's index in one walk over the records: each record's row is looked for in it.
-use Rattle.std.specs.Prelude.{ℕ, ◌+◌, ◌*◌, ◌≤◌, ◌<◌, ◌≡◌, Bool, true, false, ◌&&◌, ◌||◌, List, [], ◌∷◌, eqb, length}
+use Rattle.std.specs.Prelude.{ℕ, ◌+◌, ◌*◌, ◌≤◌, ◌<◌, ◌≡◌, Bool, false, ◌&&◌, ◌||◌, List, [], ◌∷◌, eqb, length}
 use Rattle.sorted_pairs.specs.Pairs.{Rising}
 use Rattle.stackmap.specs.Section.{Entry, num_records, entries}
 use Rattle.stackmap.proofs.OneWalk.{fold}

@@ -15,13 +15,11 @@ pub fn first_place(list: &[u64], n: usize) -> usize
     requires { n < 2 ^ 32 }
     ensures { Following list.now n result × Began list.now n result }
 {
-    if list.len() != 2 * n {
-        return n + 1;
+    if list.len() == 2 * n && sorted_pairs::rises(list, n) {
+        0
+    } else {
+        n + 1
     }
-    if sorted_pairs::rises(list, n) {
-        return 0;
-    }
-    n + 1
 }
 
 // The place after that of the pair of record `number`, which stands at `at` and belongs to a function that starts at `start`; the pair is
@@ -42,7 +40,7 @@ pub fn next_place(
     if place > n {
         return place;
     }
-    let offset = wire::u32_at(s, at + layout::INSTRUCTION_OFFSET_AT) as u64;
+    let offset = u64::from(wire::u32_at(s, at + layout::INSTRUCTION_OFFSET_AT));
     let here = sorted_pairs::place_of(list, n, start + offset, number as u64, place);
     here + 1
 }

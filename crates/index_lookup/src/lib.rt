@@ -12,8 +12,6 @@ ghost use Rattle.index_lookup.specs.Looked.{five, Indexed};
 
 const NOT_FOUND: u64 = 10;
 
-const HIGHEST: u64 = 18446744073709551615;
-
 // What is written for one address: a refusal's number, or 0, and its place, which is 0; and the record, its function and how many share
 // the address.
 #[derive(Clone, Copy)]
@@ -38,7 +36,7 @@ fn past(s: &[u8], index: &[u64], n: usize, address: u64, low: usize) -> usize
             return low + 1;
         }
     }
-    sorted_pairs::lower(index, n, address, HIGHEST)
+    sorted_pairs::lower(index, n, address, u64::MAX)
 }
 
 // One address, in an index of n records.

@@ -7,14 +7,19 @@ use mathlib.Core.List.Memᴰ
 use mathlib.Core.List.{List, [], ◌∷◌, ◌++◌, Memᴰ}
 use native.Mathlib.Omega.{arith}
 use native.Mathlib.Decide.{dec_lt}
-use lib.ListN.{length, get_or, replicate, set, length-set, length-replicate, get_or-replicate, get_or-append}
+use borrow.Author.Tests.{le-leb, leb-true}
+use lib.Dec.{leb}
+use Rattle.std.specs.List.Sorted.{IsPartitionedBy, IsPartitionPoint}
+use Rattle.std.proofs.lemmas.List.{length-take-le, get_or-take}
+use Rattle.std.proofs.lemmas.List.Sorted.{IsPartitionedBy-leb, IsNonDecreasingBy-from_default}
+use lib.ListN.{take, length, get_or, replicate, set, length-set, length-replicate, get_or-replicate, get_or-append}
 use lib.Seq.{get_or-append-add, get_or-set_same, get_or-set_other}
 use Rattle.wire.specs.Word.{word}
-use Rattle.stackmap.specs.Fields.{size, many}
+use Rattle.stackmap.specs.Fields.{size}
 use Rattle.stackmap.specs.Section.{Function, Record, Owner, record_fields, num_functions, num_records, is_old, records_at, read_function}
-use Rattle.stackmap.specs.Section.{read_functions, read_section, read_records, no_function, nobody, owners, record_owners, counted, Entry}
+use Rattle.stackmap.specs.Section.{read_functions, read_section, no_function, nobody, owners, record_owners, counted, Entry}
 use Rattle.stackmap.specs.Section.{entries_from, entries}
-use Rattle.stackmap.specs.Walk.{function_at, Walkable, function_number}
+use Rattle.stackmap.specs.Walk.{Walkable, function_number}
 use Rattle.stackmap.proofs.Parts.{function-number}
 use Rattle.stackmap.proofs.Entries.{entries-are}
 use Rattle.stackmap.proofs.Fields.{length-many}
@@ -48,6 +53,13 @@ unfolding records_of counted
 most-records zero fs = omega arith
 most-records (suc n) [] = omega arith
 most-records (suc n) (f ∷ fs) = let h = most-records n fs in omega arith
+
+records_on : (i j : ℕ) (fs : List Function) → i ≤ j → records_of i fs ≤ records_of j fs
+unfolding records_of
+records_on zero j fs h = omega arith
+records_on (suc i) zero fs h = absurd (omega arith)
+records_on (suc i) (suc j) [] h = omega arith
+records_on (suc i) (suc j) (f ∷ fs) h = let k = records_on i j fs (omega arith) in omega arith
 
 functions-many : (s : List ℕ) → length (read_functions s) ≡ num_functions s
 unfolding read_functions
@@ -152,3 +164,35 @@ marked_one s marks count v m l i e =
     go j (no a) h =
         let z : j ≡ count = omega arith in
         rw z (get_or-set_same marks count v 0 l ∙ e)
+
+-- The marks rise, and the last that is not above a record is found by halving.
+
+module _ (s marks : List ℕ) (count : ℕ) (m : Marking s marks count) where
+  mark-each : (j : ℕ) → j < count → get_or (take count marks) j 0 ≡ before s (86 * j)
+  mark-each j h = get_or-take count marks j 0 h ∙ m.each j h
+
+  many_marks : length (take count marks) ≡ count
+  many_marks = length-take-le count marks m.most
+
+  pub marks-rise : (k : ℕ) → IsPartitionedBy (λ y. leb y k) (take count marks)
+  marks-rise k = IsPartitionedBy-leb (λ x. x) (take count marks) k (IsNonDecreasingBy-from_default (λ x. x) (take count marks) 0 rise)
+    where
+      rise : (i j : ℕ) → i ≤ j → j < length (take count marks) → get_or (take count marks) i 0 ≤ get_or (take count marks) j 0
+      rise i j h l =
+          let n = many_marks in
+          let b : 86 * i ≤ 86 * j = omega arith in
+          rw (mark-each i (omega arith), mark-each j (omega arith)) (records_on (86 * i) (86 * j) (read_functions s) b)
+
+  pub last_mark : (k i : ℕ) → 0 < count → i ≤ length (take count marks) → IsPartitionPoint (λ y. leb y k ≡ true) (λ y. leb y k ≡ false) (take count marks) i
+      → (0 < i) × (i ≤ count) × (before s (86 * (i - 1)) ≤ k)
+  last_mark k zero some b p =
+      let n = many_marks in
+      let f = p.1 0 0 (omega arith) (omega arith) in
+      let z : get_or (take count marks) 0 0 ≡ 0 = mark-each 0 some ∙ before-none s in
+      absurd (let b : leb (get_or (take count marks) 0 0) k ≡ true = le-leb _ _ (omega arith) in let y = sym b ∙ f in cc)
+  last_mark k (suc i) some b p =
+      let n = many_marks in
+      let j : suc i - 1 ≡ i = omega arith in
+      let e = mark-each i (omega arith) in
+      let h = leb-true (get_or (take count marks) i 0) k (p.0 i 0 (omega arith) (omega arith)) in
+      (omega arith, omega arith, rw j (omega arith))

@@ -32,24 +32,11 @@ fn counts_of(s: &[u8], first: usize, end: usize) -> u64
         × (first ≤ end) × (end ≤ num_functions s.now) }
     ensures { before s.now end ≡ before s.now first + result }
 {
-    let mut f = first;
     let mut total: u64 = 0;
-    while f < end {
+    for f in first..end {
         total += count_of(s, f);
-        f += 1;
     }
     total
-}
-
-// The function after f that is marked, or the end.
-fn next_mark(f: usize, functions: usize) -> usize
-    requires { f < functions }
-    ensures { (f < result) × (result ≤ functions) × (result ≤ f + 86) × (result < functions → result ≡ f + 86) }
-{
-    if functions - f > STEP {
-        return f + STEP;
-    }
-    functions
 }
 
 // Fills the marks; the answer is how many there are.
@@ -59,41 +46,22 @@ pub fn mark(s: &[u8], marks: &mut [u32]) -> usize
     ensures { Marked s.now marks.new result }
 {
     let functions = wire::u32_at(s, layout::NUM_FUNCTIONS_AT) as usize;
-    let mut count: usize = 0;
-    let mut f: usize = 0;
+    let count = functions.div_ceil(STEP);
     let mut base: u64 = 0;
-    while f < functions {
-        marks[count] = base as u32;
-        count += 1;
-        let end = next_mark(f, functions);
-        base += counts_of(s, f, end);
-        f = end;
+    for i in 0..count {
+        marks[i] = base as u32;
+        let first = STEP * i;
+        base += counts_of(s, first, functions.min(first + STEP));
     }
     count
 }
 
-fn wide(mark: u32) -> u64
-    ensures { result ≡ mark }
-{
-    mark as u64
-}
-
-// The last mark that is not above the record, by halving.
+// The last mark that is not above the record. They rise, and the first is 0.
 fn mark_of(s: &[u8], marks: &[u32], count: usize, number: u64) -> usize
     requires { Marked s.now marks.now count × (0 < count) }
     ensures { (result < count) × (before s.now (86 * result) ≤ number) }
 {
-    let mut low: usize = 0;
-    let mut high = count;
-    while high - low > 1 {
-        let middle = low + (high - low) / 2;
-        if wide(marks[middle]) <= number {
-            low = middle;
-        } else {
-            high = middle;
-        }
-    }
-    low
+    marks[..count].partition_point(|&mark| u64::from(mark) <= number) - 1
 }
 
 // The function that owns the record with this number.
@@ -103,7 +71,7 @@ pub fn owner_of(s: &[u8], marks: &[u32], count: usize, number: u64) -> usize
 {
     let near = mark_of(s, marks, count, number);
     let mut f = STEP * near;
-    let mut left = number - wide(marks[near]);
+    let mut left = number - u64::from(marks[near]);
     let mut here = count_of(s, f);
     while here <= left {
         left -= here;

@@ -1,14 +1,17 @@
 -- What the second walk has written at its end: the rows in section order, and whether they are in order of address.
-use Prim.Native.Nat.{ℕ, zero, suc, ◌+◌, ◌*◌, ◌≤◌, ◌<◌}
+use Prim.Native.Nat.{ℕ, zero, suc, ◌+◌, ◌*◌, ◌-◌, ◌≤◌, ◌<◌}
 use mathlib.Core.Path.{◌≡◌, refl, sym, ap, ◌∙◌}
 use mathlib.Core.Bool.{Bool, true, false, ◌&&◌}
-use mathlib.Core.List.{List, [], ◌∷◌, ◌++◌, map}
+use mathlib.Core.List.{List, [], ◌∷◌, ◌++◌, map, append_assoc}
 use native.Mathlib.Omega.{arith}
 use native.Mathlib.Nat.{zero-add}
 use borrow.Author.Tests.{leb-true}
 use lib.Dec.{leb}
-use lib.ListN.{length, drop}
+use lib.ListN.{length, drop, take}
 use lib.Seq.{sets, sets-eq}
+use borrow.Rule.Slice.PartMut.{put_mid}
+use Rattle.std.proofs.lemmas.List.Edits.{paste_all}
+use Rattle.std.proofs.lemmas.Slice.{put_mid-paste}
 use Rattle.stackmap.specs.Fields.{size}
 use Rattle.stackmap.specs.Section.{Record, Owner, record_fields, num_records, is_old, address, Entry, entries_from, entries}
 use Rattle.stackmap.specs.Walk.{Walkable}
@@ -21,6 +24,13 @@ use Rattle.index.specs.Index.{row_of}
 use Rattle.index.proofs.Index.{rank, row_at, next_row, flat-length}
 use Rattle.index.proofs.Numbers.{section-numbered, rows-many}
 use Rattle.index_rows.specs.Filled.{in_place, Filling, filled}
+
+-- after a write to `list[a..e]`, whose part holds ys now
+pub part-sets : (a e : ℕ) (list ys vs : List ℕ) → ys ≡ vs → a + length vs ≡ e → e ≤ length list → put_mid a (e - a) list ys ≡ sets list a vs
+part-sets a e list ys vs p l h =
+    let k : length vs ≡ e - a = omega arith in
+    let r : a + length vs ≤ length list = omega arith in
+    put_mid-paste a (e - a) list ys vs (length vs) p k refl ∙ paste_all list a vs (length vs) refl ∙ sym (sets-eq vs list a r ∙ append_assoc (take a list) vs _)
 
 -- before the first record
 abbrev pub none_filled : List ℕ → Filling

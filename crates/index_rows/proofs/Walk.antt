@@ -1,14 +1,13 @@
 -- A second walk over an accepted section: each record is known to be valid, so that nothing of it is checked again.
 use Prim.Native.Nat.{ℕ, ◌+◌, ◌*◌, ◌-◌, ◌^◌, ◌≤◌, ◌<◌}
-use mathlib.Core.Path.{◌≡◌, refl, sym, ap, ◌∙◌}
+use mathlib.Core.Path.{◌≡◌, refl, sym, ◌∙◌}
 use mathlib.Core.Bool.{Bool, false, ◌&&◌}
 use mathlib.Core.List.{List}
 use native.Mathlib.Omega.{arith}
 use lib.Dec.{leb}
 use lib.ListN.{length, set, take, drop}
 use Rattle.wire.specs.Word.{word}
-use Rattle.stackmap.specs.Verdict.{Verdict}
-use Rattle.stackmap.specs.Verdict.{Valid}
+use Rattle.stackmap.specs.declared.Verdict.TheVariants.{Valid}
 use Rattle.stackmap.specs.Section.{num_functions, num_constants, is_old, records_at, record_length, read_record, address}
 use Rattle.stackmap.specs.Record.{record_bytes, record_check}
 use Rattle.stackmap.specs.Check.{records_check, walk_check, Accepted}
@@ -64,12 +63,12 @@ module _ (s : List ℕ) (k : Accepted s) where
   -- and its row is put after those before it
   pub fill_on : {h₀ h : Filling} {next left remaining number p : ℕ} (f : Folding filled s (num_constants s) h₀ next left remaining number p h)
       (next' left' : ℕ) → ahead s next' left' ≡ ahead s next left → 0 < left' → 0 < next' → (is_old s ≡ false → next' ≤ num_functions s) → 0 < remaining
-      → {a size : ℕ} {list : List ℕ} {rises : Bool}
+      → {remaining' : ℕ} → remaining' ≡ remaining - 1 → {a size : ℕ} {list : List ℕ} {rises : Bool}
       → a ≡ address (entry_at s 0 (next' - 1) p) → list ≡ set (set h.list (2 * number) a) (2 * number + 1) number → rises ≡ (h.rises && leb h.last a)
       → size ≡ record_length (is_old s) (drop p s)
-      → Folding filled s (num_constants s) h₀ next' (left' - 1) (remaining - 1) (number + 1) (p + size) (record { list = list; last = a; rises = rises })
+      → Folding filled s (num_constants s) h₀ next' (left' - 1) remaining' (number + 1) (p + size) (record { list = list; last = a; rises = rises })
   unfolding filled address
-  fill_on f next' left' e l b m r w x y z = rw (z, x, y, w) (fold_on filled next' left' f e l b m r (next-valid f.walking next' left' e l))
+  fill_on f next' left' e l b m r q w x y z = rw (q, z, x, y, w) (fold_on filled next' left' f e l b m r (next-valid f.walking next' left' e l))
 
 -- the part `&s[p..]`, as it is seen by what is called
 pub part-whole : (s : List ℕ) (p : ℕ) → is_old s ≡ false → record_length (is_old s) (drop p s) ≤ length (drop p s)

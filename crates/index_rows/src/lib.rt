@@ -2,7 +2,7 @@
 // No entry point: it requires an accepted section of version 3, and room for its rows.
 #![tactic(auto)]
 
-ghost use Rattle.std.specs.Prelude.{◌≡◌, false, true, ◌&&◌, ◌+◌, ◌*◌, ◌^◌, ◌≤◌, ◌<◌, leb, length, set};
+ghost use Rattle.std.specs.Prelude.{◌≡◌, false, true, ◌+◌, ◌*◌, ◌^◌, ◌≤◌, ◌<◌, length, set};
 ghost use Rattle.stackmap.specs.Section.{num_functions, num_records, is_old, constants_at, records_at, address};
 ghost use Rattle.stackmap.specs.Walk.{entry_at};
 ghost use Rattle.stackmap.specs.Check.{Accepted};
@@ -18,18 +18,7 @@ fn put_row(index: &mut [u64], number: usize, address: u64)
     requires { 2 * number + 1 < length index.old }
     ensures { index.new ≡ set (set index.old (2 * number) address) (2 * number + 1) number }
 {
-    index[2 * number] = address;
-    index[2 * number + 1] = number as u64;
-}
-
-// Whether the addresses rise so far, after one more.
-fn still_rises(rises: bool, last: u64, address: u64) -> bool
-    ensures { result ≡ (rises && leb last address) }
-{
-    if rises {
-        return last <= address;
-    }
-    false
+    index[2 * number..2 * number + 2].copy_from_slice(&[address, number as u64]);
 }
 
 // Where the records of a version 3 section begin.
@@ -59,27 +48,23 @@ pub fn put_rows(s: &[u8], index: &mut [u64]) -> bool
     ensures { (index.new ≡ in_place s.now index.old)
         × (result ≡ true → Stepped index.new 1 (num_records s.now)) }
 {
-    let mut remaining = wire::u32_at(s, layout::NUM_RECORDS_AT);
+    let count = wire::u32_at(s, layout::NUM_RECORDS_AT);
     let mut p = first_record(s);
     let mut turn = walk::start(s, false);
-    let mut number: usize = 0;
     let mut last: u64 = 0;
     let mut rises = true;
-    while remaining > 0 {
+    for number in 0..count as usize {
         let t = walk::owner(s, turn);
         let next = t.next;
         let address = address_at(s, next - 1, p);
         put_row(index, number, address);
-        rises = still_rises(rises, last, address);
+        rises = rises && last <= address;
         last = address;
-        let shape = shape::record_shape(&s[p..], false);
-        p += shape.size;
+        p += shape::record_shape(&s[p..], false).size;
         turn = Turn {
             next,
             left: t.left - 1,
         };
-        number += 1;
-        remaining -= 1;
     }
     rises
 }

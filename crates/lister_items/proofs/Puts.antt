@@ -11,7 +11,7 @@ use Rattle.stackmap.specs.Fields.{Field, bytes_of, size, all, many}
 use Rattle.stackmap.specs.Section.{Record, record_length, read_record, read_records}
 use Rattle.stackmap.proofs.Fields.{length-bytes_of, size-append, bytes_of-append}
 use Rattle.stackmap.proofs.Steps.{many_step}
-use Rattle.lister_items.specs.Put.{Put}
+use Rattle.lister_items.specs.Put.{Put, fields_of}
 
 -- fields and then more fields
 pub put_join : {o₁ o₂ o₃ : List ℕ} {a b c : ℕ} (fs gs : List Field) → Put o₁ o₂ a b fs → Put o₂ o₃ b c gs → Put o₁ o₃ a c (fs ++ gs)
@@ -53,6 +53,13 @@ putting_end {out₀} {out} {to} {t} {whole} {rest} w e =
     }
 
 -- The first of n items, and the others.
+
+-- items that are written by their fields
+pub all_fields : {A : Type 0} (item : A → List Field) (read : List ℕ → ℕ → A) (step n : ℕ) (s : List ℕ) (at : ℕ)
+    → fields_of (λ s at. item (read s at)) step n s at ≡ all item (many read step n s at)
+unfolding all many
+all_fields item read step zero s at = refl
+all_fields item read step (suc n) s at = rw (all_fields item read step n s (at + step))
 
 module _ {A : Type 0} (item : A → List Field) (read : List ℕ → ℕ → A) (step : ℕ) (s : List ℕ) where
   pub first_item : (n at : ℕ) → 0 < n → all item (many read step n s at) ≡ item (read s at) ++ all item (many read step (n - 1) s (at + step))

@@ -1,5 +1,5 @@
 -- The stores that write one item.
-use Prim.Native.Nat.{ℕ, suc, ◌+◌, ◌/◌, ◌%◌, ◌<◌}
+use Prim.Native.Nat.{ℕ, ◌+◌, ◌%◌, ◌<◌}
 use mathlib.Core.Path.{◌≡◌, refl}
 use mathlib.Core.Bool.{Bool, true, false}
 use mathlib.Core.List.{List, [], ◌∷◌}
@@ -23,15 +23,6 @@ byte_is v h = let e : v % 256 ≡ v = omega arith in rw e
 byte_read : (s : List ℕ) (at : ℕ) → get_or s at 0 < 256 → bytes 1 (word 1 s at) ≡ get_or s at 0 ∷ []
 byte_read s at h = rw byte_word (byte_is _ h)
 
--- a byte that is read, in two bytes
-byte_wide : (s : List ℕ) (at : ℕ) → get_or s at 0 < 256 → bytes 2 (word 1 s at) ≡ get_or s at 0 ∷ 0 ∷ []
-unfolding bytes
-byte_wide s at h =
-    let v = get_or s at 0 in
-    let e : v % 256 ≡ v = omega arith in
-    let d : v / 256 % 256 ≡ 0 = omega arith in
-    rw (byte_word, e, d)
-
 module _ (out s : List ℕ) (to at : ℕ) where
   pub function-put : (old : Bool) →
       Put out
@@ -45,22 +36,13 @@ module _ (out s : List ℕ) (to at : ℕ) where
   unfolding constant_item read_constant bytes_of size
   constant-put = record { ends = refl; output = simp (sets-append, byte_is 2 (omega arith)) }
 
-  pub new_location_put : get_or s at 0 < 256 →
-      Put out
-      (sets (sets (sets (set (set out to 4) (to + 1) (get_or s at 0)) (to + 2) (bytes 2 (word 2 s (at + 2)))) (to + 4) (bytes 2 (word 2 s (at + 4)))) (to + 6) (bytes 4 (word 4 s (at + 8))))
-      to (to + 10) (location_item (read_location false s at))
+  pub location_put : (old : Bool) (v r o : ℕ) → get_or s at 0 < 256
+      → v ≡ (read_location old s at).size → r ≡ (read_location old s at).register → o ≡ (read_location old s at).offset →
+      Put out (sets (sets (sets (set (set out to 4) (to + 1) (get_or s at 0)) (to + 2) (bytes 2 v)) (to + 4) (bytes 2 r)) (to + 6) (bytes 4 o))
+      to (to + 10) (location_item (read_location old s at))
   unfolding location_item read_location bytes_of size
-  new_location_put h = record { ends = refl; output = simp (sets-append, length-bytes, byte_is 4 (omega arith), byte_read s at h, add_assoc) }
-
-  pub old_location_put : get_or s at 0 < 256 → get_or s (at + 1) 0 < 256 →
-      Put out
-      (sets (sets (set (set (set (set out to 4) (to + 1) (get_or s at 0)) (to + 2) (get_or s (at + 1) 0)) (to + 3) 0) (to + 4) (bytes 2 (word 2 s (at + 2)))) (to + 6) (bytes 4 (word 4 s (at + 4))))
-      to (to + 10) (location_item (read_location true s at))
-  unfolding location_item read_location bytes_of size
-  old_location_put h k =
-      let e : suc (to + 2) ≡ to + 3 = omega arith in
-      rw (← e)
-      record { ends = refl; output = simp (sets-append, length-bytes, byte_is 4 (omega arith), byte_read s at h, byte_wide s (at + 1) k, add_assoc) }
+  location_put true v r o h e f g = rw (e, f, g) record { ends = refl; output = simp (sets-append, length-bytes, byte_is 4 (omega arith), byte_read s at h, add_assoc) }
+  location_put false v r o h e f g = rw (e, f, g) record { ends = refl; output = simp (sets-append, length-bytes, byte_is 4 (omega arith), byte_read s at h, add_assoc) }
 
   pub live_out_put : get_or s (at + 3) 0 < 256 →
       Put out

@@ -89,15 +89,26 @@ module _ {old : Bool} {s : List ℕ} {whole p left total : ℕ} (m : Measuring o
   pub measure_here : 0 < left → record_length old (take (length s - p) (drop p s)) ≤ length (take (length s - p) (drop p s))
   measure_here h = rw part-from (next-inside old s left p m.inside h)
 
-  pub measure_on : 0 < left → {locations outs begin long : ℕ} → RecordLayout old (take (length s - p) (drop p s)) locations outs begin long
-      → Measuring old s whole (p + long) (left - 1) (total + (13 + 10 * locations + 4 * outs))
-  measure_on h {locations} {outs} {begin} {long} q =
+  pub measure_on : 0 < left → {left' : ℕ} → left' ≡ left - 1 → {locations outs begin long : ℕ} → RecordLayout old (take (length s - p) (drop p s)) locations outs begin long
+      → Measuring old s whole (p + long) left' (total + (13 + 10 * locations + 4 * outs))
+  measure_on h e {locations} {outs} {begin} {long} q =
       let r = shaped_part old s p q in
+      rw e
       record {
         inside = next_on old s left p m.inside h r.ends;
         there = rw r.ends (let x = m.there in omega (arith, listing_step old s left p h, shaped_size old (drop p s) r));
         most = m.most;
       }
+
+  -- the next record is inside, and no sum overflows
+  pub measure_fits : 0 < left → {locations outs begin long : ℕ} → RecordLayout old (take (length s - p) (drop p s)) locations outs begin long
+      → (p + long ≤ length s) × (16 * (total + (13 + 10 * locations + 4 * outs)) ≤ 25 * length s)
+  measure_fits h q =
+      let n = measure_on h refl q in
+      let i = n.inside in
+      let x = n.there in
+      let y = n.most in
+      (omega arith, omega arith)
 
   pub measure_end : left ≡ 0 → total ≡ whole
   measure_end h =
@@ -121,11 +132,12 @@ module _ {old : Bool} {s out₀ out : List ℕ} {to p left t : ℕ} {whole : Lis
       × (t + size (record_items (read_record old (take (length s - p) (drop p s)))) ≤ length out)
   pass_here h = rw part-from (next-inside old s left p m.inside h, let r = m.room in omega (arith, listing_step old s left p h))
 
-  pub pass_on : 0 < left → {out' : List ℕ} {long t' : ℕ} → long ≡ record_length old (take (length s - p) (drop p s))
-      → Put out out' t t' (record_items (read_record old (take (length s - p) (drop p s)))) → Passing old s out₀ to whole out' (p + long) (left - 1) t'
-  pass_on h {out'} {long} {t'} e q =
+  pub pass_on : 0 < left → {left' : ℕ} → left' ≡ left - 1 → {out' : List ℕ} {long t' : ℕ} → long ≡ record_length old (take (length s - p) (drop p s))
+      → Put out out' t t' (record_items (read_record old (take (length s - p) (drop p s)))) → Passing old s out₀ to whole out' (p + long) left' t'
+  pass_on h n {out'} {long} {t'} e q =
       let d : long ≡ record_length old (drop p s) = rw part-from at e in
       let w : Put out out' t t' (record_items (read_record old (drop p s))) = rw part-from at q in
+      rw n
       record {
         inside = next_on old s left p m.inside h d;
         room = rw d (let r = m.room in let x = w.ends in let l = put-long w in omega (arith, listing_step old s left p h));

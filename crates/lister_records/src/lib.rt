@@ -19,15 +19,13 @@ pub fn records_length(s: &[u8], old: bool, at: usize, count: usize) -> usize
     ensures { result ≡ size (all record_items (read_records old count s.now at)) }
 {
     let mut p = at;
-    let mut left = count;
     let mut total: usize = 0;
-    while left > 0 {
+    for _ in 0..count {
         let shape = shape::record_shape(&s[p..], old);
         total += numbers::RECORD_ITEM_SIZE
             + numbers::LOCATION_ITEM_SIZE * shape.locations
             + numbers::LIVE_OUT_ITEM_SIZE * shape.outs;
         p += shape.size;
-        left -= 1;
     }
     total
 }
@@ -60,13 +58,11 @@ pub fn put_records(s: &[u8], old: bool, at: usize, count: usize, out: &mut [u8],
     ensures { Put out.old out.new to result (all record_items (read_records old count s.now at)) }
 {
     let mut p = at;
-    let mut left = count;
-    let mut t = to;
-    while left > 0 {
-        let passed = put_record(&s[p..], old, out, t);
+    let mut next = to;
+    for _ in 0..count {
+        let passed = put_record(&s[p..], old, out, next);
         p += passed.length;
-        t = passed.next;
-        left -= 1;
+        next = passed.next;
     }
-    t
+    next
 }

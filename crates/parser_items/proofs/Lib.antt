@@ -1,3 +1,4 @@
 pub mod Counts
 pub mod Records
 pub mod Tables
+pub mod Versions

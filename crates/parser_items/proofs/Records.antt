@@ -2,6 +2,7 @@
 use Prim.Native.Nat.{ℕ, ◌+◌, ◌*◌, ◌≤◌, ◌<◌}
 use mathlib.Core.Path.{◌≡◌, refl, ◌∙◌, ap}
 use mathlib.Core.List.{List, ◌∷◌}
+use mathlib.Core.Logic.{◌⊎◌, inl, inr}
 use mathlib.Core.Bool.{Bool, true, false, ◌&&◌, and-false}
 use native.Mathlib.Omega.{arith}
 use borrow.Author.Tests.{le-leb, lt-leb}
@@ -61,13 +62,10 @@ module _ {l : List ℕ} {at n m stop : ℕ} (h : RecordCounted l at n m stop) wh
     sized-here old = rw (records-here, size-append, shape_size old)
 
     -- it has too many locations or live-outs
-    pub locations_crowded : items_most < n → not_too_many (records_from l at) at ≡ Refused 23 at
+    pub crowded : (items_most < n) ⊎ (n ≤ items_most) × (items_most < m) → not_too_many (records_from l at) at ≡ Refused 23 at
     unfolding must
-    locations_crowded b = rw (check-here, lt-leb _ _ b)
-
-    pub live_outs_crowded : items_most < m → not_too_many (records_from l at) at ≡ Refused 23 at
-    unfolding must
-    live_outs_crowded b = rw (check-here, lt-leb m _ b, and-false)
+    crowded (inl b) = rw (check-here, lt-leb _ _ b)
+    crowded (inr b) = rw (check-here, lt-leb m _ b.1, and-false)
 
     -- it has not: the pass goes on behind it
     pub passed_on : {from records : ℕ} → n ≤ items_most → m ≤ items_most → Passed l from records at → Passed l from (records + 1) stop

@@ -15,10 +15,7 @@ pub fn items(l: &[u8], kind: u8, size: usize, from: usize) -> usize
 {
     let mut at = from;
     let mut n = 0;
-    while l.len() - at >= size {
-        if l[at] != kind {
-            return n;
-        }
+    while l.len() - at >= size && l[at] == kind {
         at += size;
         n += 1;
     }
@@ -69,27 +66,9 @@ pub fn survey_records(l: &[u8], old: bool, from: usize) -> Survey
     let mut stop = from;
     let mut records = 0;
     let mut size = 0;
-    while l.len() - stop >= numbers::RECORD_ITEM_SIZE {
-        if l[stop] != numbers::RECORD_KIND {
-            return Survey {
-                records,
-                size,
-                stop,
-                crowded: false,
-            };
-        }
+    while l.len() - stop >= numbers::RECORD_ITEM_SIZE && l[stop] == numbers::RECORD_KIND {
         let shape = shape::record_shape(l, stop);
-        let locations = shape.locations;
-        let outs = shape.outs;
-        if locations > numbers::ITEMS_MOST {
-            return Survey {
-                records,
-                size,
-                stop,
-                crowded: true,
-            };
-        }
-        if outs > numbers::ITEMS_MOST {
+        if shape.locations > numbers::ITEMS_MOST || shape.outs > numbers::ITEMS_MOST {
             return Survey {
                 records,
                 size,

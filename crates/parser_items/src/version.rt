@@ -9,11 +9,5 @@ use stackmap::layout;
 pub fn listed_old(l: &[u8]) -> bool
     ensures { result ≡ listed_old l.now }
 {
-    if l.len() < numbers::VERSION_ITEM_SIZE {
-        return false;
-    }
-    if l[0] != numbers::VERSION_KIND {
-        return false;
-    }
-    l[1] == layout::OLD_VERSION
+    l.starts_with(&[numbers::VERSION_KIND, layout::OLD_VERSION])
 }

@@ -23,13 +23,11 @@ const KIND_INDIRECT: u8 = 3;
 pub fn content_place(kind: u8) -> ContentPlace
     ensures { result ≡ content_place kind }
 {
-    if kind == KIND_REGISTER {
-        return ContentPlace::Register;
+    match kind {
+        KIND_REGISTER => ContentPlace::Register,
+        KIND_INDIRECT => ContentPlace::Memory,
+        _ => ContentPlace::Nowhere,
     }
-    if kind == KIND_INDIRECT {
-        return ContentPlace::Memory;
-    }
-    ContentPlace::Nowhere
 }
 
 // The 64-bit constant of a location with this kind and offset.
@@ -37,24 +35,20 @@ pub fn constant(s: &[u8], kind: u8, offset: u32) -> u64
     requires { records_at s.now ≤ length s.now }
     ensures { (n g : ℕ) → result ≡ constant_of (read_section s.now).constants (record { kind = kind; size = n; register = g; offset = offset }) }
 {
-    if kind == layout::KIND_CONSTANT {
-        if offset < layout::NEGATIVE_FROM {
-            return offset as u64;
-        }
-        return offset as u64 + SIGN;
-    }
-    if kind == layout::KIND_CONST_INDEX {
-        let functions = wire::u32_at(s, layout::NUM_FUNCTIONS_AT) as usize;
-        if offset < wire::u32_at(s, layout::NUM_CONSTANTS_AT) {
-            return wire::u64_at(
+    match kind {
+        layout::KIND_CONSTANT if offset < layout::NEGATIVE_FROM => u64::from(offset),
+        layout::KIND_CONSTANT => u64::from(offset) + SIGN,
+        layout::KIND_CONST_INDEX if offset < wire::u32_at(s, layout::NUM_CONSTANTS_AT) => {
+            let functions = wire::u32_at(s, layout::NUM_FUNCTIONS_AT) as usize;
+            wire::u64_at(
                 s,
                 layout::HEADER_SIZE
                     + layout::function_size(tables::is_old(s)) * functions
                     + layout::CONSTANT_SIZE * (offset as usize),
-            );
+            )
         }
+        _ => 0,
     }
-    0
 }
 
 // The four numbers of a location.
@@ -66,12 +60,6 @@ pub struct LocationWords {
     pub offset: u32,
 }
 
-fn wide(byte: u8) -> u16
-    ensures { result ≡ byte }
-{
-    byte as u16
-}
-
 // The location at `at`.
 pub fn location_fields(s: &[u8], old: bool, at: usize) -> LocationWords
     requires { at + location_size old ≤ length s.now }
@@ -80,7 +68,7 @@ pub fn location_fields(s: &[u8], old: bool, at: usize) -> LocationWords
     if old {
         return LocationWords {
             kind: s[at],
-            size: wide(s[at + layout::OLD_LOCATION_SIZE_AT]),
+            size: u16::from(s[at + layout::OLD_LOCATION_SIZE_AT]),
             register: wire::u16_at(s, at + layout::OLD_LOCATION_REGISTER_AT),
             offset: wire::u32_at(s, at + layout::OLD_LOCATION_OFFSET_AT),
         };

@@ -1,4 +1,3 @@
-use Prim.Native.Nat.{◌-◌}
 use native.Mathlib.Omega.{arith}
 use Rattle.index_lookup.specs.Looked.{five}
 use Rattle.index_answers.proofs.Writes.{writing_start, writing_on, writing_end}
@@ -21,9 +20,6 @@ put-requires c =
     let w = c.loop-i.invariant.long in
     let l = c.requires.2 in
     omega arith
-
-pub loop-i-smaller : goal.loop-i-smaller
-loop-i-smaller c = omega arith
 
 pub loop-i-preserved : goal.loop-i-preserved
 loop-i-preserved c =

@@ -19,7 +19,7 @@ overflow_add-start c =
     let h = here-address c.args.s.now c.args.number c.args.function c.args.at in
     let w = c.requires.0 in
     let i = c.requires.2 in
-    let u = c.u32_at-offset.ensures in
+    let u = c.u32_at.ensures in
     omega arith
 
 pub place_of-here-requires : goal.place_of-here-requires
@@ -32,7 +32,7 @@ unfolding seen
 returns c =
     let h = here-address c.args.s.now c.args.number c.args.function c.args.at in
     let w = c.requires.0 in
-    let u = c.u32_at-offset.ensures in
-    let a : c.args.start + c.u32_at-offset.result ≡ address (entry_at c.args.s.now c.args.number c.args.function c.args.at) = omega arith in
+    let u = c.u32_at.ensures in
+    let a : c.args.start + c.from-offset.result ≡ address (entry_at c.args.s.now c.args.number c.args.function c.args.at) = omega arith in
     let p = placed_in c.args.list.now c.args.n c.place_of-here.result (row_of (entry_at c.args.s.now c.args.number c.args.function c.args.at)) (rw a at c.place_of-here.ensures) in
     (record { most = omega (arith, c.place_of-here.ensures.most); usable = λ l. c.requires.4.usable (omega arith) }, p ∙ rw (le-leb c.args.place c.args.n (omega arith)))

@@ -1,10 +1,7 @@
-use Prim.Native.Nat.{◌+◌, ◌-◌, ◌≤◌}
+use Prim.Native.Nat.{◌+◌}
 use mathlib.Core.Path.{◌≡◌}
 use Rattle.index_owner.specs.Owner.{before}
 use Rattle.index_owner.proofs.counts_of.Given as goal
 
 abbrev pub invariant-loop-f : goal.invariant-loop-f
-invariant-loop-f l = (l.f ≤ l.end) × (before l.s l.f ≡ before l.s l.first + l.total)
-
-abbrev pub decreases-loop-f : goal.decreases-loop-f
-decreases-loop-f l = l.end - l.f
+invariant-loop-f l = (before l.s l.f ≡ before l.s l.first + l.total)

@@ -1,4 +1,4 @@
-use Prim.Native.Nat.{◌+◌, ◌-◌}
+use Prim.Native.Nat.{◌+◌}
 use native.Mathlib.Omega.{arith}
 use Rattle.index_owner.proofs.Laws.{before-none, not_last, room}
 use Rattle.index_owner.proofs.owner_of.Goals as goal
@@ -28,7 +28,7 @@ bounds-marks-near c =
 
 pub overflow_sub-left : goal.overflow_sub-left
 overflow_sub-left c =
-    let w = c.wide.ensures in
+    let w = c.from.ensures in
     let e = c.requires.2.marking.each c.mark_of-near.result c.mark_of-near.ensures.0 in
     let b = c.mark_of-near.ensures.1 in
     omega arith
@@ -38,7 +38,7 @@ count_of-here-requires c = (c.requires.0, c.requires.1, c.requires.2.marking.ins
 
 pub loop-here-init : goal.loop-here-init
 loop-here-init c =
-    let w = c.wide.ensures in
+    let w = c.from.ensures in
     let e = c.requires.2.marking.each c.mark_of-near.result c.mark_of-near.ensures.0 in
     let b = c.mark_of-near.ensures.1 in
     (c.requires.2.marking.inside c.mark_of-near.result c.mark_of-near.ensures.0, omega arith, c.count_of-here.ensures)

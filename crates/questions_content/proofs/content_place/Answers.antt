@@ -5,14 +5,14 @@ use Rattle.questions_content.proofs.content_place.Goals as goal
 
 -- By the kind: 1 a register, 3 memory, every other neither.
 
-pub returns-then-kind-eq-KIND_REGISTER : goal.returns-then-kind-eq-KIND_REGISTER
+pub returns-in-1 : goal.returns-in-1
 unfolding content_place
-returns-then-kind-eq-KIND_REGISTER c = rw (eq-eqb c.args.kind 1 (omega arith))
+returns-in-1 c = rw (eq-eqb c.args.kind 1 (omega arith))
 
-pub returns-then-kind-eq-KIND_INDIRECT : goal.returns-then-kind-eq-KIND_INDIRECT
+pub returns-in-3 : goal.returns-in-3
 unfolding content_place
-returns-then-kind-eq-KIND_INDIRECT c = let a = c.args in rw (ne_eqb a.kind 1 (λ z. omega arith), eq-eqb a.kind 3 (omega arith))
+returns-in-3 c = let a = c.args in rw (ne_eqb a.kind 1 (λ z. omega arith), eq-eqb a.kind 3 (omega arith))
 
-pub returns : goal.returns
+pub returns-in_default : goal.returns-in_default
 unfolding content_place
-returns c = let a = c.args in rw (ne_eqb a.kind 1 (λ z. omega arith), ne_eqb a.kind 3 (λ z. omega arith))
+returns-in_default c = let a = c.args in rw (ne_eqb a.kind 1 (λ z. omega arith), ne_eqb a.kind 3 (λ z. omega arith))

@@ -1,24 +1,7 @@
-use Rattle.stackmap.specs.Layout.{function_size}
-use Rattle.stackmap.proofs.Steps.{mul_step}
-use Rattle.stackmap.proofs.Items.{function-size}
-use Rattle.builder_items.proofs.Puts.{put-start, put_on, put-end}
-use borrow.Author.Rules.{rules}
-use native.Mathlib.Omega.{arith}
+use Rattle.stackmap.specs.Section.{function_fields}
+use Rattle.listing.specs.Listing.{listed_function}
+use Rattle.builder_items.proofs.Puts.{all_fields}
 use Rattle.builder_items.proofs.runs.functions.Goals as goal
 
-pub loop-left-init : goal.loop-left-init
-loop-left-init c = put-start c.requires.0 c.requires.1
-
-pub function-requires : goal.function-requires
-function-requires c = let h = mul_step (function_size c.args.old) c.loop-left.left (omega arith) in search rules
-
-pub overflow_add-q : goal.overflow_add-q
-overflow_add-q c = let h = mul_step (function_size c.args.old) c.loop-left.left (omega arith) in search rules
-
-pub loop-left-preserved : goal.loop-left-preserved
-loop-left-preserved c =
-    rw c.function_size-step.ensures.0
-    (put_on c.function.new.out (function-size c.args.old) c.loop-left.invariant (omega arith) c.function.ensures)
-
 pub returns : goal.returns
-returns c = put-end c.loop-left.invariant (omega arith)
+returns c = rw (← all_fields (function_fields c.args.old) listed_function) c.items.ensures

@@ -1,13 +1,7 @@
-use native.Mathlib.Omega.{arith}
-use Rattle.stackmap.proofs.Items.{live_out_size_lem}
-use Rattle.builder_items.proofs.Puts.{put-start, put_on, put-end}
+use Rattle.stackmap.specs.Section.{live_out_fields}
+use Rattle.listing.specs.Listing.{listed_live_out}
+use Rattle.builder_items.proofs.Puts.{all_fields}
 use Rattle.builder_items.proofs.runs.live_outs.Goals as goal
 
-pub loop-left-init : goal.loop-left-init
-loop-left-init c = put-start c.requires.0 c.requires.1
-
-pub loop-left-preserved : goal.loop-left-preserved
-loop-left-preserved c = put_on c.live_out.new.out live_out_size_lem c.loop-left.invariant c.loop-left-test.true c.live_out.ensures
-
 pub returns : goal.returns
-returns c = put-end c.loop-left.invariant (omega arith)
+returns c = rw (← all_fields live_out_fields listed_live_out) c.items.ensures
