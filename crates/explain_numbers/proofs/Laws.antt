@@ -1,10 +1,11 @@
 -- Numbers of a row, and these put one after the other.
-use Prim.Native.Nat.{ℕ, suc, ◌+◌, ◌-◌, ◌/◌, ◌≤◌, ◌<◌}
-use mathlib.Core.Path.{◌≡◌, refl, ap, ◌∙◌}
-use mathlib.Core.List.{List, [], ◌∷◌}
+use Prim.Native.Nat.{ℕ, ◌+◌, ◌-◌, ◌/◌, ◌≤◌, ◌<◌}
+use mathlib.Core.Path.{◌≡◌}
+use mathlib.Core.List.{List, append_assoc}
 use native.Mathlib.Omega.{arith}
-use lib.ListN.{set}
-use lib.Seq.{sets}
+use lib.ListN.{length}
+use lib.Seq.{sets, sets-eq, drop-drop}
+use borrow.Rule.Slice.PartMut.{put_mid}
 use Rattle.moves.specs.Arrays.{registers_from}
 use Rattle.moves.proofs.Numbers.{slot-memory, slot-register}
 use Rattle.explain_numbers.specs.Numbers.{sort_at, place_at}
@@ -28,15 +29,7 @@ module _ (x : ℕ) where
   unfolding place_at
   place-register sp h = rw (slot-register x h)
 
--- Single numbers, one after the other.
+-- Numbers copied over a part of a list are stored one after the other.
 
-abbrev puts : List ℕ → ℕ → ℕ → List ℕ → List ℕ
-puts l i k [] = l
-puts l i k (v ∷ vs) = puts (set l (i + k) v) i (suc k) vs
-
-puts-are : (l : List ℕ) (i k : ℕ) (vs : List ℕ) → puts l i k vs ≡ sets l (i + k) vs
-puts-are l i k [] = refl
-puts-are l i k (v ∷ vs) = puts-are (set l (i + k) v) i (suc k) vs ∙ ap (λ (m : ℕ). sets (set l (i + k) v) m vs) (omega arith)
-
-pub put_numbers_lem : (l : List ℕ) (i a : ℕ) (vs : List ℕ) → puts (set l i a) i 1 vs ≡ sets l i (a ∷ vs)
-put_numbers_lem l i a vs = puts-are (set l i a) i 1 vs ∙ ap (λ (m : ℕ). sets (set l i a) m vs) (omega arith)
+pub part-sets : (l : List ℕ) (i k : ℕ) (part vs : List ℕ) → part ≡ vs → k ≡ length vs → i + k ≤ length l → put_mid i k l part ≡ sets l i vs
+part-sets l i k part vs p e h = rw (p, sets-eq vs l i (omega arith), ← e, drop-drop, append_assoc)

@@ -5,7 +5,6 @@
 ghost use Rattle.std.specs.Prelude.{◌≡◌, [], ◌∷◌, ◌+◌, ◌^◌, ◌≤◌, ◌<◌, length};
 ghost use Rattle.std.proofs.lemmas.List.Edits.{sets};
 ghost use Rattle.moves.specs.Arrays.{registers_from};
-ghost use Rattle.explain.specs.Rows.{reason_numbers};
 ghost use Rattle.explain_numbers.specs.Numbers.{numbers_of, sort_at, place_at};
 
 use explain::Reason;
@@ -32,20 +31,25 @@ pub fn plain(reason: u64) -> Told
     }
 }
 
-pub fn numbers(why: Reason) -> Told
-    ensures { numbers_of result ≡ reason_numbers why }
-{
-    match why {
-        Reason::Unlisted => plain(0),
-        Reason::OnlyBase => plain(1),
-        Reason::NullBase => plain(2),
-        Reason::Moved(pair, old, new) => Told {
-            reason: 3,
-            pair: pair as u64,
-            old,
-            new,
-        },
-        Reason::Refused(_, _) => plain(4),
+impl From<Reason> for Told {
+    ghost use Rattle.explain.specs.Rows.{reason_numbers};
+    ghost use Rattle.explain_numbers.specs.Numbers.{numbers_of};
+
+    ghost from_gives = { λ why told. numbers_of told ≡ reason_numbers why };
+
+    fn from(why: Reason) -> Told {
+        match why {
+            Reason::Unlisted => plain(0),
+            Reason::OnlyBase => plain(1),
+            Reason::NullBase => plain(2),
+            Reason::Moved(pair, old, new) => Told {
+                reason: 3,
+                pair: pair as u64,
+                old,
+                new,
+            },
+            Reason::Refused(_, _) => plain(4),
+        }
     }
 }
 
@@ -53,10 +57,7 @@ pub fn numbers(why: Reason) -> Told
 pub fn sort(x: usize) -> u64
     ensures { result ≡ sort_at x }
 {
-    if x < REGISTERS_FROM {
-        return 1;
-    }
-    2
+    if x < REGISTERS_FROM { 1 } else { 2 }
 }
 
 // Its address, or its register's number.
@@ -65,9 +66,10 @@ pub fn place(x: usize, sp: u64) -> u64
     ensures { result ≡ place_at sp x }
 {
     if x < REGISTERS_FROM {
-        return sp + x as u64;
+        sp + x as u64
+    } else {
+        ((x - REGISTERS_FROM) / POINTER_SIZE) as u64
     }
-    ((x - REGISTERS_FROM) / POINTER_SIZE) as u64
 }
 
 // The seven numbers of a slot, from the place `to` on.
@@ -75,13 +77,13 @@ pub fn put_slot(rows: &mut [u64], to: usize, sort: u64, place: u64, content: u64
     requires { to + 7 ≤ length rows.old }
     ensures { rows.new ≡ sets rows.old to (sort ∷ place ∷ content ∷ numbers_of told) }
 {
-    rows[to] = sort;
-    rows[to + 1] = place;
-    rows[to + 2] = content;
-    rows[to + 3] = told.reason;
-    rows[to + 4] = told.pair;
-    rows[to + 5] = told.old;
-    rows[to + 6] = told.new;
+    let Told {
+        reason,
+        pair,
+        old,
+        new,
+    } = told;
+    rows[to..to + 7].copy_from_slice(&[sort, place, content, reason, pair, old, new]);
 }
 
 // The first two numbers of a row.
@@ -89,6 +91,5 @@ pub fn put_head(rows: &mut [u64], to: usize, position: usize, pair: usize)
     requires { to + 2 ≤ length rows.old }
     ensures { rows.new ≡ sets rows.old to (position ∷ pair ∷ []) }
 {
-    rows[to] = position as u64;
-    rows[to + 1] = pair as u64;
+    rows[to..to + 2].copy_from_slice(&[position as u64, pair as u64]);
 }

@@ -1,14 +1,19 @@
 -- What the lowest index tells, and slots as numbers.
 use Prim.Native.Nat.{ℕ, zero, suc, ◌+◌, ◌*◌, ◌-◌, ◌≤◌, ◌<◌}
 use mathlib.Core.Path.{◌≡◌, refl, sym, ap, ◌∙◌}
-use mathlib.Core.Bool.{Bool, true, false, cond, not, true≢false}
+use mathlib.Core.Bool.{Bool, true, false, cond, not, ◌||◌, true≢false}
 use mathlib.Core.Option.{Option, none, some}
 use mathlib.Core.List.{List}
 use native.Mathlib.Omega.{arith}
 use native.Mathlib.Decide.{dec_lt}
+use Rattle.std.proofs.Common.{add-one, Some, None}
+use Rattle.std.specs.List.{list_any, range_with_len, position_or_len}
+use Rattle.std.specs.Option.{unwrap_or}
+use Rattle.std.specs.Prelude as Std
+use Rattle.std.proofs.lemmas.List.FromFn.{length-range_with_len}
 use borrow.Author.Tests.{lt-ltb, le-ltb, le-leb, lt-leb, eq-eqb, ne_eqb}
 use lib.Dec.{eqb, ltb}
-use lib.ListN.{get_or}
+use lib.ListN.{length, get_or}
 use Rattle.moves.specs.Search.{lowest_from, lowest}
 use Rattle.moves.specs.Slots.{memory, register, State}
 use Rattle.moves.specs.Pointers.{Pointer, or_zero}
@@ -16,6 +21,53 @@ use Rattle.moves.specs.Plan.{pair_of}
 use Rattle.moves.specs.Arrays.{registers_from}
 use Rattle.explain.specs.declared.Reason.TheVariants.{Unlisted, OnlyBase, NullBase, Moved}
 use Rattle.explain_pointers.specs.Told.{number_of, named_at, base_at, moves_at, told_of}
+
+-- A search through a range of indices is that for the lowest one.
+
+any-range : (t : ℕ → Bool) (k i : ℕ) → list_any t (range_with_len i k) ≡ ltb (lowest_from t k i) (i + k)
+any-range t zero i = sym (le-ltb i (i + 0) (omega arith))
+any-range t (suc k) i = go (any-range t k (suc i) ∙ ap (ltb (lowest_from t k (suc i))) (omega arith)) (t i)
+  where
+    go : list_any t (range_with_len (suc i) k) ≡ ltb (lowest_from t k (suc i)) (i + suc k)
+        → (b : Bool) → (b || list_any t (range_with_len (i + 1) k)) ≡ ltb (cond b i (lowest_from t k (suc i))) (i + suc k)
+    go rest true = sym (lt-ltb i (i + suc k) (omega arith))
+    go rest false = rw add-one rest
+
+pub any_below-n : (t : ℕ → Bool) (n : ℕ) → list_any t (range_with_len 0 n) ≡ ltb (lowest t n) n
+unfolding lowest
+any_below-n t n = any-range t n 0 ∙ ap (ltb (lowest_from t n 0)) (omega arith)
+
+position-range : (t : ℕ → Bool) (k i : ℕ) → i + position_or_len t (range_with_len i k) ≡ lowest_from t k i
+position-range t zero i = omega arith
+position-range t (suc k) i = go (position-range t k (suc i)) (t i)
+  where
+    go : suc i + position_or_len t (range_with_len (suc i) k) ≡ lowest_from t k (suc i)
+        → (b : Bool) → i + cond (not b) (1 + position_or_len t (range_with_len (i + 1) k)) 0 ≡ cond b i (lowest_from t k (suc i))
+    go rest true = omega arith
+    go rest false = rw add-one (omega (arith, rest))
+
+low-most : (t : ℕ → Bool) (k i : ℕ) → lowest_from t k i ≤ i + k
+low-most t zero i = omega arith
+low-most t (suc k) i = go (low-most t k (suc i)) (t i)
+  where
+    go : lowest_from t k (suc i) ≤ suc i + k → (b : Bool) → cond b i (lowest_from t k (suc i)) ≤ i + suc k
+    go rest true = omega arith
+    go rest false = omega arith
+
+or_all : (p n : ℕ) → p ≤ n → unwrap_or (cond (ltb p n) (Some p) None) n ≡ p
+or_all p n h = go (dec_lt p n)
+  where
+    go : Dec (p < n) → unwrap_or (cond (ltb p n) (Some p) None) n ≡ p
+    go (yes l) = rw (lt-ltb p n l)
+    go (no l) = rw (le-ltb p n (omega arith)) (omega arith)
+
+pub position_below-n : (t : ℕ → Bool) (n : ℕ) (r : Std.Option ℕ)
+    → r ≡ cond (ltb (position_or_len t (range_with_len 0 n)) (length (range_with_len 0 n))) (Some (position_or_len t (range_with_len 0 n))) None
+    → unwrap_or r n ≡ lowest t n
+unfolding lowest
+position_below-n t n r e =
+    let p : position_or_len t (range_with_len 0 n) ≡ lowest_from t n 0 = omega (arith, position-range t n 0) in
+    rw (e, p, length-range_with_len 0 n) (or_all (lowest_from t n 0) n (let m = low-most t n 0 in omega arith))
 
 -- The lowest index holds, and none before it does.
 

@@ -27,13 +27,7 @@ fn moves_at(
     requires { (k < pairs_most) × ((get_or live.now k 0 ≡ 0 → ⊥) → Placed (length window.now) (length registers.now) (get_or bases.now k 0)) }
     ensures { result ≡ moves_at (state window.now registers.now) live.now bases.now derived.now x k }
 {
-    if live[k] == 0 {
-        return false;
-    }
-    if derived[k] == x {
-        return slots::read(window, registers, bases[k]) != 0;
-    }
-    false
+    live[k] != 0 && derived[k] == x && slots::read(window, registers, bases[k]) != 0
 }
 
 // The lowest such pointer, or `pointers` if there is none.
@@ -49,14 +43,9 @@ pub fn first_moved(
     requires { (pointers ≤ pairs_most) × AllPlaced (length window.now) (length registers.now) pointers live.now bases.now derived.now }
     ensures { result ≡ lowest (moves_at (state window.now registers.now) live.now bases.now derived.now x) pointers }
 {
-    let mut k: usize = 0;
-    while k < pointers {
-        if moves_at(window, registers, live, bases, derived, x, k) {
-            return k;
-        }
-        k += 1;
-    }
-    k
+    (0..pointers)
+        .position(|k| moves_at(window, registers, live, bases, derived, x, k))
+        .unwrap_or(pointers)
 }
 
 // Whether pointer k has this slot, of its base slots or its derived slots.
@@ -64,10 +53,7 @@ fn named_at(live: &[u8; PAIRS_MOST], numbers: &[usize; PAIRS_MOST], x: usize, k:
     requires { k < pairs_most }
     ensures { result ≡ named_at live.now numbers.now x k }
 {
-    if live[k] == 0 {
-        return false;
-    }
-    numbers[k] == x
+    live[k] != 0 && numbers[k] == x
 }
 
 // Whether one of the pointers has it.
@@ -80,12 +66,5 @@ pub fn named(
     requires { pointers ≤ pairs_most }
     ensures { result ≡ ltb (lowest (named_at live.now numbers.now x) pointers) pointers }
 {
-    let mut k: usize = 0;
-    while k < pointers {
-        if named_at(live, numbers, x, k) {
-            return true;
-        }
-        k += 1;
-    }
-    false
+    (0..pointers).any(|k| named_at(live, numbers, x, k))
 }

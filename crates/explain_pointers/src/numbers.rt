@@ -13,14 +13,10 @@ use relocate::{REGISTERS, Spot};
 fn in_memory(address: u64, sp: u64) -> Spot
     ensures { spot_of result ≡ number_of sp (memory address) }
 {
-    if address < sp {
-        return Spot::Outside;
+    match address.checked_sub(sp) {
+        Some(past) if past < REGISTERS_FROM as u64 => Spot::At(past as usize),
+        _ => Spot::Outside,
     }
-    let past = address - sp;
-    if past < REGISTERS_FROM as u64 {
-        return Spot::At(past as usize);
-    }
-    Spot::Outside
 }
 
 fn in_register(number: u64, sp: u64) -> Spot

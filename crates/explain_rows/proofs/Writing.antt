@@ -3,11 +3,11 @@ use Prim.Native.Nat.{ℕ, suc, ◌+◌, ◌*◌, ◌-◌, ◌≤◌, ◌<◌}
 use mathlib.Core.Path.{◌≡◌, refl, sym, ap, ◌∙◌}
 use mathlib.Core.Bool.{Bool, true, false, cond}
 use mathlib.Core.Option.{Option}
-use mathlib.Core.List.{List, [], ◌∷◌, ◌++◌}
+use mathlib.Core.List.{List, ◌∷◌, ◌++◌}
 use native.Mathlib.Omega.{arith}
 use borrow.Author.Tests.{eq-eqb, ne_eqb}
 use lib.Dec.{eqb}
-use lib.ListN.{length, get_or, length-append}
+use lib.ListN.{length, get_or, replicate, length-append}
 use lib.Seq.{sets, length-sets}
 use Rattle.wire.proofs.Laws.{sets-append}
 use Rattle.moves.specs.Slots.{State}
@@ -18,6 +18,8 @@ use Rattle.explain.specs.Rows.{reason_numbers, no_slot}
 use Rattle.explain_pointers.specs.Told.{told_of}
 use Rattle.explain_numbers.specs.declared.Told.{Told}
 use Rattle.explain_numbers.specs.Numbers.{numbers_of}
+use Rattle.explain_numbers.proofs.Laws.{part-sets}
+use borrow.Rule.Slice.PartMut.{put_mid}
 use Rattle.explain_laws.proofs.Lengths.{reason_length}
 use Rattle.explain_rows.specs.Written.{in_order, slot_by, slots_by, row_by}
 
@@ -63,10 +65,10 @@ pub put_both : (out mid after : List ℕ) (to n : ℕ) (xs ys zs : List ℕ) →
     → after ≡ sets out to zs
 put_both out mid after to n xs ys zs p q l z = q ∙ ap (λ (m : List ℕ). sets m (to + n) ys) p ∙ put_two out to n xs ys zs l z
 
-pub put_nulls : (out mid after : List ℕ) (to : ℕ) (t u : Told) → numbers_of t ≡ 0 ∷ 0 ∷ 0 ∷ 0 ∷ [] → numbers_of u ≡ 0 ∷ 0 ∷ 0 ∷ 0 ∷ []
-    → mid ≡ sets out to (0 ∷ 0 ∷ 0 ∷ numbers_of t) → after ≡ sets mid (to + 7) (0 ∷ 0 ∷ 0 ∷ numbers_of u) → (zs : List ℕ) → no_slot ++ no_slot ≡ zs → after ≡ sets out to zs
-put_nulls out mid after to t u e d p q zs z =
-    put_both out mid after to 7 no_slot no_slot zs (p ∙ ap (λ (l : List ℕ). sets out to (0 ∷ 0 ∷ 0 ∷ l)) e) (q ∙ ap (λ (l : List ℕ). sets mid (to + 7) (0 ∷ 0 ∷ 0 ∷ l)) d) refl z
+-- a null pointer's, at once
+pub put_nulls : (out part : List ℕ) (to k n : ℕ) → part ≡ replicate n 0 → n ≡ 14 → k ≡ 14 → to + k ≤ length out → (zs : List ℕ) → no_slot ++ no_slot ≡ zs
+    → put_mid to k out part ≡ sets out to zs
+put_nulls out part to k n p e d h zs z = part-sets out to k part zs (p ∙ rw e z) (d ∙ ap length z) h
 
 -- a slot as `put_told` writes it
 pub put_slot_told : (out after : List ℕ) (to a a' b b' v v' : ℕ) (t : Told) (r r' : Reason) → after ≡ sets out to (a ∷ b ∷ v ∷ numbers_of t) → a ≡ a' → b ≡ b' → v ≡ v'
@@ -81,7 +83,6 @@ put_slot_told out after to a a' b b' v v' t r r' e x y z q s =
 
 module _ (row : ℕ → List ℕ) (each : (j : ℕ) → length (row j) ≡ 16) where
   pub record Rowing (to n : ℕ) (lent rows : List ℕ) (k : ℕ) : Type 0 where
-    pub most : k ≤ n
     pub wide : length rows ≡ length lent
     pub same : sets rows (to + 16 * k) (in_order row (n - k) k) ≡ sets lent to (in_order row n 0)
 
@@ -89,7 +90,7 @@ module _ (row : ℕ → List ℕ) (each : (j : ℕ) → length (row j) ≡ 16) w
   rowing_start to n lent =
       let a : to + 16 * 0 ≡ to = omega arith in
       let b : n - 0 ≡ n = omega arith in
-      record { most = omega arith; wide = refl; same = rw (a, b) }
+      record { wide = refl; same = rw (a, b) }
 
   put_on : (out : List ℕ) (to n k : ℕ) → k < n
       → sets out (to + 16 * k) (in_order row (n - k) k) ≡ sets (sets out (to + 16 * k) (row k)) (to + 16 * (k + 1)) (in_order row (n - (k + 1)) (k + 1))
@@ -106,7 +107,6 @@ module _ (row : ℕ → List ℕ) (each : (j : ℕ) → length (row j) ≡ 16) w
       → Rowing to n lent after (k + 1)
   rowing_on to n lent rows after k g l e =
       record {
-        most = omega arith;
         wide = ap length e ∙ length-sets rows (to + 16 * k) (row k) ∙ g.wide;
         same = ap (λ (m : List ℕ). sets m (to + 16 * (k + 1)) (in_order row (n - (k + 1)) (k + 1))) e ∙ sym (put_on rows to n k l) ∙ g.same;
       }

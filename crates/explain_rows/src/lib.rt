@@ -12,7 +12,7 @@ ghost use Rattle.relocate.specs.Code.{record_of, pool_of, Paired, pointers_by};
 ghost use Rattle.explain.specs.Rows.{row_numbers};
 ghost use Rattle.explain_rows.specs.Written.{in_order, slot_by, slots_by, row_by};
 
-use explain_numbers::{numbers, place, plain, put_head, put_slot, sort};
+use explain_numbers::{place, put_head, put_slot, sort};
 use explain_search::among;
 use moves::PAIRS_MOST;
 use moves_slots::slots;
@@ -21,6 +21,9 @@ use relocate_pairs::pairs;
 
 // The numbers of a pointer.
 pub const ROW_NUMBERS: usize = 16;
+
+// Kept: what the functions below take singly of a frame travels together, but the public contracts of `put_rows`, and of
+// `explain_search::among` below it, name each argument.
 
 // The slot with the number x: where it is, what it holds, and why it moves or does not.
 fn put_told(
@@ -51,7 +54,7 @@ fn put_told(
     let why = among::of_number(
         s, at, start, count, old, window, registers, live, bases, derived, pointers, olds, news, x,
     );
-    put_slot(rows, to, sort(x), place(x, frame.sp), content, numbers(why));
+    put_slot(rows, to, sort(x), place(x, frame.sp), content, why.into());
 }
 
 // The slots of pointer k.
@@ -81,8 +84,7 @@ fn put_slots(
 {
     let second = to + 7;
     if live[k] == 0 {
-        put_slot(rows, to, 0, 0, 0, plain(0));
-        put_slot(rows, second, 0, 0, 0, plain(0));
+        rows[to..to + 14].fill(0);
         return;
     }
     put_told(
@@ -121,8 +123,7 @@ pub fn put_rows(
     ensures { rows.new ≡ sets rows.old to (in_order (row_by (state window.now registers.now) live.now bases.now derived.now
         (look_up olds.now news.now) pointers (pointers_by old (pool_of s.now) frame (record_of s.now at)) frame.sp position) pointers 0) }
 {
-    let mut k: usize = 0;
-    while k < pointers {
+    for k in 0..pointers {
         let next = to + ROW_NUMBERS * k;
         put_head(
             rows,
@@ -149,6 +150,5 @@ pub fn put_rows(
             next + 2,
             k,
         );
-        k += 1;
     }
 }

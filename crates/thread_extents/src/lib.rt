@@ -3,15 +3,18 @@
 // No entry point: it requires that every frame was accepted, so that each has an extent.
 #![tactic(auto)]
 
-ghost use Rattle.std.specs.Prelude.{◌≡◌, true, cond, [], map, ◌*◌, ◌≤◌, ◌<◌, ltb, length};
+ghost use Rattle.std.specs.Prelude.{◌≡◌, true, ℕ, cond, [], map, ◌*◌, ◌≤◌, ◌<◌, ltb, length};
 ghost use Rattle.moves.specs.declared.Move as MoveType;
 ghost use Rattle.moves.specs.Settle.{refused_move};
 ghost use Rattle.relocate.specs.Limits.{register_count};
+ghost use Rattle.relocate.specs.Stopped as StoppedSpec;
+ghost use Rattle.relocate.specs.Relocation as RelocationSpec;
 ghost use Rattle.relocate.specs.Relocation.{extent_of};
-ghost use Rattle.thread.specs.Thread.{stopped_at, frames_from, apart};
-ghost use Rattle.thread.specs.Thread.{thread_of};
+ghost use Rattle.thread.specs.Thread as ThreadSpec;
+ghost use Rattle.thread.specs.Thread.{stopped_at, frames_from, apart, frames_most, thread_of};
 ghost use Rattle.thread.specs.Code.{Looked, EachSited};
 ghost use Rattle.thread_stretches.specs.Listed.{AllApart};
+ghost use Rattle.thread_extents.specs.Extents.{GivesExtents, GivesFrames};
 
 use relocate::{Machine, REGISTERS};
 use stackmap_tables::tables;
@@ -53,52 +56,34 @@ fn extent(
 }
 
 // Whether no two extents share a byte, by a look at neighbours in order: false says nothing.
-fn all_apart(
-    machine: Machine,
-    s: &[u8],
-    frames: &[u64],
-    registers: &[u64],
-    count: usize,
-    keys: &[u64; FRAMES_MOST],
-    hits: &[usize; HITS_LENGTH],
-) -> bool
-    requires { Looked s.now frames.now count keys.now hits.now × (length registers.now ≡ register_count * count) × EachSited s.now (thread_of machine frames.now registers.now) count }
-    ensures { result ≡ true → AllApart (λ j. (extent_of s.now (stopped_at (thread_of machine frames.now registers.now) j)).start)
-        (λ j. (extent_of s.now (stopped_at (thread_of machine frames.now registers.now) j)).end) count }
+fn all_apart<F: Fn(usize) -> Stretch>(count: usize, extent: &F) -> bool
+    requires few { count ≤ frames_most }
+    requires callable { (k : ℕ) → k < count → F.pre extent.now k }
+    ensures { result ≡ true → (from to : ℕ → ℕ) → GivesExtents (F.post extent.now) from to count → AllApart from to count }
 {
     let mut pairs = [0u64; PAIRS_LENGTH];
     let mut ends = [0u64; FRAMES_MOST];
     let mut kept: usize = 0;
-    let mut k: usize = 0;
-    while k < count {
-        let x = extent(machine, s, frames, registers, count, keys, hits, k);
+    for k in 0..count {
+        let x = extent(k);
         kept = thread_stretches::put(&mut pairs, &mut ends, kept, k, x.start, x.end);
-        k += 1;
     }
     thread_stretches::all_apart(&mut pairs, kept, &ends)
 }
 
 // The position of the first frame whose extent shares a byte with an earlier one's; `count` if there is none.
-fn first_of(
-    machine: Machine,
-    s: &[u8],
-    frames: &[u64],
-    registers: &[u64],
-    count: usize,
-    keys: &[u64; FRAMES_MOST],
-    hits: &[usize; HITS_LENGTH],
-) -> usize
-    requires { Looked s.now frames.now count keys.now hits.now × (length registers.now ≡ register_count * count) × EachSited s.now (thread_of machine frames.now registers.now) count }
-    ensures { (result ≤ count) × ((m : MoveType.Move) → apart 0 [] (map (extent_of s.now) (frames_from (thread_of machine frames.now registers.now) count 0)) m ≡ cond (ltb result count) (refused_move 26 result) m) }
+fn first_of<F: Fn(usize) -> Stretch>(count: usize, extent: &F) -> usize
+    requires few { count ≤ frames_most }
+    requires callable { (k : ℕ) → k < count → F.pre extent.now k }
+    ensures { (result ≤ count) × ((e : StoppedSpec.Stopped → RelocationSpec.Extent) (t : ThreadSpec.Thread)
+        → GivesFrames (F.post extent.now) e t count
+        → (m : MoveType.Move) → apart 0 [] (map e (frames_from t count 0)) m ≡ cond (ltb result count) (refused_move 26 result) m) }
 {
     let mut starts = [0u64; FRAMES_MOST];
     let mut ends = [0u64; FRAMES_MOST];
     let mut kept: usize = 0;
-    let mut k: usize = 0;
-    while k < count {
-        let x = extent(machine, s, frames, registers, count, keys, hits, k);
-        let start = x.start;
-        let end = x.end;
+    for k in 0..count {
+        let Stretch { start, end } = extent(k);
         if thread_disjoint::shares(&starts, &ends, kept, start, end) {
             return k;
         }
@@ -106,12 +91,26 @@ fn first_of(
             thread_disjoint::keep(&mut starts, &mut ends, kept, start, end);
             kept += 1;
         }
-        k += 1;
     }
-    k
+    count
 }
 
-// The same: the look at neighbours first, so that only a refused call is looked at frame by frame.
+// The same, whatever says what the extent of the frame at a position is: the look at neighbours first, so that only a refused call is looked
+// at frame by frame.
+pub fn first_shared_by<F: Fn(usize) -> Stretch>(count: usize, extent: F) -> usize
+    requires few { count ≤ frames_most }
+    requires callable { (k : ℕ) → k < count → F.pre extent k }
+    ensures { (result ≤ count) × ((e : StoppedSpec.Stopped → RelocationSpec.Extent) (t : ThreadSpec.Thread)
+        → GivesFrames (F.post extent) e t count
+        → (m : MoveType.Move) → apart 0 [] (map e (frames_from t count 0)) m ≡ cond (ltb result count) (refused_move 26 result) m) }
+{
+    if all_apart(count, &extent) {
+        return count;
+    }
+    first_of(count, &extent)
+}
+
+// The same of the frames of a thread, by the one section.
 pub fn first_shared(
     machine: Machine,
     s: &[u8],
@@ -125,8 +124,7 @@ pub fn first_shared(
     ensures { (result ≤ count) × ((m : MoveType.Move) → apart 0 [] (map (extent_of s.now) (frames_from (thread_of machine frames.now registers.now) count 0)) m
         ≡ cond (ltb result count) (refused_move 26 result) m) }
 {
-    if all_apart(machine, s, frames, registers, count, keys, hits) {
-        return count;
-    }
-    first_of(machine, s, frames, registers, count, keys, hits)
+    first_shared_by(count, |k| {
+        extent(machine, s, frames, registers, count, keys, hits, k)
+    })
 }

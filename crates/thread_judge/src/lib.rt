@@ -87,8 +87,7 @@ fn judge_frames(
     let mut bases = [0usize; PAIRS_MOST];
     let mut derived = [0usize; PAIRS_MOST];
     let mut sum: usize = 0;
-    let mut k: usize = 0;
-    while k < count {
+    for k in 0..count {
         let outline = judge_frame(
             s,
             image,
@@ -111,7 +110,6 @@ fn judge_frames(
             return moving::refused(outline.number, k);
         }
         sum += outline.pointers;
-        k += 1;
     }
     Move {
         number: 0,
@@ -170,19 +168,18 @@ fn of_section(
         × (allowed (restore s.now olds.now news.now first settings) machine ≡ true) × (settings.most ≤ pairs_most) }
     ensures { result ≡ thread_answer (restore s.now olds.now news.now first settings) image.now (thread_of machine list.now registers.now) }
 {
-    if extent::image_right(first, image.len()) {
-        if table::table_right(olds, news) {
-            if list::list_right(list, registers) {
-                return of_frames(
-                    s, image, registers, first, olds, news, machine, list, count, keys, hits,
-                    settings,
-                );
-            }
-            return moving::refused(25, 0);
-        }
+    if !extent::image_right(first, image.len()) {
+        return moving::refused(13, 0);
+    }
+    if !table::table_right(olds, news) {
         return moving::refused(14, 0);
     }
-    moving::refused(13, 0)
+    if !list::list_right(list, registers) {
+        return moving::refused(25, 0);
+    }
+    of_frames(
+        s, image, registers, first, olds, news, machine, list, count, keys, hits, settings,
+    )
 }
 
 // What `thread_call::relocate_thread` answers of an accepted section in which the frames' records are found: 33, and what follows.
@@ -203,10 +200,10 @@ pub fn judge(
     requires { Looked s.now list.now count keys.now hits.now × (list_right list.now registers.now ≡ true → count ≡ length list.now / frame_numbers) × (settings.most ≤ pairs_most) }
     ensures { result ≡ thread_answer (restore s.now olds.now news.now first settings) image.now (thread_of machine list.now registers.now) }
 {
-    if relocate_frame::allowed(tables::is_old(s), machine, settings) {
-        return of_section(
-            s, image, registers, first, olds, news, machine, list, count, keys, hits, settings,
-        );
+    if !relocate_frame::allowed(tables::is_old(s), machine, settings) {
+        return moving::refused(33, 0);
     }
-    moving::refused(33, 0)
+    of_section(
+        s, image, registers, first, olds, news, machine, list, count, keys, hits, settings,
+    )
 }

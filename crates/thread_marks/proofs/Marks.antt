@@ -1,12 +1,14 @@
 -- The records of many addresses, noted one by one.
 use Prim.Native.Nat.{ℕ, ◌+◌, ◌*◌, ◌≤◌, ◌<◌}
 use mathlib.Core.Path.{◌≡◌, refl, sym, ap, ◌∙◌}
-use mathlib.Core.List.{List}
+use mathlib.Core.List.{List, [], ◌∷◌}
 use native.Mathlib.Omega.{arith}
+use Rattle.std.proofs.Common.{add-zero}
+use Rattle.std.proofs.lemmas.List.{places}
 use native.Mathlib.Decide.{dec_lt}
 use borrow.Author.Tests.{eq-eqb, ne_eqb}
-use lib.ListN.{length, get_or, set, length-set}
-use lib.Seq.{get_or-set_same, get_or-set_other}
+use lib.ListN.{length, get_or}
+use borrow.Rule.Slice.PartMut.{put_mid}
 use Rattle.stackmap.specs.Section.{Entry, address}
 use Rattle.stackmap.specs.Walk.{entry_at}
 use Rattle.questions.specs.declared.Hits.{Hits}
@@ -17,48 +19,33 @@ use Rattle.sorted.proofs.Laws.{lower_bound-one}
 use Rattle.thread.specs.Code.{hits_at, Stored, Holding, Counted, noted_all}
 use Rattle.thread_marks.specs.From.{hit_by, entry_from, Grown}
 
--- Four stores write one place.
+-- The four numbers of a place, written at once.
 
-module _ (b : List ℕ) (i : ℕ) (h : Hits) where
-  abbrev b₁ : List ℕ
-  b₁ = set b (4 * i) h.index
+module _ (b : List ℕ) (i : ℕ) (h : Hits) (k : ℕ) (e : k ≡ 4) (l : 4 * i + 3 < length b) where
+  abbrev four : List ℕ
+  four = h.index ∷ h.function ∷ h.sharing ∷ h.first ∷ []
 
-  abbrev b₂ : List ℕ
-  b₂ = set b₁ (4 * i + 1) h.function
+  inside : (j : ℕ) → j < 4 → get_or (put_mid (4 * i) k b four) (4 * i + j) 0 ≡ get_or four j 0
+  inside j m = grind (arith, places)
 
-  abbrev b₃ : List ℕ
-  b₃ = set b₂ (4 * i + 2) h.sharing
+  miss : (p : ℕ) → (4 * i ≤ p → p < 4 * i + 4 → ⊥) → get_or (put_mid (4 * i) k b four) p 0 ≡ get_or b p 0
+  miss p n = grind (arith, places)
 
-  abbrev b₄ : List ℕ
-  b₄ = set b₃ (4 * i + 3) h.first
-
-  miss : (p : ℕ) → (p ≡ 4 * i → ⊥) → (p ≡ 4 * i + 1 → ⊥) → (p ≡ 4 * i + 2 → ⊥) → (p ≡ 4 * i + 3 → ⊥) → get_or b₄ p 0 ≡ get_or b p 0
-  miss p n₀ n₁ n₂ n₃ =
-      get_or-set_other b₃ (4 * i + 3) p h.first 0 n₃ ∙ get_or-set_other b₂ (4 * i + 2) p h.sharing 0 n₂
-      ∙ get_or-set_other b₁ (4 * i + 1) p h.function 0 n₁ ∙ get_or-set_other b (4 * i) p h.index 0 n₀
-
-  pub stored : 4 * i + 3 < length b → Stored b b₄ i h
-  stored l =
-      let l₁ = length-set b (4 * i) h.index in
-      let l₂ = length-set b₁ (4 * i + 1) h.function in
-      let l₃ = length-set b₂ (4 * i + 2) h.sharing in
-      let e₃ : get_or b₄ (4 * i + 3) 0 ≡ h.first = get_or-set_same b₃ (4 * i + 3) h.first 0 (omega arith) in
-      let e₂ : get_or b₄ (4 * i + 2) 0 ≡ h.sharing =
-      get_or-set_other b₃ (4 * i + 3) (4 * i + 2) h.first 0 (λ q. omega arith) ∙ get_or-set_same b₂ (4 * i + 2) h.sharing 0 (omega arith) in
-      let e₁ : get_or b₄ (4 * i + 1) 0 ≡ h.function =
-      get_or-set_other b₃ (4 * i + 3) (4 * i + 1) h.first 0 (λ q. omega arith) ∙ get_or-set_other b₂ (4 * i + 2) (4 * i + 1) h.sharing 0 (λ q. omega arith)
-      ∙ get_or-set_same b₁ (4 * i + 1) h.function 0 (omega arith) in
-      let e₀ : get_or b₄ (4 * i) 0 ≡ h.index =
-      get_or-set_other b₃ (4 * i + 3) (4 * i) h.first 0 (λ q. omega arith) ∙ get_or-set_other b₂ (4 * i + 2) (4 * i) h.sharing 0 (λ q. omega arith)
-      ∙ get_or-set_other b₁ (4 * i + 1) (4 * i) h.function 0 (λ q. omega arith) ∙ get_or-set_same b (4 * i) h.index 0 (omega arith) in
+  pub stored : (vs : List ℕ) → vs ≡ four → Stored b (put_mid (4 * i) k b vs) i h
+  stored vs f =
+      let e₀ : get_or (put_mid (4 * i) k b four) (4 * i) 0 ≡ h.index = rw add-zero at (inside 0 (omega arith)) in
+      let e₁ = inside 1 (omega arith) in
+      let e₂ = inside 2 (omega arith) in
+      let e₃ = inside 3 (omega arith) in
+      rw f
       record {
         here = λ k. record { index = e₀ k; function = e₁ k; sharing = e₂ k; first = e₃ k };
         others =
             λ j n.
-            let f₀ = miss (4 * j) (λ q. n (omega arith)) (λ q. omega arith) (λ q. omega arith) (λ q. omega arith) in
-            let f₁ = miss (4 * j + 1) (λ q. omega arith) (λ q. n (omega arith)) (λ q. omega arith) (λ q. omega arith) in
-            let f₂ = miss (4 * j + 2) (λ q. omega arith) (λ q. omega arith) (λ q. n (omega arith)) (λ q. omega arith) in
-            let f₃ = miss (4 * j + 3) (λ q. omega arith) (λ q. omega arith) (λ q. omega arith) (λ q. n (omega arith)) in
+            let f₀ = miss (4 * j) (λ p q. n (omega arith)) in
+            let f₁ = miss (4 * j + 1) (λ p q. n (omega arith)) in
+            let f₂ = miss (4 * j + 2) (λ p q. n (omega arith)) in
+            let f₃ = miss (4 * j + 3) (λ p q. n (omega arith)) in
             λ k. record { index = f₀ k; function = f₁ k; sharing = f₂ k; first = f₃ k };
       }
 

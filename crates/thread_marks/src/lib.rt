@@ -42,10 +42,7 @@ fn store(hits: &mut [usize], i: usize, h: Hits)
     ensures { Stored hits.old hits.new i h }
 {
     let p = HIT_NUMBERS * i;
-    hits[p] = h.index;
-    hits[p + 1] = h.function;
-    hits[p + 2] = h.sharing;
-    hits[p + 3] = h.first;
+    hits[p..p + HIT_NUMBERS].copy_from_slice(&[h.index, h.function, h.sharing, h.first]);
 }
 
 // What has been found with one more record: the first one is kept, and how many there were.
@@ -62,10 +59,8 @@ fn hit(h: Hits, index: usize, function: usize, first: usize) -> Hits
         };
     }
     Hits {
-        index: h.index,
-        function: h.function,
         sharing: h.sharing + 1,
-        first: h.first,
+        ..h
     }
 }
 
@@ -85,12 +80,10 @@ fn note_at(
         → (h : ℕ → HitsType.Hits) → Holding keys.now count hits.old h → Holding keys.now count hits.new (noted_all e h))
         × Grown hits.old hits.new 1 }
 {
-    if i < count {
-        if keys[i] == key {
-            let before = hits_at(hits, i);
-            let after = hit(before, index, function, first);
-            store(hits, i, after);
-        }
+    if i < count && keys[i] == key {
+        let before = hits_at(hits, i);
+        let after = hit(before, index, function, first);
+        store(hits, i, after);
     }
 }
 
@@ -116,12 +109,10 @@ pub fn mark(
         → Holding keys.now count hits.new (noted_from base (entry_at s.now index function at) h))
         × Grown hits.old hits.new 1 × Between keys.now count result.below result.above result.place }
 {
-    let offset = wire::u32_at(s, at + layout::INSTRUCTION_OFFSET_AT) as u64;
-    let key = start + offset;
-    if gap.below < key {
-        if key < gap.above {
-            return gap;
-        }
+    let offset = wire::u32_at(s, at + layout::INSTRUCTION_OFFSET_AT);
+    let key = start + u64::from(offset);
+    if gap.below < key && key < gap.above {
+        return gap;
     }
     let i = gap::place(keys, count, gap, key);
     note_at(key, index, function, base + at, keys, count, hits, i);

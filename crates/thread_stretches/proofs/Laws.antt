@@ -1,63 +1,17 @@
 -- Stretches that are listed, put in order, and clear of their neighbours, are apart.
-use Prim.Native.Nat.{ℕ, zero, suc, ◌+◌, ◌*◌, ◌-◌, ◌^◌, ◌≤◌, ◌<◌}
+use Prim.Native.Nat.{ℕ, zero, suc, ◌+◌, ◌-◌, ◌^◌, ◌≤◌, ◌<◌}
 use mathlib.Core.Path.{◌≡◌, sym, ap, ◌∙◌}
 use mathlib.Core.Bool.{false}
 use mathlib.Core.List.{List}
 use native.Mathlib.Omega.{arith}
 use native.Mathlib.Decide.{dec_lt}
-use lib.ListN.{length, get_or, set, length-set}
-use lib.Seq.{get_or-set_same, get_or-set_other}
+use lib.ListN.{get_or}
 use Rattle.sorted_pairs.specs.Pairs.{first_at, second_at, rank_at, Reordered, Stepped}
 use Rattle.thread.specs.Thread.{share}
 use Rattle.thread.proofs.StretchesApart.{share-empty, share_empty_2, share-above, share-below}
 use Rattle.thread_stretches.specs.Listed.{PairOf, Listed, Clear, AllApart}
 
--- One more stretch.
-
-module _ (pairs : List ℕ) (kept a b : ℕ) (l : 2 * kept + 1 < length pairs) where
-  abbrev p₂ : List ℕ
-  p₂ = set (set pairs (2 * kept) a) (2 * kept + 1) b
-
-  new-pair : (n : ℕ) → kept < n → PairOf p₂ n a b
-  new-pair n m =
-      let e = length-set pairs (2 * kept) a in
-      record {
-        place = kept;
-        inside = m;
-        firsts = get_or-set_other (set pairs (2 * kept) a) (2 * kept + 1) (2 * kept) b 0 (λ z. omega arith) ∙ get_or-set_same pairs (2 * kept) a 0 (omega arith);
-        seconds = get_or-set_same (set pairs (2 * kept) a) (2 * kept + 1) b 0 (omega arith);
-      }
-
-  other : (p : ℕ) → p < 2 * kept → get_or p₂ p 0 ≡ get_or pairs p 0
-  other p m =
-      get_or-set_other (set pairs (2 * kept) a) (2 * kept + 1) p b 0 (λ z. omega arith) ∙ get_or-set_other pairs (2 * kept) p a 0 (λ z. omega arith)
-
-  old-pair : {c d : ℕ} (n : ℕ) → kept ≤ n → PairOf pairs kept c d → PairOf p₂ n c d
-  old-pair n m o =
-      record {
-        place = o.place;
-        inside = omega (arith, o.inside);
-        firsts = other (2 * o.place) (omega (arith, o.inside)) ∙ o.firsts;
-        seconds = other (2 * o.place + 1) (omega (arith, o.inside)) ∙ o.seconds;
-      }
-
-pub listed_on : (pairs ends : List ℕ) (k kept start end one : ℕ) → 2 * kept + 1 < length pairs → k < length ends → (start < end → one ≡ 1)
-    → (from to : ℕ → ℕ) → Listed from to k kept pairs ends → start ≡ from k → end ≡ to k
-    → Listed from to (k + 1) (kept + one) (set (set pairs (2 * kept) start) (2 * kept + 1) k) (set ends k end)
-listed_on pairs ends k kept start end one l m full from to o f t =
-    record { ended = λ j h. at j h (dec_lt j k); listed = λ j h e. in_list j h e (dec_lt j k) }
-  where
-    at : (j : ℕ) → j < k + 1 → Dec (j < k) → get_or (set ends k end) j 0 ≡ to j
-    at j h (yes d) = get_or-set_other ends k j end 0 (λ z. omega arith) ∙ o.ended j d
-    at j h (no d) = let z : j ≡ k = omega arith in rw z (get_or-set_same ends k end 0 m ∙ t)
-
-    in_list : (j : ℕ) → j < k + 1 → from j < to j → Dec (j < k) → PairOf (set (set pairs (2 * kept) start) (2 * kept + 1) k) (kept + one) (from j) j
-    in_list j h e (yes d) = old-pair pairs kept start k l (kept + one) (omega arith) (o.listed j d e)
-    in_list j h e (no d) =
-        let z : j ≡ k = omega arith in
-        let e' : from k < to k = rw z at e in
-        let q = full (omega arith) in
-        rw (z, ← f) (new-pair pairs kept start k l (kept + one) (omega arith))
+-- No stretch yet.
 
 pub listed-none : (from to : ℕ → ℕ) (pairs ends : List ℕ) → Listed from to 0 0 pairs ends
 listed-none from to pairs ends = record { ended = λ j h. absurd (omega arith); listed = λ j h e. absurd (omega arith) }

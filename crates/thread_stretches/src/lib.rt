@@ -12,16 +12,6 @@ use thread::FRAMES_MOST;
 // A start and a number for each stretch.
 pub const PAIRS_LENGTH: usize = 2 * FRAMES_MOST;
 
-// 1 for a stretch that is not empty, and else 0.
-fn full(start: u64, end: u64) -> usize
-    ensures { (result ≤ 1) × (start < end → result ≡ 1) }
-{
-    if start < end {
-        return 1;
-    }
-    0
-}
-
 // Puts the stretch number k after `kept` others: a pair of its start and its number, unless it is empty, and its end.
 fn put_in(pairs: &mut [u64], ends: &mut [u64], kept: usize, k: usize, start: u64, end: u64) -> usize
     requires { (kept ≤ k) × (2 * k + 1 < length pairs.old) × (k < length ends.old) }
@@ -31,7 +21,7 @@ fn put_in(pairs: &mut [u64], ends: &mut [u64], kept: usize, k: usize, start: u64
     ends[k] = end;
     pairs[2 * kept] = start;
     pairs[2 * kept + 1] = k as u64;
-    kept + full(start, end)
+    kept + usize::from(start < end)
 }
 
 // The same in arrays that have room for each frame's.
@@ -55,17 +45,11 @@ fn neighbours(pairs: &[u64], n: usize, ends: &[u64]) -> bool
     requires { 2 * n ≤ length pairs.now }
     ensures { result ≡ true → Clear pairs.now n ends.now }
 {
-    let mut next: usize = 1;
-    while next < n {
-        let i = next - 1;
-        let k = pairs[2 * i + 1];
-        if k >= ends.len() as u64 {
+    for next in 1..n {
+        let k = pairs[2 * next - 1] as usize;
+        if k >= ends.len() || ends[k] > pairs[2 * next] {
             return false;
         }
-        if ends[k as usize] > pairs[2 * next] {
-            return false;
-        }
-        next += 1;
     }
     true
 }

@@ -8,5 +8,5 @@ overflow_add-result c = let k = c.requires c.if-x-lt-REGISTERS_FROM.true in omeg
 pub returns-then-x-lt-REGISTERS_FROM : goal.returns-then-x-lt-REGISTERS_FROM
 returns-then-x-lt-REGISTERS_FROM c = place-memory _ _ c.if-x-lt-REGISTERS_FROM.true
 
-pub returns : goal.returns
-returns c = place-register _ _ (omega arith)
+pub returns-else-x-lt-REGISTERS_FROM : goal.returns-else-x-lt-REGISTERS_FROM
+returns-else-x-lt-REGISTERS_FROM c = place-register _ _ (omega arith)

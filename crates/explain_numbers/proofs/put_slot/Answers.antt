@@ -1,27 +1,6 @@
-use mathlib.Core.List.{◌∷◌}
 use native.Mathlib.Omega.{arith}
-use lib.ListN.{length-set}
-use Rattle.explain_numbers.specs.Numbers.{numbers_of}
-use Rattle.explain_numbers.proofs.Laws.{put_numbers_lem}
+use Rattle.explain_numbers.proofs.Laws.{part-sets}
 use Rattle.explain_numbers.proofs.put_slot.Goals as goal
 
-pub bounds-rows-to-2 : goal.bounds-rows-to-2
-bounds-rows-to-2 c = simp length-set (omega arith)
-
-pub bounds-rows-to-3 : goal.bounds-rows-to-3
-bounds-rows-to-3 c = simp length-set (omega arith)
-
-pub bounds-rows-to-4 : goal.bounds-rows-to-4
-bounds-rows-to-4 c = simp length-set (omega arith)
-
-pub bounds-rows-to-5 : goal.bounds-rows-to-5
-bounds-rows-to-5 c = simp length-set (omega arith)
-
-pub bounds-rows-to-6 : goal.bounds-rows-to-6
-bounds-rows-to-6 c = simp length-set (omega arith)
-
-pub bounds-rows-to-7 : goal.bounds-rows-to-7
-bounds-rows-to-7 c = simp length-set (omega arith)
-
 pub returns : goal.returns
-returns c = put_numbers_lem c.args.rows.now c.args.to c.args.sort (c.args.place ∷ c.args.content ∷ numbers_of c.args.told)
+returns c = part-sets _ _ _ _ _ c.copy_from_slice.ensures.after (omega arith) (omega arith)

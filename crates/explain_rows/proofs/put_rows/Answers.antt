@@ -15,10 +15,10 @@ pub loop-k-init : goal.loop-k-init
 loop-k-init c = rowing_start _ _ _ _ _
 
 pub overflow_mul-next : goal.overflow_mul-next
-overflow_mul-next c = omega (arith, c.requires.5, c.loop-k.invariant.most)
+overflow_mul-next c = omega (arith, c.requires.5)
 
 pub overflow_add-next : goal.overflow_add-next
-overflow_add-next c = omega (arith, c.requires.5, c.loop-k.invariant.most)
+overflow_add-next c = omega (arith, c.requires.5)
 
 pub pair_of-requires : goal.pair_of-requires
 pair_of-requires c = c.requires.0
@@ -31,12 +31,6 @@ overflow_add-next-in-loop-k c = omega (arith, c.requires.5, c.loop-k.invariant.w
 
 pub put_slots-requires : goal.put_slots-requires
 put_slots-requires c = (c.requires.0, c.requires.1, c.requires.2, c.requires.3, c.requires.4, omega arith, omega (arith, c.requires.5, c.loop-k.invariant.wide))
-
-pub overflow_add-k : goal.overflow_add-k
-overflow_add-k c = omega (arith, c.requires.1)
-
-pub loop-k-smaller : goal.loop-k-smaller
-loop-k-smaller c = omega arith
 
 pub loop-k-preserved : goal.loop-k-preserved
 loop-k-preserved c =

@@ -1,11 +1,9 @@
-use mathlib.Core.Path.{ap}
 use native.Mathlib.Omega.{arith}
+use Rattle.std.proofs.Common.{rules}
 use lib.ListN.{get_or}
 use Rattle.moves.specs.Slots.{state}
 use Rattle.moves.specs.Table.{look_up}
 use Rattle.relocate.specs.Code.{record_of, pool_of, pointers_by}
-use Rattle.explain_numbers.specs.declared.Told.{Told}
-use Rattle.explain_numbers.specs.Numbers.{numbers_of}
 use Rattle.explain_rows.specs.Written.{slot_by}
 use Rattle.explain_rows.proofs.Writing.{slot-length, slots-null, slots-live, put_both, put_nulls}
 use Rattle.explain_rows.proofs.put_slots.Goals as goal
@@ -13,9 +11,7 @@ use Rattle.explain_rows.proofs.put_slots.Goals as goal
 pub returns-then-live-k-eq0 : goal.returns-then-live-k-eq0
 returns-then-live-k-eq0 c =
     let a = c.args in
-    put_nulls _ _ _ _ c.plain.result c.plain-then-live-k-eq0.result
-    (ap (λ (t : Told). numbers_of t) c.plain.ensures) (ap (λ (t : Told). numbers_of t) c.plain-then-live-k-eq0.ensures)
-    c.put_slot.ensures c.put_slot-then-live-k-eq0.ensures _
+    put_nulls a.rows.now _ a.to _ _ (c.fill.ensures.after (λ y e. search rules)) (omega arith) (omega arith) (omega arith) _
     (slots-null (state a.window.now a.registers.now) a.live.now a.bases.now a.derived.now (look_up a.olds.now a.news.now) a.pointers
     (pointers_by a.old (pool_of a.s.now) a.frame (record_of a.s.now a.at)) a.frame.sp a.k c.if-live-k-eq0.true)
 

@@ -10,5 +10,5 @@ returns c =
     put_slot_told c.args.rows.now _
     c.args.to _ _ _ _ _ _ _ _ _ c.put_slot.ensures
     c.sort.ensures c.place.ensures c.read-content.ensures
-    c.numbers.ensures
+    c.into.ensures
     (c.of_number-why.ensures c.args.frame)

@@ -1,12 +1,8 @@
-use Prim.Native.Nat.{◌-◌, ◌≤◌}
-use Rattle.relocate.specs.Relocation.{extent_of}
-use Rattle.thread.specs.Thread.{stopped_at}
+use Prim.Native.Nat.{ℕ, ◌≤◌}
 use Rattle.thread_stretches.specs.Listed.{Listed}
-use Rattle.thread.specs.Thread.{thread_of}
+use Rattle.thread_extents.specs.Extents.{GivesExtents}
 use Rattle.thread_extents.proofs.all_apart.Given as goal
 
 abbrev pub invariant-loop-k : goal.invariant-loop-k
-invariant-loop-k l = Listed (λ j. (extent_of l.s (stopped_at (thread_of l.machine l.frames l.registers) j)).start) (λ j. (extent_of l.s (stopped_at (thread_of l.machine l.frames l.registers) j)).end) l.k l.kept l.pairs l.ends × (l.k ≤ l.count) × (l.kept ≤ l.k)
-
-abbrev pub decreases-loop-k : goal.decreases-loop-k
-decreases-loop-k l = l.count - l.k
+invariant-loop-k g l =
+    ((from to : ℕ → ℕ) → GivesExtents (goal.F-post g l.extent) from to l.count → Listed from to l.k l.kept l.pairs l.ends) × (l.kept ≤ l.k)

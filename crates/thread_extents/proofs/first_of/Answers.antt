@@ -1,77 +1,46 @@
-use mathlib.Core.Path.{sym, ◌∙◌}
+use mathlib.Core.Path.{◌≡◌, sym, ◌∙◌}
 use native.Mathlib.Omega.{arith}
+use Rattle.thread.proofs.StretchesApart.{apart_none}
 use Rattle.thread_extents.proofs.Earlier.{keeping_start, keeping_stop, keeping_empty, keeping_kept, keeping_end}
-use Rattle.relocate.specs.Relocation.{extent_of}
-use Rattle.thread.specs.Thread.{thread_of}
 use Rattle.thread_extents.proofs.first_of.Goals as goal
+use Rattle.thread_extents.proofs.first_of.Goals.{then-start-end, else-start-end}
 
 pub loop-k-init : goal.loop-k-init
-loop-k-init c =
-    let a = c.args in
-    keeping_start (extent_of a.s.now) (thread_of a.machine a.frames.now a.registers.now) a.count _ _
-
-pub extent-x-requires : goal.extent-x-requires
-extent-x-requires c = (c.requires.0, c.requires.1, c.requires.2, c.loop-k-test.true)
-
-pub shares-requires : goal.shares-requires
-shares-requires c = (
-  c.loop-k.invariant.in_order,
-  omega (
-    arith,
-    c.loop-k.invariant.fewer,
-    c.loop-k.invariant.most,
-    c.requires.0.most,
-  ),
-)
+loop-k-init g c = (apart_none _ _, omega arith, λ e t p. keeping_start e t c.args.count _ _)
 
 pub returns-then-shares : goal.returns-then-shares
-returns-then-shares c =
-    let a = c.args in (
-      omega (arith, c.loop-k.invariant.most),
-      keeping_stop (extent_of a.s.now) (thread_of a.machine a.frames.now a.registers.now) a.count
-          c.loop-k.invariant c.loop-k-test.true
-          c.extent-x.result.start c.extent-x.result.end
-          c.extent-x.ensures.0 c.extent-x.ensures.1
-          (sym c.shares.ensures ∙ c.if-shares.true),
+returns-then-shares g c =
+    let i = c.loop-k.invariant in
+    let x = c.extent-start in (
+      omega arith,
+      λ e t p.
+          let is = p.each _ _ c.loop-k-test.true x.ensures in
+          keeping_stop e t c.args.count (i.2 e t p) c.loop-k-test.true x.result.start x.result.end is.0 is.1 (sym c.shares.ensures ∙ c.if-shares.true),
     )
-
-pub keep-requires : goal.keep-requires
-keep-requires c =
-    let a = c.args in (
-      c.loop-k.invariant.in_order,
-      omega (arith, c.loop-k.invariant.fewer, c.requires.0.most),
-      c.if-start-end.true,
-      sym c.shares.ensures ∙ c.if-shares.false,
-    )
-
-pub overflow_add-kept : goal.overflow_add-kept
-overflow_add-kept c =
-    let a = c.args in
-    omega (arith, c.loop-k.invariant.fewer, c.loop-k.invariant.most, c.requires.0.most)
-
-pub overflow_add-k : goal.overflow_add-k
-overflow_add-k c =
-    let a = c.args in
-    omega (arith, c.loop-k.invariant.most, c.requires.0.most)
 
 pub loop-k-preserved : goal.loop-k-preserved
-loop-k-preserved c =
-    let a = c.args in
+loop-k-preserved g c =
+    let i = c.loop-k.invariant in
+    let x = c.extent-start in
     let no = sym c.shares.ensures ∙ c.if-shares.false in
     elim c.if-start-end.branch [
-      | goal.then-start-end w ↦ rw (w.starts-is, w.ends-is, w.kept-is) (keeping_kept (extent_of a.s.now) (thread_of a.machine a.frames.now a.registers.now) a.count
-          c.loop-k.invariant c.loop-k-test.true
-          c.extent-x.result.start c.extent-x.result.end
-          c.extent-x.ensures.0 c.extent-x.ensures.1 _ _ no
-          w.keep.ensures.0 w.keep.ensures.1)
-      | goal.else-start-end w ↦ rw (w.starts-is, w.ends-is, w.kept-is) (keeping_empty (extent_of a.s.now) (thread_of a.machine a.frames.now a.registers.now) a.count
-          c.loop-k.invariant c.loop-k-test.true
-          c.extent-x.result.start c.extent-x.result.end
-          c.extent-x.ensures.0 c.extent-x.ensures.1 no
-          w.if-start-end.false)
+      | then-start-end w ↦ rw (w.starts-is, w.ends-is, w.kept-is) (
+        w.keep.ensures.0,
+        omega (arith, i.1),
+        λ e t p.
+            let is = p.each _ _ c.loop-k-test.true x.ensures in
+            keeping_kept e t c.args.count (i.2 e t p) c.loop-k-test.true x.result.start x.result.end is.0 is.1 _ _ no w.keep.ensures.0 w.keep.ensures.1,
+      )
+      | else-start-end w ↦ rw (w.starts-is, w.ends-is, w.kept-is) (
+        i.0,
+        omega (arith, i.1),
+        λ e t p.
+            let is = p.each _ _ c.loop-k-test.true x.ensures in
+            keeping_empty e t c.args.count (i.2 e t p) c.loop-k-test.true x.result.start x.result.end is.0 is.1 no w.if-start-end.false,
+      )
     ]
 
 pub returns : goal.returns
-returns c =
-    let a = c.args in
-    (omega (arith, c.loop-k.invariant.most), keeping_end (extent_of a.s.now) (thread_of a.machine a.frames.now a.registers.now) a.count c.loop-k.invariant c.loop-k-test.false)
+returns g c =
+    let z : c.loop-k.k ≡ c.args.count = omega arith in
+    (omega arith, λ e t p. rw z at (keeping_end e t c.args.count (c.loop-k.invariant.2 e t p) (omega arith)))

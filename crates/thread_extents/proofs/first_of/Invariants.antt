@@ -1,11 +1,13 @@
-use Prim.Native.Nat.{◌-◌}
+use Prim.Native.Nat.{◌≤◌}
+use Rattle.relocate.specs.Stopped.{Stopped}
+use Rattle.relocate.specs.Relocation.{Extent}
+use Rattle.thread.specs.Thread.{Thread}
+use Rattle.thread.specs.Code.{Apart}
+use Rattle.thread_extents.specs.Extents.{GivesFrames}
 use Rattle.thread_extents.proofs.Earlier.{Keeping}
-use Rattle.relocate.specs.Relocation.{extent_of}
-use Rattle.thread.specs.Thread.{thread_of}
 use Rattle.thread_extents.proofs.first_of.Given as goal
 
 abbrev pub invariant-loop-k : goal.invariant-loop-k
-invariant-loop-k l = Keeping (extent_of l.s) (thread_of l.machine l.frames l.registers) l.count l.k l.kept l.starts l.ends
-
-abbrev pub decreases-loop-k : goal.decreases-loop-k
-decreases-loop-k l = l.count - l.k
+invariant-loop-k g l =
+    Apart l.starts l.ends l.kept × (l.kept ≤ l.k)
+    × ((e : Stopped → Extent) (t : Thread) → GivesFrames (goal.F-post g l.extent) e t l.count → Keeping e t l.count l.k l.kept l.starts l.ends)

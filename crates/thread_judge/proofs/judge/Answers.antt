@@ -17,15 +17,15 @@ pub of_section-requires : goal.of_section-requires
 of_section-requires c =
     let a = c.args in
     let R = restore a.s.now a.olds.now a.news.now a.first a.settings in
-    (c.requires.0, c.requires.1, allowed-is R a.machine _ _ c.is_old.ensures c.allowed.ensures ∙ c.if-allowed.true, c.requires.2)
-
-pub returns-then-allowed : goal.returns-then-allowed
-returns-then-allowed c = c.of_section.ensures
+    (c.requires.0, c.requires.1, allowed-is R a.machine _ _ c.is_old.ensures c.allowed.ensures ∙ c.if-not-allowed.false, c.requires.2)
 
 pub returns : goal.returns
-returns c =
+returns c = c.of_section.ensures
+
+pub returns-then-not-allowed : goal.returns-then-not-allowed
+returns-then-not-allowed c =
     let a = c.args in
     let R = restore a.s.now a.olds.now a.news.now a.first a.settings in
     let th = thread_of a.machine a.list.now a.registers.now in
     c.refused.ensures
-    ∙ (thread_33 R a.image.now th c.requires.0.section_right (allowed-is R a.machine _ _ c.is_old.ensures c.allowed.ensures ∙ c.if-allowed.false)).answer_is
+    ∙ (thread_33 R a.image.now th c.requires.0.section_right (allowed-is R a.machine _ _ c.is_old.ensures c.allowed.ensures ∙ c.if-not-allowed.true)).answer_is

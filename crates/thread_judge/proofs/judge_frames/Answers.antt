@@ -17,7 +17,7 @@ loop-k-init c =
     judging_start R a.image.now th a.count (accepted_move (pointers_in R a.image.now (frames_from th a.count 0)))
 
 pub judge_frame-outline-requires : goal.judge_frame-outline-requires
-judge_frame-outline-requires c = (c.requires, c.loop-k-test.true)
+judge_frame-outline-requires c = (c.requires, (omega arith))
 
 pub returns-then-outline-ne0 : goal.returns-then-outline-ne0
 returns-then-outline-ne0 c =
@@ -29,7 +29,7 @@ returns-then-outline-ne0 c =
     let m = answer R a.image.now (stopped_at th c.loop-k.k) in
     c.refused.ensures ∙ ap (λ (n : ℕ). refused_move n c.loop-k.k) (sym no.0)
     ∙ judging_stop R a.image.now th a.count (accepted_move (pointers_in R a.image.now (frames_from th a.count 0))) c.loop-k.invariant
-    c.loop-k-test.true m refl (λ z. c.if-outline-ne0.true (sym no.0 ∙ z))
+    (omega arith) m refl (λ z. c.if-outline-ne0.true (sym no.0 ∙ z))
 
 pub overflow_add-sum : goal.overflow_add-sum
 overflow_add-sum c =
@@ -41,12 +41,6 @@ overflow_add-sum c =
       c.requires.looked.most,
     )
 
-pub overflow_add-k : goal.overflow_add-k
-overflow_add-k c = omega (arith, c.loop-k.invariant.most, c.requires.looked.most)
-
-pub loop-k-smaller : goal.loop-k-smaller
-loop-k-smaller c = omega arith
-
 pub loop-k-preserved : goal.loop-k-preserved
 loop-k-preserved c =
     let a = c.args in
@@ -57,7 +51,7 @@ loop-k-preserved c =
     let m = answer R a.image.now (stopped_at th l.k) in
     let is = (j.ensures.held c.if-outline-ne0.false).answer_is in
     let n : m.count ≡ j.result.pointers = ap (λ (x : Move). x.count) is in
-    rw (← n) (judging_on R a.image.now th a.count (accepted_move (pointers_in R a.image.now (frames_from th a.count 0))) l.invariant c.loop-k-test.true m refl
+    rw (← n) (judging_on R a.image.now th a.count (accepted_move (pointers_in R a.image.now (frames_from th a.count 0))) l.invariant (omega arith) m refl
     c.requires.most_right (ap (λ (x : Move). x.number) is))
 
 pub returns : goal.returns
@@ -65,5 +59,5 @@ returns c =
     let a = c.args in
     let R = restore a.s.now a.olds.now a.news.now a.first a.settings in
     let th = thread_of a.machine a.frames.now a.registers.now in
-    let e = judging_end R a.image.now th a.count (accepted_move (pointers_in R a.image.now (frames_from th a.count 0))) c.loop-k.invariant c.loop-k-test.false in
+    let e = judging_end R a.image.now th a.count (accepted_move (pointers_in R a.image.now (frames_from th a.count 0))) c.loop-k.invariant (omega arith) in
     ap (λ (n : ℕ). accepted_move n) (sym e.1) ∙ sym e.0

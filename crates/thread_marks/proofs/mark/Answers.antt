@@ -14,14 +14,14 @@ overflow_add-key c =
     let a = c.args in
     let f = c.requires.3 in
     let h = here-address a.s.now a.index a.function a.at in
-    omega (arith, f, h, c.requires.0, c.u32_at-offset.ensures)
+    omega (arith, f, h, c.requires.0, c.u32_at-offset.ensures, c.from.ensures)
 
 pub returns-then-key-gap : goal.returns-then-key-gap
 returns-then-key-gap c =
     let a = c.args in
     let e = entry_from a.base (entry_at a.s.now a.index a.function a.at) in
-    let x : address e ≡ a.start + c.u32_at-offset.result =
-    address-from a.base _ ∙ here-address a.s.now a.index a.function a.at ∙ rw (c.requires.0, c.u32_at-offset.ensures) in
+    let x : address e ≡ a.start + c.from.result =
+    address-from a.base _ ∙ here-address a.s.now a.index a.function a.at ∙ rw (c.requires.0, c.from.ensures, c.u32_at-offset.ensures) in
     (unlooked a.keys.now a.count e _ (between_none (address e) c.requires.7 (omega arith) (omega arith)), grown-none _ _, c.requires.7)
 
 pub note_at-requires : goal.note_at-requires
@@ -32,5 +32,5 @@ returns c =
     let a = c.args in
     let e = entry_from a.base (entry_at a.s.now a.index a.function a.at) in
     let u = c.u32_at-offset in
-    let x : address e ≡ a.start + u.result = address-from a.base _ ∙ here-address a.s.now a.index a.function a.at ∙ rw (c.requires.0, u.ensures) in
+    let x : address e ≡ a.start + c.from.result = address-from a.base _ ∙ here-address a.s.now a.index a.function a.at ∙ rw (c.requires.0, c.from.ensures, u.ensures) in
     (c.note_at.ensures.0 e refl (owner-is a.s.now a.index a.function a.at) refl x, c.note_at.ensures.1, c.around.ensures)

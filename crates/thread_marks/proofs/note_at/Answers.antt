@@ -4,9 +4,7 @@ use Rattle.stackmap.specs.Section.{address}
 use Rattle.sorted.specs.Sorted.{LowerBound}
 use Rattle.thread_marks.proofs.Marks.{marked, unmarked, hit_stored, grown-none, grown_stored}
 use Rattle.thread_marks.proofs.note_at.Goals as goal
-
-pub hit-after-requires : goal.hit-after-requires
-hit-after-requires c = rw c.hits_at-before.ensures (c.requires.1.most _)
+use Rattle.thread_marks.proofs.note_at.Goals.{else-i-count-via-then-i-count+else-keys-i, else-i-count-via-else-i-count}
 
 pub returns-then-keys-i : goal.returns-then-keys-i
 returns-then-keys-i c =
@@ -20,20 +18,15 @@ returns-then-keys-i c =
       grown_stored _ _ _ _ _ b c.store.ensures h.1,
     )
 
-pub returns-else-keys-i : goal.returns-else-keys-i
-returns-else-keys-i c =
-    let a = c.args in (
-      (λ e n o p x.
-          let l : LowerBound a.keys.now a.count (address e) a.i = rw x c.requires.2 in
-          unmarked a.keys.now a.count e _ l _ (λ m q. c.if-keys-i.false (q ∙ x))),
-      grown-none _ _,
-    )
-
 pub returns-else-i-count : goal.returns-else-i-count
 returns-else-i-count c =
     let a = c.args in (
       (λ e n o p x.
           let l : LowerBound a.keys.now a.count (address e) a.i = rw x c.requires.2 in
-          unmarked a.keys.now a.count e _ l _ (λ m q. omega (arith, c.if-i-count.false))),
+          unmarked a.keys.now a.count e _ l _
+          (λ m q. elim c.else-i-count.branch [
+            | else-i-count-via-then-i-count+else-keys-i w ↦ w.if-keys-i.false (q ∙ x)
+            | else-i-count-via-else-i-count w ↦ omega arith
+          ])),
       grown-none _ _,
     )
