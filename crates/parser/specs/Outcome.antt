@@ -1,6 +1,8 @@
 -- For the code alone: nothing here has to be believed.
--- What a listing comes to, for each case of an outcome.
-use Rattle.std.specs.Prelude.{ℕ, ◌+◌, ◌*◌, ◌≤◌, ◌≡◌, Bool, List, length}
+-- What a listing comes to: refused, or the section that is to be built of it.
+use Rattle.std.specs.Prelude.{ℕ, ◌+◌, ◌*◌, ◌≤◌, ◌≡◌, Bool, List, length, Result, Ok, Err}
+use Rattle.refusals.specs.declared.Refusal.{Refusal}
+use Rattle.refusals.specs.Refusal.{number_of_cause}
 use Rattle.stackmap.specs.Verdict.{Verdict}
 use Rattle.stackmap.specs.Verdict as verdict
 use Rattle.stackmap.specs.Layout.{header_size, function_size, constant_size}
@@ -8,8 +10,7 @@ use Rattle.stackmap.specs.Verdict.{chain}
 use Rattle.stackmap.specs.Fault.{section_fault}
 use Rattle.listing.specs.Layout.{listing_most}
 use Rattle.listing.specs.Listing.{listed_old, items_of, listing_check, read_listing}
-use Rattle.parser.specs.declared.Outcome.{Outcome}
-use Rattle.parser.specs.declared.Outcome.TheVariants.{Refused, Section}
+use Rattle.parser.specs.declared.SectionPlan.{SectionPlan}
 use Rattle.parser_items.specs.Survey.{records_after, Planned}
 use Rattle.parser_items.specs.Draft.{Ready}
 
@@ -30,6 +31,6 @@ pub record Buildable (l : List ℕ) (old : Bool) (functions constants records by
   pub short : length l ≤ listing_most
   pub sized : size ≡ section_end old functions constants bytes
 
-abbrev pub Parsed : List ℕ → Outcome → Type 0
-Parsed l (Refused n p) = refusal l ≡ verdict.Refused n p
-Parsed l (Section plan size) = Buildable l plan.old plan.functions plan.constants plan.records plan.bytes size
+abbrev pub Parsed : List ℕ → Result SectionPlan Refusal → Type 0
+Parsed l (Err r) = refusal l ≡ verdict.Refused (number_of_cause r.0) r.1
+Parsed l (Ok s) = Buildable l s.plan.old s.plan.functions s.plan.constants s.plan.records s.plan.bytes s.size

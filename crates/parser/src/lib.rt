@@ -6,33 +6,28 @@
 ghost use Rattle.parser.specs.Outcome.{Parsed};
 
 use listing::numbers;
-use parser_draft::Draft;
 use parser_items::{Plan, version};
-use stackmap::Verdict;
+use refusals::{Cause, Refusal};
 
-// What the listing comes to.
+// What there is to write, and the length of the section.
 #[derive(Clone, Copy)]
-pub enum Outcome {
-    // The number of a refusal, and its place.
-    Refused(u8, usize),
-    // What there is to write, and the length of the section.
-    Section(Plan, usize),
+pub struct SectionPlan {
+    pub plan: Plan,
+    pub size: usize,
 }
 
 // The refusals of the listing, and then of the section that it is to become.
-pub fn parse(l: &[u8]) -> Outcome
+pub fn parse(l: &[u8]) -> Result<SectionPlan, Refusal>
     ensures { Parsed l.now result }
 {
     if l.len() > numbers::LISTING_MOST {
-        return Outcome::Refused(1, 0);
+        return Err(Refusal(Cause::WrongLength, 0));
     }
     let old = version::listed_old(l);
     let start = listing::version_length(old);
-    match parser_draft::items(&l[start..], old) {
-        Draft::Refused(n, p) => Outcome::Refused(n, start + p),
-        Draft::Whole(plan) => match parser_walk::section(&l[start..], plan) {
-            Verdict::Refused(n, p) => Outcome::Refused(n, p),
-            Verdict::Valid(size) => Outcome::Section(plan, size),
-        },
-    }
+    let items = &l[start..];
+    let drafted = parser_draft::items(items, old);
+    let plan = drafted.map_err(|Refusal(cause, place)| Refusal(cause, start + place))?;
+    let size = parser_walk::section(items, plan)?;
+    Ok(SectionPlan { plan, size })
 }

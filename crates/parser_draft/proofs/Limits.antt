@@ -1,5 +1,5 @@
 -- Refusal 28, item by item.
-use Prim.Native.Nat.{ℕ, ◌+◌, ◌-◌, ◌<◌}
+use Prim.Native.Nat.{ℕ, ◌+◌, ◌*◌, ◌-◌, ◌<◌}
 use mathlib.Core.Path.{◌≡◌, refl}
 use mathlib.Core.Bool.{true}
 use mathlib.Core.List.{List, [], ◌∷◌}
@@ -27,6 +27,24 @@ pub sizes_step : (n : ℕ) (l : List ℕ) (at : ℕ) → 0 < n
     → small_sizes (many listed_location 10 n l at) at ≡ must (leb (word 2 l (at + 2)) 255) 28 at (small_sizes (many listed_location 10 (n - 1) l (at + 10)) (at + 10))
 unfolding small_sizes listed_location
 sizes_step n l at h = rw (many_step listed_location 10 n l at h)
+
+-- The same for a loop that counts up: turn number i of n.
+
+pub counts_turn : (n i : ℕ) (l : List ℕ) → i < n
+    → no_counts (many listed_function 25 (n - i) l (25 * i)) (25 * i)
+    ≡ must (eqb (word 8 l (25 * i + 17)) 0) 28 (25 * i) (no_counts (many listed_function 25 (n - (i + 1)) l (25 * (i + 1))) (25 * (i + 1)))
+counts_turn n i l h =
+    let fewer : n - i - 1 ≡ n - (i + 1) = omega arith in
+    let next : 25 * i + 25 ≡ 25 * (i + 1) = omega arith in
+    rw (counts_step (n - i) l (25 * i) (omega arith), fewer, next)
+
+pub sizes_turn : (n i : ℕ) (l : List ℕ) (at : ℕ) → i < n
+    → small_sizes (many listed_location 10 (n - i) l (at + 10 * i)) (at + 10 * i)
+    ≡ must (leb (word 2 l (at + 10 * i + 2)) 255) 28 (at + 10 * i) (small_sizes (many listed_location 10 (n - (i + 1)) l (at + 10 * (i + 1))) (at + 10 * (i + 1)))
+sizes_turn n i l at h =
+    let fewer : n - i - 1 ≡ n - (i + 1) = omega arith in
+    let next : at + 10 * i + 10 ≡ at + 10 * (i + 1) = omega arith in
+    rw (sizes_step (n - i) l (at + 10 * i) (omega arith), fewer, next)
 
 -- the record that stands here, and then the rest
 pub sizes_here : {l : List ℕ} {at n m stop : ℕ} → RecordCounted l at n m stop → stands record_kind record_item_size l at ≡ true

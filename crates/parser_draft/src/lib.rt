@@ -8,43 +8,30 @@ ghost use Rattle.parser_draft.specs.Drafted.{Drafted};
 
 use listing::numbers;
 use parser_items::{Plan, count};
-use stackmap::Verdict;
+use refusals::Refusal;
 
 mod grammar;
 mod narrow;
 
-#[derive(Clone, Copy)]
-pub enum Draft {
-    // The number of a refusal, and its place among the items.
-    Refused(u8, usize),
-    // What there is to write.
-    Whole(Plan),
-}
-
-// The items of a listing, of version 1 where `old` is true.
-pub fn items(l: &[u8], old: bool) -> Draft
+// The items of a listing, of version 1 where `old` is true: what there is to write, or the refusal, at its place among the items.
+pub fn items(l: &[u8], old: bool) -> Result<Plan, Refusal>
     requires { length l.now ≤ listing_most }
     ensures { Drafted l.now old result }
 {
-    let tables = count::listed_tables(l);
-    let functions = tables.functions;
-    let constants = tables.constants;
+    let count::Tables {
+        functions,
+        constants,
+    } = count::listed_tables(l);
     let from = numbers::FUNCTION_ITEM_SIZE * functions + numbers::CONSTANT_ITEM_SIZE * constants;
     let survey = count::survey_records(l, old, from);
-    let records = survey.records;
-    let bytes = survey.size;
-    if let Verdict::Refused(n, p) = grammar::items(l, from, survey) {
-        return Draft::Refused(n, p);
-    }
+    grammar::items(l, from, survey)?;
     let plan = Plan {
         old,
         functions,
         constants,
-        records,
-        bytes,
+        records: survey.records,
+        bytes: survey.size,
     };
-    if let Verdict::Refused(n, p) = narrow::items(l, plan, from) {
-        return Draft::Refused(n, p);
-    }
-    Draft::Whole(plan)
+    narrow::items(l, plan, from)?;
+    Ok(plan)
 }

@@ -1,5 +1,5 @@
 -- The refusals of a listing's items, as the section that is built of them would get them.
-use Prim.Native.Nat.{ℕ, ◌+◌, ◌-◌, ◌≤◌, ◌<◌, ◌^◌}
+use Prim.Native.Nat.{ℕ, ◌+◌, ◌*◌, ◌-◌, ◌≤◌, ◌<◌, ◌^◌}
 use mathlib.Core.Path.{◌≡◌, refl, sym, ap}
 use mathlib.Core.List.{List, [], ◌∷◌}
 use mathlib.Core.Bool.{Bool, true, false, true≢false}
@@ -18,7 +18,7 @@ use Rattle.stackmap.specs.Section.{Location, record_fields, Entry, address}
 use Rattle.stackmap.specs.Record.{pool_check, address_right}
 use Rattle.stackmap.proofs.Addresses.{address-fits, same_test}
 use Rattle.stackmap.specs.Fault.{location_fault, locations_fault, entry_fault}
-use Rattle.stackmap.proofs.Steps.{many_step}
+use Rattle.stackmap.proofs.Steps.{many_step, next_place}
 use Rattle.stackmap.proofs.Items.{byte_word}
 use Rattle.listing.specs.Listing.{listed_location, listed_record}
 use Rattle.parser_items.specs.Count.{RecordCounted}
@@ -67,6 +67,15 @@ pub locations_step : (old : Bool) (c n : ℕ) (l : List ℕ) (at p : ℕ) → 0 
     ≡ chain (location_fault old c (listed_location l at) p) (locations_fault old c (many listed_location 10 (n - 1) l (at + 10)) (p + location_size old))
 unfolding locations_fault
 locations_step old c n l at p h = rw (many_step listed_location 10 n l at h)
+
+-- the same for a loop that counts up: item number i of n
+pub locations_turn : (old : Bool) (c n i : ℕ) (l : List ℕ) (at p : ℕ) → i < n
+    → locations_fault old c (many listed_location 10 (n - i) l (at + 10 * i)) (p + location_size old * i)
+    ≡ chain (location_fault old c (listed_location l (at + 10 * i)) (p + location_size old * i))
+    (locations_fault old c (many listed_location 10 (n - (i + 1)) l (at + 10 * (i + 1))) (p + location_size old * (i + 1)))
+locations_turn old c n i l at p h =
+    let fewer : n - i - 1 ≡ n - (i + 1) = omega arith in
+    rw (locations_step old c (n - i) l (at + 10 * i) (p + location_size old * i) (omega arith), fewer, next_place 10 at i, next_place (location_size old) p i)
 
 -- a location's refusal, by the bytes of its item
 pub location_listed : (old : Bool) (c : ℕ) (l : List ℕ) (at p : ℕ)

@@ -3,6 +3,7 @@
 #![tactic(auto)]
 
 ghost use Rattle.std.specs.Prelude.{◌≡◌, false, ◌*◌, ◌≤◌, ◌<◌, length, eqb};
+ghost use Rattle.stackmap.specs.Verdict.{verdict};
 ghost use Rattle.stackmap.specs.Section.{record_owners, counted, entries_from};
 ghost use Rattle.stackmap.specs.Check.{counts_right};
 ghost use Rattle.stackmap.specs.Fault.{entries_fault, section_fault};
@@ -13,24 +14,24 @@ ghost use Rattle.parser_fault.specs.Walk.{ahead, Turning, Starting, Walkable};
 
 use listing::numbers;
 use parser_items::{Plan, shape};
-use stackmap::{Verdict, layout};
+use refusals::{Cause, Refusal};
+use stackmap::layout;
 
 // Whether the record counts of the first `functions` functions add up to `total`, exactly.
 fn counts_add_up(l: &[u8], functions: usize, total: usize) -> bool
     requires { function_item_size * functions ≤ length l.now }
     ensures { result ≡ eqb (counted (functions_of l.now functions)) total }
 {
-    let mut f: usize = 0;
-    let mut left = functions;
     let mut rest = total as u64;
-    while left > 0 {
-        let count = wire::u64_at(l, f + numbers::LISTED_RECORD_COUNT_AT);
+    for i in 0..functions {
+        let count = wire::u64_at(
+            l,
+            numbers::FUNCTION_ITEM_SIZE * i + numbers::LISTED_RECORD_COUNT_AT,
+        );
         if count > rest {
             return false;
         }
         rest -= count;
-        f += numbers::FUNCTION_ITEM_SIZE;
-        left -= 1;
     }
     rest == 0
 }
@@ -40,10 +41,7 @@ fn counts_right(l: &[u8], plan: Plan) -> bool
     requires { function_item_size * plan.functions ≤ length l.now }
     ensures { result ≡ counts_right plan.old (functions_of l.now plan.functions) plan.records }
 {
-    if plan.old {
-        return true;
-    }
-    counts_add_up(l, plan.functions, plan.records)
+    plan.old || counts_add_up(l, plan.functions, plan.records)
 }
 
 // Which function owns the next record: the one before `next`, while `left` of its records are ahead.
@@ -55,20 +53,19 @@ struct Turn {
 
 // Passes over functions that have no record left, to the owner of the next record. In version 1 one is always left, and no
 // function is read.
-fn owner(l: &[u8], old: bool, functions: usize, turn: Turn) -> Turn
+fn owner(l: &[u8], old: bool, functions: usize, mut turn: Turn) -> Turn
     requires { (function_item_size * functions ≤ length l.now) × Turning old functions turn.next turn.left × (0 < length (ahead l.now old functions turn.next turn.left)) }
     ensures { (ahead l.now old functions result.next result.left ≡ ahead l.now old functions turn.next turn.left) × (0 < result.left) × (0 < result.next) × (old ≡ false → result.next ≤ functions) }
 {
-    let mut next = turn.next;
-    let mut left = turn.left;
-    while left == 0 {
-        left = wire::u64_at(
+    // Kept: a `for` over the functions would need an answer at its end, which is never reached.
+    while turn.left == 0 {
+        turn.left = wire::u64_at(
             l,
-            numbers::FUNCTION_ITEM_SIZE * next + numbers::LISTED_RECORD_COUNT_AT,
+            numbers::FUNCTION_ITEM_SIZE * turn.next + numbers::LISTED_RECORD_COUNT_AT,
         );
-        next += 1;
+        turn.next += 1;
     }
-    Turn { next, left }
+    turn
 }
 
 // The turn before the first record: the first function is next, or all records are nobody's.
@@ -85,39 +82,27 @@ fn start(plan: Plan) -> Turn
 }
 
 // The records from the item at `from` on; the first is to stand at `place`, and the section ends at `end`.
-fn records(l: &[u8], plan: Plan, from: usize, place: usize, end: usize) -> Verdict
+fn records(l: &[u8], plan: Plan, from: usize, place: usize, end: usize) -> Result<usize, Refusal>
     requires { Walkable l.now plan.old plan.functions from plan.records place end × (length l.now ≤ listing_most) }
-    ensures { result ≡ entries_fault plan.old plan.constants (entries_from plan.old 0 place (record_owners plan.old plan.records (functions_of l.now plan.functions)) (records_from l.now from)) end }
+    ensures { verdict result ≡ entries_fault plan.old plan.constants (entries_from plan.old 0 place (record_owners plan.old plan.records (functions_of l.now plan.functions)) (records_from l.now from)) end }
 {
     let mut turn = start(plan);
     let mut at = from;
     let mut to = place;
-    let mut remaining = plan.records;
-    while remaining > 0 {
-        let t = owner(l, plan.old, plan.functions, turn);
-        let next = t.next;
-        let left = t.left;
+    for _ in 0..plan.records {
+        turn = owner(l, plan.old, plan.functions, turn);
         let shape = shape::record_shape(l, at);
-        match parser_fault::entry(l, plan, at, shape, next - 1, to) {
-            Verdict::Refused(number, refused) => return Verdict::Refused(number, refused),
-            Verdict::Valid(stop) => {
-                to = stop;
-            }
-        }
+        to = parser_fault::entry(l, plan, at, shape, turn.next - 1, to)?;
         at = shape.stop;
-        turn = Turn {
-            next,
-            left: left - 1,
-        };
-        remaining -= 1;
+        turn.left -= 1;
     }
-    Verdict::Valid(to)
+    Ok(to)
 }
 
 // The refusal of the section that is to be built, or its length.
-pub fn section(l: &[u8], plan: Plan) -> Verdict
+pub fn section(l: &[u8], plan: Plan) -> Result<usize, Refusal>
     requires { Planned l.now plan.old plan.functions plan.constants plan.records plan.bytes × (length l.now ≤ listing_most) }
-    ensures { result ≡ section_fault (read_items l.now plan.old) }
+    ensures { verdict result ≡ section_fault (read_items l.now plan.old) }
 {
     let functions = plan.functions;
     let constants = plan.constants;
@@ -126,12 +111,11 @@ pub fn section(l: &[u8], plan: Plan) -> Verdict
         + layout::CONSTANT_SIZE * constants;
     let end = place + plan.bytes;
     if end > layout::SECTION_MOST {
-        return Verdict::Refused(1, 0);
+        return Err(Refusal(Cause::WrongLength, 0));
+    }
+    if !counts_right(l, plan) {
+        return Err(Refusal(Cause::WrongCounts, layout::NUM_RECORDS_AT));
     }
     let from = numbers::FUNCTION_ITEM_SIZE * functions + numbers::CONSTANT_ITEM_SIZE * constants;
-    if counts_right(l, plan) {
-        records(l, plan, from, place, end)
-    } else {
-        Verdict::Refused(5, layout::NUM_RECORDS_AT)
-    }
+    records(l, plan, from, place, end)
 }

@@ -1,24 +1,22 @@
-use Prim.Native.Nat.{◌-◌}
 use Rattle.stackmap.specs.Verdict.{chain}
+use Rattle.stackmap.proofs.Passed.{passed}
 use Rattle.parser_fault.proofs.Faults.{entry-over, entry-fits}
 use native.Mathlib.Omega.{arith}
 use Rattle.parser_fault.proofs.entry.Goals as goal
-
-pub owner_address-address-requires : goal.owner_address-address-requires
-owner_address-address-requires c = c.requires.1
 
 pub returns-then-offset-address : goal.returns-then-offset-address
 returns-then-offset-address c =
     let a = c.args in
     rw (entry-over a.plan.old a.function a.place a.plan.constants c.requires.0 (omega arith) (omega (arith, c.owner_address-address.type_inv)))
 
-pub returns-in-Refused : goal.returns-in-Refused
+pub returns-in_err-locations : goal.returns-in_err-locations
 unfolding chain
-returns-in-Refused c =
+returns-in_err-locations c =
     rw (
       entry-fits c.args.plan.old c.args.function c.args.place c.args.plan.constants c.requires.0 (omega (arith, c.owner_address-address.type_inv)),
       ← c.locations.ensures,
-      c.in-Refused.is,
+      c.in_err-locations.was,
+      passed _ _ c.from_residual.ensures.1,
     )
 
 pub returns : goal.returns
@@ -27,6 +25,6 @@ returns c =
     rw (
       entry-fits c.args.plan.old c.args.function c.args.place c.args.plan.constants c.requires.0 (omega (arith, c.owner_address-address.type_inv)),
       ← c.locations.ensures,
-      c.in_default.is,
+      c.in_ok-locations.was,
       c.record_size.ensures,
     )

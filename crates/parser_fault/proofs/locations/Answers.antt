@@ -1,40 +1,46 @@
+use native.Mathlib.Omega.{arith}
+use Prim.Native.Nat.{◌-◌}
 use mathlib.Core.Path.{◌≡◌}
 use Rattle.stackmap.specs.Layout.{location_size}
 use Rattle.stackmap.specs.Verdict.{chain}
 use Rattle.stackmap.specs.Fields.{many}
 use Rattle.stackmap.specs.Fault.{locations_fault}
-use Rattle.stackmap.proofs.Steps.{mul_step}
-use Rattle.parser_fault.proofs.Faults.{locations_step}
-use native.Mathlib.Omega.{arith}
+use Rattle.stackmap.proofs.Passed.{passed}
+use Rattle.stackmap.proofs.Steps.{item_inside}
+use Rattle.parser_fault.proofs.Faults.{locations_turn}
 use Rattle.parser_fault.proofs.locations.Goals as goal
 
 pub location-requires : goal.location-requires
-location-requires c = let h = mul_step (location_size c.args.old) c.loop-left.left (omega arith) in (omega arith, omega arith)
+location-requires c =
+    let h = item_inside (location_size c.args.old) c.args.n c.loop-i.i c.loop-i-test.true in
+    rw c.location_size-step.ensures.0 (omega arith, omega arith)
 
-pub returns-in-Refused : goal.returns-in-Refused
+pub returns-in_err-location : goal.returns-in_err-location
 unfolding chain
-returns-in-Refused c =
-    let l = c.loop-left in
-    rw (l.invariant.2, locations_step _ _ l.left _ _ _ (omega arith), ← c.location.ensures, c.in-Refused.is)
+returns-in_err-location c =
+    rw (
+      c.loop-i.invariant,
+      locations_turn _ _ _ _ _ _ _ c.loop-i-test.true,
+      ← c.location_size-step.ensures.0,
+      ← c.location.ensures,
+      c.in_err-location.was,
+      passed _ _ c.from_residual.ensures.1,
+    )
 
-pub overflow_add-q : goal.overflow_add-q
-overflow_add-q c =
-    let h = mul_step (location_size c.args.old) c.loop-left.left (omega arith) in
-    omega (arith, c.location_size-step.ensures.0)
-
-pub loop-left-preserved : goal.loop-left-preserved
+pub loop-i-preserved : goal.loop-i-preserved
 unfolding chain
-loop-left-preserved c =
-    let l = c.loop-left in
-    let s = c.location_size-step.ensures.0 in
-    let h = mul_step (location_size c.args.old) l.left (omega arith) in (
-      omega arith,
-      omega arith,
-      rw (l.invariant.2, locations_step _ _ l.left _ _ _ (omega arith), ← c.location.ensures, c.in_default.is, ← s),
+loop-i-preserved c =
+    rw (
+      c.loop-i.invariant,
+      locations_turn _ _ _ _ _ _ _ c.loop-i-test.true,
+      ← c.location_size-step.ensures.0,
+      ← c.location.ensures,
+      c.in_ok-location.was,
     )
 
 pub returns : goal.returns
 unfolding locations_fault many
 returns c =
-    let none : c.loop-left.left ≡ 0 = omega arith in
-    rw (c.loop-left.invariant.2, none)
+    let none : c.args.n - c.loop-i.i ≡ 0 = omega arith in
+    let all : c.loop-i.i ≡ c.args.n = omega arith in
+    rw (c.location_size-step.ensures.0, c.loop-i.invariant, none, all)

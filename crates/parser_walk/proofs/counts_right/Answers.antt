@@ -5,6 +5,6 @@ pub returns-then-plan : goal.returns-then-plan
 unfolding counts_right
 returns-then-plan c = rw c.if-plan.true
 
-pub returns : goal.returns
+pub returns-else-plan : goal.returns-else-plan
 unfolding counts_right
-returns c = rw c.if-plan.false c.counts_add_up.ensures
+returns-else-plan c = rw c.if-plan.false c.counts_add_up.ensures

@@ -4,9 +4,12 @@ use lib.ListN.{length}
 use Rattle.parser_fault.specs.Walk.{ahead, Turning}
 use Rattle.parser_walk.proofs.owner.Given as goal
 
-abbrev pub invariant-loop-left : goal.invariant-loop-left
-invariant-loop-left l = Turning l.old l.functions l.next l.left × (0 < length (ahead l.l l.old l.functions l.next l.left))
-    × (ahead l.l l.old l.functions l.next l.left ≡ ahead l.l l.old l.functions l.initial.next l.initial.left)
+-- The owners ahead are those of the beginning, and where none is left of the function that was passed last, there is a next one.
+abbrev pub invariant-loop-turn : goal.invariant-loop-turn
+invariant-loop-turn l =
+    Turning l.old l.functions l.turn.next l.turn.left × (0 < length (ahead l.l l.old l.functions l.turn.next l.turn.left))
+    × (ahead l.l l.old l.functions l.turn.next l.turn.left ≡ ahead l.l l.old l.functions l.initial.turn.next l.initial.turn.left)
+    × (l.turn.left ≡ 0 → l.turn.next < l.functions)
 
-abbrev pub decreases-loop-left : goal.decreases-loop-left
-decreases-loop-left l = l.functions - l.next
+abbrev pub decreases-loop-turn : goal.decreases-loop-turn
+decreases-loop-turn l = l.functions - l.turn.next

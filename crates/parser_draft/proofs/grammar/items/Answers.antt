@@ -1,22 +1,24 @@
 use Rattle.stackmap.specs.Verdict.{chain}
+use Rattle.stackmap.proofs.Passed.{passed}
 use Rattle.parser_draft.proofs.Ends.{items_crowded, items_whole}
 use Rattle.parser_draft.proofs.grammar.items.Goals as goal
 
-pub returns-in-Refused : goal.returns-in-Refused
+pub returns-in_err-end : goal.returns-in_err-end
 unfolding chain
-returns-in-Refused c =
+returns-in_err-end c =
     let s = c.requires in
-    let e = c.end.ensures in (
-      rw (items_crowded s.0 (rw c.if-survey.true at s.1), ← c.records_stop.ensures.0, ← e.0, c.in-Refused.is),
-      rw c.in-Refused.is at e.1,
+    let e = c.end.ensures in
+    rw (passed _ _ c.from_residual.ensures.1) (
+      rw (items_crowded s.0 (rw c.if-survey.true at s.1), ← c.records_stop.ensures.0, ← e.0, c.in_err-end.was),
+      rw c.in_err-end.was at e.1,
     )
 
-pub returns-in-Valid : goal.returns-in-Valid
+pub returns-then-survey : goal.returns-then-survey
 unfolding chain
-returns-in-Valid c =
+returns-then-survey c =
     let s = c.requires in
     let i = s.0.inside in
-    (rw (items_crowded s.0 (rw c.if-survey.true at s.1), ← c.records_stop.ensures.0, ← c.end.ensures.0, c.in-Valid.is), i)
+    (rw (items_crowded s.0 (rw c.if-survey.true at s.1), ← c.records_stop.ensures.0, ← c.end.ensures.0, c.in_ok-end.was), i)
 
 pub returns : goal.returns
 returns c =

@@ -1,26 +1,26 @@
+use borrow.Author.Tests.{eq-eqb, ne_eqb}
+use native.Mathlib.Omega.{arith}
+use Prim.Native.Nat.{◌-◌}
 use mathlib.Core.Path.{◌≡◌}
 use Rattle.stackmap.specs.Verdict.{must}
 use Rattle.stackmap.specs.Fields.{many}
-use Rattle.stackmap.proofs.Tests.{tests}
 use Rattle.listing.specs.Listing.{no_counts}
-use Rattle.parser_draft.proofs.Limits.{counts_step}
-use native.Mathlib.Omega.{arith}
+use Rattle.parser_draft.proofs.Limits.{counts_turn}
 use Rattle.parser_draft.proofs.narrow.counts.Goals as goal
 
 pub returns-then-u64_at-ne0 : goal.returns-then-u64_at-ne0
 unfolding must
 returns-then-u64_at-ne0 c =
-    let p = c.loop-left in
-    (rw (p.invariant.1, counts_step p.left _ _ (omega arith), ← c.u64_at.ensures) (search tests), omega arith)
+    (rw (c.loop-i.invariant, counts_turn _ _ _ c.loop-i-test.true, ← c.u64_at.ensures, ne_eqb _ _ c.if-u64_at-ne0.true), omega arith)
 
-pub loop-left-preserved : goal.loop-left-preserved
+pub loop-i-preserved : goal.loop-i-preserved
 unfolding must
-loop-left-preserved c =
-    let p = c.loop-left in
-    (omega arith, rw (p.invariant.1, counts_step p.left _ _ (omega arith), ← c.u64_at.ensures) (search tests))
+loop-i-preserved c =
+    rw (c.loop-i.invariant, counts_turn _ _ _ c.loop-i-test.true, ← c.u64_at.ensures, eq-eqb _ _ c.if-u64_at-ne0.false)
 
 pub returns : goal.returns
 unfolding no_counts many
 returns c =
-    let none : c.loop-left.left ≡ 0 = omega arith in
-    (rw (c.loop-left.invariant.1, none), tt)
+    let none : c.args.functions - c.loop-i.i ≡ 0 = omega arith in
+    let all : c.loop-i.i ≡ c.args.functions = omega arith in
+    (rw (c.loop-i.invariant, none, all), tt)
