@@ -8,7 +8,8 @@ ghost use Rattle.index.specs.Index.{index_of, fill_index};
 ghost use Rattle.index.specs.Answers.{Answers};
 
 use index::Written;
-use stackmap::{Verdict, layout};
+use refusals::Refusal;
+use stackmap::layout;
 use stackmap_tables::tables;
 
 // The refusals of filling an index, beside the section's own.
@@ -45,8 +46,8 @@ pub fn fill(section: &[u8], index: &mut [u64]) -> Written
     ensures { Answers result index.new (fill_index section.now index.old) }
 {
     match stackmap_check::check(section) {
-        Verdict::Refused(number, place) => refused(number, place),
-        Verdict::Valid(_) => {
+        Err(Refusal(cause, place)) => refused(cause.number(), place),
+        Ok(_) => {
             let old = tables::is_old(section);
             let records = wire::u32_at(section, layout::NUM_RECORDS_AT) as usize;
             let entries = 2 * records;

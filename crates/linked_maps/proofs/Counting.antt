@@ -1,5 +1,5 @@
 -- The walk that counts the maps: what is left tells what the whole tells.
-use Prim.Native.Nat.{ℕ, suc, ◌+◌, ◌*◌, ◌-◌, ◌≤◌, ◌<◌}
+use Prim.Native.Nat.{ℕ, suc, ◌+◌, ◌*◌, ◌≤◌, ◌<◌}
 use mathlib.Core.Path.{◌≡◌, refl, sym, ap, ◌∙◌}
 use mathlib.Core.List.{List}
 use native.Mathlib.Omega.{arith}
@@ -7,6 +7,9 @@ use native.Mathlib.Numerals.{add-one}
 use native.Mathlib.Decide.{ℕ_discrete}
 use lib.ListN.{length, get_or, drop, set, length-drop, length-set}
 use lib.Seq.{get_or-set_same, get_or-set_other}
+use Rattle.refusals.specs.declared.Cause.{Cause}
+use Rattle.refusals.specs.declared.Cause.TheVariants as cause
+use Rattle.refusals.specs.Refusal.{number_of_cause}
 use Rattle.stackmap.specs.Verdict.{Verdict}
 use Rattle.stackmap.specs.Verdict.{Valid, Refused}
 use Rattle.stackmap.specs.Verdict.{shift}
@@ -16,8 +19,13 @@ use Rattle.stackmap.proofs.Forth.{accepted-length}
 use Rattle.linked.specs.Linked.{Map, Cut, maps, refusal, before, cut}
 use Rattle.linked.proofs.Prefix.{prefix}
 use Rattle.linked.proofs.Cutting.{cut_rest, rest-start, rest-last, rest_more, rest_wrong}
-use Rattle.linked_maps.specs.declared.Counted.TheVariants as counts
+use Rattle.linked_maps.specs.Counted as counts
 use Rattle.linked_maps.specs.Walk.{told, end_at, start_of, Kept}
+
+-- 9 is the number of one cause alone
+pub other_cause : (c : Cause) → (c ≡ cause.BytesAfter → ⊥) → number_of_cause c ≡ 9 → ⊥
+other_cause cause.BytesAfter h e = h refl
+other_cause c h e = absurd (omega (arith, e))
 
 -- n maps are counted, the next begins at `at`
 pub record Counting (s ends : List ℕ) (at count : ℕ) : Type 0 where

@@ -8,7 +8,6 @@ use native.Mathlib.Numerals.{add-one}
 use borrow.Author.Tests.{le-leb, lt-leb}
 use lib.ListN.{length, get_or, take, drop, set, length-drop, length-set}
 use lib.Seq.{sets, sets-eq}
-use Rattle.stackmap.specs.Verdict.{Refused}
 use Rattle.stackmap.specs.Verdict.{shift}
 use Rattle.linked.specs.declared.Maps.{Maps}
 use Rattle.linked.specs.Linked.{Map, map_at, Cut, maps, refusal, cut, numbers_of, MapsListed, not_listed, list_maps, maps_of, ask_maps}
@@ -16,7 +15,7 @@ use Rattle.linked.specs.Answers.{Answers}
 use Rattle.linked.proofs.Prefix.{prefix}
 use Rattle.linked.proofs.Cutting.{Looked, last, more, wrong, looked, cut_rest, rest-start, rest-last, rest_more, rest_wrong}
 use Rattle.linked.proofs.Whole.{before-maps, none-there, maps-most}
-use Rattle.linked_maps.specs.declared.Counted.TheVariants as counts
+use Rattle.linked_maps.specs.Counted as counts
 use Rattle.linked_maps.specs.Walk.{told, maps_in, end_at, start_of, Kept}
 
 -- the next map of a walk, where those from `at` on are `all`

@@ -6,8 +6,8 @@ use Rattle.stackmap.specs.Verdict.{Valid, Refused}
 use Rattle.stackmap.specs.Verdict.{shift}
 use Rattle.stackmap.specs.Check.{section_check}
 use Rattle.linked.specs.Linked.{Map, Cut, maps, refusal}
-use Rattle.linked_maps.specs.declared.Counted.{Counted}
-use Rattle.linked_maps.specs.declared.Counted.TheVariants as counts
+use Rattle.linked_maps.specs.Counted.{Counted}
+use Rattle.linked_maps.specs.Counted as counts
 
 -- what there is to tell of a cut, where n maps are counted already
 unfoldable pub told : ℕ → Cut → Counted

@@ -3,39 +3,29 @@
 
 ghost use Rattle.std.specs.Prelude.{◌≡◌, ◌+◌, ◌*◌, ◌-◌, ◌≤◌, ◌<◌, length, drop, set};
 ghost use Rattle.std.proofs.lemmas.List.Edits.{sets};
-ghost use Rattle.stackmap.specs.Verdict.{shift};
+ghost use Rattle.stackmap.specs.Verdict.{verdict, shift};
 ghost use Rattle.stackmap.specs.Check.{section_check};
 ghost use Rattle.linked.specs.Linked.{cut, numbers_of, maps_of};
 ghost use Rattle.linked.specs.Answers.{Answers};
 ghost use Rattle.linked_maps.specs.Walk.{told, maps_in, end_at, start_of, Kept, KeptBy};
-ghost use Rattle.linked_maps.specs.declared.Counted.TheVariants.{Count};
+ghost use Rattle.linked_maps.specs.Counted.{Count, counted};
 
 use linked::Maps;
-use stackmap::Verdict;
-
-// The refusal of a section that has bytes after its last record: here the next map begins there.
-const NOT_AT_END: u8 = 9;
+use refusals::{Cause, Refusal};
 
 const TOO_SHORT: u8 = 24;
 
 // How many ends are kept. No map has fewer than 16 bytes, so that a section has at most 1,048,576: too many for the stack.
 const KEPT: usize = 1024;
 
-// How many maps there are, or the refusal's number and place.
-#[derive(Clone, Copy)]
-pub enum Counted {
-    Count(usize),
-    Refused(u8, usize),
-}
-
 // The check of what lies from `at` on, with places in the whole.
-fn look(s: &[u8], at: usize) -> Verdict
+fn look(s: &[u8], at: usize) -> Result<usize, Refusal>
     requires { at ≤ length s.now }
-    ensures { result ≡ shift at (section_check (drop at s.now)) }
+    ensures { verdict result ≡ shift at (section_check (drop at s.now)) }
 {
     match stackmap_check::check(&s[at..]) {
-        Verdict::Valid(end) => Verdict::Valid(at + end),
-        Verdict::Refused(number, place) => Verdict::Refused(number, at + place),
+        Ok(end) => Ok(at + end),
+        Err(Refusal(cause, place)) => Err(Refusal(cause, at + place)),
     }
 }
 
@@ -49,25 +39,27 @@ fn keep(ends: &mut [usize], i: usize, end: usize)
 }
 
 // How many maps there are, with the ends of the first ones kept: one check a map, and nothing written.
-fn count_maps(s: &[u8], ends: &mut [usize]) -> Counted
-    ensures { (result ≡ told 0 (cut s.now)) × KeptBy s.now ends.new result }
+fn count_maps(s: &[u8], ends: &mut [usize]) -> Result<usize, Refusal>
+    ensures { (counted result ≡ told 0 (cut s.now)) × KeptBy s.now ends.new (counted result) }
 {
     let mut at: usize = 0;
     let mut count: usize = 0;
+    // Kept: the loop ends by its returns alone, and how many maps there are is what it finds: a `for` would need an answer after it that never comes.
     loop {
         match look(s, at) {
-            Verdict::Valid(end) => {
+            Ok(end) => {
                 keep(ends, count, end);
-                return Counted::Count(count + 1);
+                return Ok(count + 1);
             }
-            Verdict::Refused(number, place) => {
-                if number != NOT_AT_END {
-                    return Counted::Refused(number, place);
+            Err(Refusal(cause, place)) => match cause {
+                // Bytes after the last record: here the next map begins there.
+                Cause::BytesAfter => {
+                    keep(ends, count, place);
+                    at = place;
+                    count += 1;
                 }
-                keep(ends, count, place);
-                at = place;
-                count += 1;
-            }
+                _ => return Err(Refusal(cause, place)),
+            },
         }
     }
 }
@@ -81,8 +73,8 @@ fn end_of(s: &[u8], ends: &[usize], i: usize, at: usize) -> usize
         return ends[i];
     }
     match look(s, at) {
-        Verdict::Valid(end) => end,
-        Verdict::Refused(_, place) => place,
+        Ok(end) => end,
+        Err(Refusal(_, place)) => place,
     }
 }
 
@@ -101,12 +93,10 @@ fn put_maps(s: &[u8], ends: &[usize], count: usize, out: &mut [u64])
     ensures { out.new ≡ sets out.old 0 (numbers_of (maps_in (cut s.now))) }
 {
     let mut at: usize = 0;
-    let mut i: usize = 0;
-    while i < count {
+    for i in 0..count {
         let end = end_of(s, ends, i, at);
         put_map(out, i, at, end);
         at = end;
-        i += 1;
     }
 }
 
@@ -129,8 +119,8 @@ pub fn maps(section: &[u8], out: &mut [u64]) -> Maps
 {
     let mut ends: [usize; KEPT] = [0; KEPT];
     match count_maps(section, &mut ends) {
-        Counted::Refused(number, place) => refused(number, place),
-        Counted::Count(count) => {
+        Err(Refusal(cause, place)) => refused(cause.number(), place),
+        Ok(count) => {
             let numbers = 2 * count;
             if out.len() < numbers {
                 return refused(TOO_SHORT, 0);

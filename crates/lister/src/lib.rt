@@ -12,7 +12,8 @@ ghost use Rattle.lister.specs.Shape.{SectionLayout};
 
 use lister_items::{items, runs};
 use listing::{Conversion, numbers};
-use stackmap::{Verdict, layout};
+use refusals::Refusal;
+use stackmap::layout;
 
 // How a section is laid out: whether it is of version 1, how many functions, constants and records, where the constants begin
 // (the pool), and where the first record stands.
@@ -86,12 +87,12 @@ pub fn to_listing(section: &[u8], out: &mut [u8]) -> Conversion
     ensures { Answers result out.new (to_listing section.now out.old) }
 {
     match stackmap_check::check(section) {
-        Verdict::Refused(number, place) => Conversion {
-            number,
+        Err(Refusal(cause, place)) => Conversion {
+            number: cause.number(),
             place,
             written: 0,
         },
-        Verdict::Valid(_) => {
+        Ok(_) => {
             if out.len() < listing_length(section) {
                 return Conversion {
                     number: 24,

@@ -1,8 +1,8 @@
-use Prim.Native.Nat.{◌-◌}
-use mathlib.Core.Path.{◌≡◌, refl, sym, ◌∙◌}
+use mathlib.Core.Path.{refl, sym, ap, ◌∙◌}
 use native.Mathlib.Omega.{arith}
 use lib.ListN.{length-set}
-use Rattle.linked_maps.proofs.Counting.{count-start, count_wrong, count-last, count_on}
+use Rattle.stackmap.specs.Verdict.{verdict}
+use Rattle.linked_maps.proofs.Counting.{other_cause, count-start, count_wrong, count-last, count_on}
 use Rattle.linked_maps.proofs.count_maps.Goals as goal
 
 pub loop-end-init : goal.loop-end-init
@@ -18,24 +18,24 @@ overflow_add-result c =
     let f = l.fits in
     omega arith
 
-pub shape_of-ends-in-Valid : goal.shape_of-ends-in-Valid
-shape_of-ends-in-Valid c = rw (c.keep.ensures, length-set) c.loop-end.invariant.1
+pub shape_of-ends-in-Ok : goal.shape_of-ends-in-Ok
+shape_of-ends-in-Ok c = rw (c.keep.ensures, length-set) c.loop-end.invariant.1
 
-pub returns-in-Valid : goal.returns-in-Valid
-returns-in-Valid c =
+pub returns-in-Ok : goal.returns-in-Ok
+returns-in-Ok c =
     let l = c.loop-end.invariant.0 in
-    let v = sym c.look.ensures ∙ c.in-Valid.is in
+    let v = sym c.look.ensures ∙ ap verdict c.in-Ok.is in
     let r = count-last _ _ _ _ l _ v in
     (r.0, rw c.keep.ensures r.1)
 
-pub shape_of-ends-then-number-ne-NOT_AT_END : goal.shape_of-ends-then-number-ne-NOT_AT_END
-shape_of-ends-then-number-ne-NOT_AT_END c = c.loop-end.invariant.1
+pub shape_of-ends-in_default : goal.shape_of-ends-in_default
+shape_of-ends-in_default c = c.loop-end.invariant.1
 
-pub returns-then-number-ne-NOT_AT_END : goal.returns-then-number-ne-NOT_AT_END
-returns-then-number-ne-NOT_AT_END c =
+pub returns-in_default : goal.returns-in_default
+returns-in_default c =
     let l = c.loop-end.invariant.0 in
-    let v = sym c.look.ensures ∙ c.in-Refused.is in
-    (count_wrong _ _ _ _ l _ _ v (λ e. c.if-number-ne-NOT_AT_END.true e), tt)
+    let v = sym c.look.ensures ∙ ap verdict c.in-Err.is in
+    (count_wrong _ _ _ _ l _ _ v (other_cause _ c.in_default.not-BytesAfter), tt)
 
 pub overflow_add-count : goal.overflow_add-count
 overflow_add-count c =
@@ -47,9 +47,8 @@ overflow_add-count c =
 pub loop-end-smaller : goal.loop-end-smaller
 loop-end-smaller c =
     let l = c.loop-end.invariant in
-    let n : c.in-Refused.number ≡ 9 = omega arith in
-    let v = sym c.look.ensures ∙ c.in-Refused.is in
-    let o = count_on _ _ _ _ l.0 _ (rw n at v) in
+    let v = sym c.look.ensures ∙ ap verdict c.in-Err.is in
+    let o = count_on _ _ _ _ l.0 _ (rw c.in-BytesAfter.is at v) in
     let u = o.1 in
     let i = o.0.inside in
     omega arith
@@ -57,8 +56,7 @@ loop-end-smaller c =
 pub loop-end-preserved : goal.loop-end-preserved
 loop-end-preserved c =
     let l = c.loop-end.invariant in
-    let n : c.in-Refused.number ≡ 9 = omega arith in
-    let v = sym c.look.ensures ∙ c.in-Refused.is in
-    let o = count_on _ _ _ _ l.0 _ (rw n at v) in
-    let k = c.keep-in-Refused.ensures in
+    let v = sym c.look.ensures ∙ ap verdict c.in-Err.is in
+    let o = count_on _ _ _ _ l.0 _ (rw c.in-BytesAfter.is at v) in
+    let k = c.keep-in-BytesAfter.ensures in
     (rw k o.0, rw (k, length-set) l.1)

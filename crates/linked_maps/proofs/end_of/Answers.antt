@@ -6,10 +6,10 @@ use Rattle.linked_maps.proofs.end_of.Goals as goal
 pub returns-then-i-ends : goal.returns-then-i-ends
 returns-then-i-ends c = kept-end _ _ _ _ c.requires.1 c.requires.2 (omega arith)
 
-pub returns-in-Valid : goal.returns-in-Valid
+pub returns-in-Ok : goal.returns-in-Ok
 unfolding end_at
-returns-in-Valid c = rw (← c.look.ensures, c.in-Valid.is)
+returns-in-Ok c = rw (← c.look.ensures, c.in-Ok.is)
 
-pub returns-in-Refused : goal.returns-in-Refused
+pub returns-in-Err : goal.returns-in-Err
 unfolding end_at
-returns-in-Refused c = rw (← c.look.ensures, c.in-Refused.is)
+returns-in-Err c = rw (← c.look.ensures, c.in-Err.is)

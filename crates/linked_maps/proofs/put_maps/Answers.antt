@@ -1,4 +1,3 @@
-use Prim.Native.Nat.{◌-◌}
 use native.Mathlib.Omega.{arith}
 use Rattle.linked_maps.proofs.Putting.{put-start, put_upward, put_on, put-end, kept_here}
 use Rattle.linked_maps.proofs.put_maps.Goals as goal

@@ -1,4 +1,3 @@
-use Prim.Native.Nat.{◌-◌}
 use mathlib.Core.List.{List}
 use Rattle.linked.specs.Linked.{Map}
 use Rattle.linked_maps.proofs.Putting.{Putting}
@@ -7,6 +6,3 @@ use Rattle.linked_maps.proofs.put_maps.Given as goal
 -- The numbers of the maps so far are written, those of the maps ahead are left.
 abbrev pub invariant-loop-i : goal.invariant-loop-i
 invariant-loop-i l = (rest : List Map) × Putting l.s l.initial.out l.out l.count l.at l.i rest
-
-abbrev pub decreases-loop-i : goal.decreases-loop-i
-decreases-loop-i l = l.count - l.i
