@@ -1,14 +1,16 @@
--- Halving over any values that rise, and what it tells of a pair's place. (The crate `sorted` has the same for a list's own numbers: one
--- law over f serves both.)
-use Prim.Native.Nat.{ℕ, zero, suc, ◌+◌, ◌*◌, ◌-◌, ◌≤◌, ◌<◌}
+-- What std's search tells of pairs that rise, and what that tells of a pair's place.
+use Prim.Native.Nat.{ℕ, zero, suc, ◌+◌, ◌*◌, ◌-◌, ◌/◌, ◌≤◌, ◌<◌}
 use mathlib.Core.Path.{◌≡◌, refl, sym, ap, ◌∙◌}
-use mathlib.Core.Bool.{Bool, true, false, ◌&&◌}
-use mathlib.Core.List.{List}
+use mathlib.Core.Bool.{Bool, true, false, ◌&&◌, cond}
+use mathlib.Core.List.{List, []}
 use native.Mathlib.Omega.{arith}
-use native.Mathlib.Decide.{dec_lt, ℕ_discrete}
-use native.Mathlib.Nat.{not-suc-le-zero}
-use borrow.Author.Tests.{eqb-true, eq-eqb}
-use lib.Dec.{eqb}
+use native.Mathlib.Decide.{dec_lt}
+use borrow.Author.Tests.{eq-eqb, ltb-true, ltb-false, lt-ltb, le-ltb}
+use lib.Dec.{eqb, ltb}
+use lib.ListN.{length, get_or, take, drop}
+use lib.Seq.{get_or-take, get_or-drop, drop-drop, length-take-le}
+use Rattle.std.specs.Simd.{first_chunks}
+use Rattle.std.specs.List.Sorted.{IsPartitionPoint, IsPartitionedBy}
 use Rattle.sorted_pairs.specs.Pairs.{first_at, second_at, rank_at, Rising, LowerBy, Placed}
 
 -- no value is above a later one
@@ -26,60 +28,66 @@ rising_climb xs n r i j l m = let z : i + (j - i) ≡ j = omega arith in rw z at
         let z : i + suc d ≡ i + d + 1 = omega arith in
         rw z (omega arith)
 
-pub record Halved (f : ℕ → ℕ) (n x low high : ℕ) : Type 0 where
-  pub order : low ≤ high
-  pub most : high ≤ n
-  pub below : (k : ℕ) → k < low → f k < x
-  pub above : (k : ℕ) → high ≤ k → k < n → x ≤ f k
+-- The search: the rows of two numbers, each before (a, b) or not, and what std tells of them.
 
-module _ (f : ℕ → ℕ) (n x : ℕ) (s : Climb f n) where
-  pub halved_start : (high : ℕ) → high ≡ n → Halved f n x 0 high
-  halved_start high e = record { order = omega arith; most = omega arith; below = λ k l. absurd (not-suc-le-zero l); above = λ k l m. absurd (omega arith) }
+abbrev pub before_pair : ℕ → ℕ → List ℕ → Bool
+before_pair a b row = cond (ltb (get_or row 0 0) a) true (cond (ltb a (get_or row 0 0)) false (ltb (get_or row 1 0) b))
 
-  pub halved_up : (low high m : ℕ) → Halved f n x low high → m < high → f m < x → Halved f n x (m + 1) high
-  halved_up low high m h l e = record { order = omega arith; most = h.most; below = λ k q. go k q (dec_lt k m); above = h.above }
-    where
-      go : (k : ℕ) → k < m + 1 → Dec (k < m) → f k < x
-      go k q (yes a) = omega (arith, s k m a (omega (arith, h.most)))
-      go k q (no a) = let z : k ≡ m = omega arith in rw z e
-
-  pub halved_down : (low high m : ℕ) → Halved f n x low high → low ≤ m → m < high → x ≤ f m → Halved f n x low m
-  halved_down low high m h l u e = record { order = l; most = omega (arith, h.most); below = h.below; above = λ k q r. go k q r (dec_lt m k) }
-    where
-      go : (k : ℕ) → m ≤ k → k < n → Dec (m < k) → x ≤ f k
-      go k q r (yes a) = omega (arith, s m k a r)
-      go k q r (no a) = let z : k ≡ m = omega arith in rw z e
-
-  pub halved_end : (low high : ℕ) → Halved f n x low high → high ≤ low → LowerBy f n x low
-  halved_end low high h l = record { most = omega (arith, h.order, h.most); below = h.below; above = λ k q r. h.above k (omega arith) r }
-
--- Rising, one pair more at a time.
-
-pub rising-start : (xs : List ℕ) (i : ℕ) → i ≡ 1 → Rising xs i
-rising-start xs i e = record { order = λ k l. absurd (omega arith) }
-
-pub rising_on : (xs : List ℕ) (i : ℕ) → 1 ≤ i → Rising xs i → rank_at xs (i - 1) < rank_at xs i → Rising xs (i + 1)
-rising_on xs i l r h = record { order = λ k m. go k m (ℕ_discrete (k + 1) i) }
+by_rank : (c d a b : ℕ) → d < 18446744073709551616 → b < 18446744073709551616
+    → cond (ltb c a) true (cond (ltb a c) false (ltb d b)) ≡ ltb (c * 18446744073709551616 + d) (a * 18446744073709551616 + b)
+by_rank c d a b h k = go (dec_lt c a) (dec_lt a c) (dec_lt d b)
   where
-    go : (k : ℕ) → k + 1 < i + 1 → Dec (k + 1 ≡ i) → rank_at xs k < rank_at xs (k + 1)
-    go k m (yes z) = let y : k ≡ i - 1 = omega arith in rw (z, y) h
-    go k m (no z) = r.order k (omega arith)
+    go : Dec (c < a) → Dec (a < c) → Dec (d < b) → cond (ltb c a) true (cond (ltb a c) false (ltb d b)) ≡ ltb (c * 18446744073709551616 + d) (a * 18446744073709551616 + b)
+    go (yes l) m n = rw (lt-ltb c a l) (sym (lt-ltb _ _ (omega arith)))
+    go (no l) (yes m) n = rw (le-ltb c a (omega arith), lt-ltb a c m) (sym (le-ltb _ _ (omega arith)))
+    go (no l) (no m) (yes n) = rw (le-ltb c a (omega arith), le-ltb a c (omega arith), lt-ltb d b n) (sym (lt-ltb _ _ (omega arith)))
+    go (no l) (no m) (no n) = rw (le-ltb c a (omega arith), le-ltb a c (omega arith), le-ltb d b (omega arith)) (sym (le-ltb _ _ (omega arith)))
 
-pub rising_fewer : (xs : List ℕ) (i n : ℕ) → n ≤ i → Rising xs i → Rising xs n
-rising_fewer xs i n l r = record { order = λ k m. r.order k (omega arith) }
+row_at : (n k : ℕ) (xs : List ℕ) (d : List ℕ) → k < n → get_or (first_chunks 2 n xs) k d ≡ take 2 (drop (2 * k) xs)
+row_at zero k xs d h = absurd (omega arith)
+row_at (suc n) zero xs d h = refl
+row_at (suc n) (suc k) xs d h =
+    let e : 2 * suc k ≡ 2 + 2 * k = omega arith in
+    rw (e, ← drop-drop (2 * k) 2 xs) (row_at n k (drop 2 xs) d (omega arith))
+
+module _ (xs : List ℕ) (n a b : ℕ) (l : 2 * n ≤ length xs) (u : Rising xs n) (w : b < 18446744073709551616) (v : (i : ℕ) → get_or xs i 0 < 18446744073709551616) where
+  module _ (rows : List (List ℕ)) (f : rows ≡ first_chunks 2 (length (take (2 * n) xs) / 2) (take (2 * n) xs)) (g : length rows ≡ length (take (2 * n) xs) / 2) where
+    many : length rows ≡ n
+    many = omega (arith, g, length-take-le (2 * n) xs l)
+
+    test : (k : ℕ) (d : List ℕ) → k < n → before_pair a b (get_or rows k d) ≡ ltb (rank_at xs k) (a * 18446744073709551616 + b)
+    test k d h =
+        let m : length (take (2 * n) xs) / 2 ≡ n = omega (arith, length-take-le (2 * n) xs l) in
+        let z : 2 * k + 0 ≡ 2 * k = omega arith in
+        let e : get_or rows k d ≡ take 2 (drop (2 * k) (take (2 * n) xs)) = rw (f, m) (row_at n k (take (2 * n) xs) d h) in
+        let p : get_or (take 2 (drop (2 * k) (take (2 * n) xs))) 0 0 ≡ first_at xs k =
+        get_or-take 2 (drop (2 * k) (take (2 * n) xs)) 0 0 (omega arith) ∙ get_or-drop (2 * k) (take (2 * n) xs) 0 0 ∙ get_or-take (2 * n) xs (2 * k + 0) 0 (omega arith)
+        ∙ ap (λ (i : ℕ). get_or xs i 0) z in
+        let q : get_or (take 2 (drop (2 * k) (take (2 * n) xs))) 1 0 ≡ second_at xs k =
+        get_or-take 2 (drop (2 * k) (take (2 * n) xs)) 1 0 (omega arith) ∙ get_or-drop (2 * k) (take (2 * n) xs) 1 0 ∙ get_or-take (2 * n) xs (2 * k + 1) 0 (omega arith) in
+        rw (e, p, q) (by_rank (first_at xs k) (second_at xs k) a b (v (2 * k + 1)) w)
+
+    pub rows_parted : IsPartitionedBy (before_pair a b) rows
+    rows_parted i j d h m t = go (dec_lt i j)
+      where
+        go : Dec (i < j) → before_pair a b (get_or rows i d) ≡ true
+        go (yes k) =
+            let x = ltb-true _ _ (sym (test j d (omega (arith, many))) ∙ t) in
+            test i d (omega (arith, many)) ∙ lt-ltb _ _ (omega (arith, rising_climb xs n u i j k (omega (arith, many))))
+        go (no k) = let z : i ≡ j = omega arith in rw z t
+
+    pub rows_bound : (r : ℕ) → r ≤ length rows → IsPartitionPoint (λ y. before_pair a b y ≡ true) (λ y. before_pair a b y ≡ false) rows r
+        → LowerBy (rank_at xs) n (a * 18446744073709551616 + b) r
+    rows_bound r h p =
+        record {
+          most = omega (arith, many);
+          below = λ k m. ltb-true _ _ (sym (test k [] (omega (arith, many))) ∙ p.0 k [] (omega arith) m);
+          above = λ k m i. ltb-false _ _ (sym (test k [] i) ∙ p.1 k [] m (omega (arith, many)));
+        }
 
 -- The place of a pair.
 
-and_true : (s t : Bool) → (s && t) ≡ true → (s ≡ true) × (t ≡ true)
-and_true true t h = (refl, h)
-and_true false t h = absurd (let z : ◌≡◌ {A = ℕ} 0 1 = cc in omega arith)
-
 module _ (xs : List ℕ) (n a b : ℕ) where
-  pub placed-here : (r : ℕ) → r < n → (eqb (first_at xs r) a && eqb (second_at xs r) b) ≡ true → Placed xs n a b r
-  placed-here r l h =
-      let e = and_true _ _ h in
-      record { most = omega arith; here = λ _. (eqb-true _ _ e.0, eqb-true _ _ e.1); none = λ z. absurd (omega arith) }
-
   -- a pair that is there stands at its lower bound
   bound_there : (r : ℕ) → Rising xs n → LowerBy (rank_at xs) n (a * 18446744073709551616 + b) r → (i : ℕ) → i < n → first_at xs i ≡ a → second_at xs i ≡ b → r ≡ i
   bound_there r u l i m p q = go (dec_lt i r) (dec_lt r i)
@@ -110,12 +118,3 @@ module _ (xs : List ℕ) (n a b : ℕ) where
           let t : (eqb (first_at xs r) a && eqb (second_at xs r) b) ≡ true = rw (e, eq-eqb _ _ p, eq-eqb _ _ s) in
           let w : ◌≡◌ {A = ℕ} 0 1 = cc in
           omega arith
-
-pub rising_not : (xs : List ℕ) (i n : ℕ) → 1 ≤ i → i < n → rank_at xs i ≤ rank_at xs (i - 1) → Rising xs n → ⊥
-rising_not xs i n l m h r = let z : i - 1 + 1 ≡ i = omega arith in let k = rw z at (r.order (i - 1) (omega arith)) in omega arith
-
-pub yes_then : (P : Type 0) → P → (◌≡◌ {A = Bool} true true → P) × (◌≡◌ {A = Bool} true false → P → ⊥)
-yes_then P p = ((λ z. p), (λ z. absurd (let w : ◌≡◌ {A = ℕ} 0 1 = cc in omega arith)))
-
-pub no_then : (P : Type 0) → (P → ⊥) → (◌≡◌ {A = Bool} false true → P) × (◌≡◌ {A = Bool} false false → P → ⊥)
-no_then P n = ((λ z. absurd (let w : ◌≡◌ {A = ℕ} 0 1 = cc in omega arith)), (λ z. n))

@@ -1,19 +1,13 @@
-use Prim.Native.Nat.{◌-◌}
-use native.Mathlib.Omega.{arith}
-use mathlib.Core.Path.{sym, ◌∙◌}
-use borrow.Author.Tests.{ltb-true, ltb-false}
-use Rattle.sorted_pairs.specs.Pairs.{rank_at}
-use Rattle.sorted_pairs.proofs.Halving.{rising_climb, halved_start, halved_up, halved_down, halved_end}
+use Rattle.std.proofs.Common.{rules}
+use Rattle.std.proofs.lemmas.List.Sorted.{IsPartitionPoint-from_clause}
+use Rattle.sorted_pairs.proofs.Halving.{before_pair, rows_parted, rows_bound}
 use Rattle.sorted_pairs.proofs.lower.Goals as goal
 
-pub loop-low-init : goal.loop-low-init
-loop-low-init c = halved_start (rank_at c.args.list.now) _ _ (rising_climb _ _ c.requires.1) c.args.n (omega arith)
-
-pub loop-low-preserved-then-is_below : goal.loop-low-preserved-then-is_below
-loop-low-preserved-then-is_below c = halved_up (rank_at c.args.list.now) _ _ (rising_climb _ _ c.requires.1) _ _ _ c.loop-low.invariant (omega arith) (ltb-true _ _ (sym c.is_below.ensures ∙ c.if-is_below.true))
-
-pub loop-low-preserved : goal.loop-low-preserved
-loop-low-preserved c = halved_down (rank_at c.args.list.now) _ _ (rising_climb _ _ c.requires.1) _ _ _ c.loop-low.invariant (omega arith) (omega arith) (ltb-false _ _ (sym c.is_below.ensures ∙ c.if-is_below.false))
-
 pub returns : goal.returns
-returns c = halved_end (rank_at c.args.list.now) _ _ (rising_climb _ _ c.requires.1) _ _ c.loop-low.invariant (omega arith)
+returns c =
+    let a = c.args in
+    let k = c.as_chunks.ensures in
+    let e = c.partition_point.ensures in
+    let p = IsPartitionPoint-from_clause (before_pair a.a a.b) _ _ e.partitioned
+    (rows_parted a.list.now a.n a.a a.b c.requires.0 c.requires.1 c.ranges.b.fits (λ i. (c.type_inv.list i).fits) _ k.front k.front_len) (λ y r q h. search rules) in
+    rows_bound a.list.now a.n a.a a.b c.requires.0 c.requires.1 c.ranges.b.fits (λ i. (c.type_inv.list i).fits) _ k.front k.front_len _ e.bound p

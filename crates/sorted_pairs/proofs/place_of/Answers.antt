@@ -1,16 +1,13 @@
-use native.Mathlib.Omega.{arith}
-use mathlib.Core.Path.{refl, sym, ◌∙◌}
-use Rattle.sorted_pairs.proofs.Halving.{placed-here, placed-none}
+use Rattle.std.proofs.Common.{refl, sym, ◌∙◌, arith}
+use Rattle.sorted_pairs.proofs.Halving.{placed-none}
 use Rattle.sorted_pairs.proofs.place_of.Goals as goal
-
-pub returns-then-is_at : goal.returns-then-is_at
-returns-then-is_at c = placed-here _ _ _ _ _ (omega arith) (sym c.is_at.ensures ∙ c.if-is_at.true)
-
-pub returns-then-is_at-2 : goal.returns-then-is_at-2
-returns-then-is_at-2 c = placed-here _ _ _ _ _ (omega arith) (sym c.is_at-then-i-n.ensures ∙ c.if-is_at-2.true)
-
-pub returns-else-is_at-2 : goal.returns-else-is_at-2
-returns-else-is_at-2 c = placed-none _ _ _ _ _ c.requires.1 c.lower-i.ensures (λ _. sym c.is_at-then-i-n.ensures ∙ c.if-is_at-2.false) _ refl
+use Rattle.sorted_pairs.proofs.place_of.Goals.{else-i-n-via-then-i-n+else-is_at-2, else-i-n-via-else-i-n}
 
 pub returns-else-i-n : goal.returns-else-i-n
-returns-else-i-n c = placed-none _ _ _ _ _ c.requires.1 c.lower-i.ensures (λ m. absurd (omega arith)) _ refl
+returns-else-i-n c =
+    placed-none _ _ _ _ _ c.requires.1 c.lower-i.ensures
+    (elim c.else-i-n.branch [
+      | else-i-n-via-then-i-n+else-is_at-2 w ↦ λ m. sym w.is_at-then-i-n.ensures ∙ w.if-is_at-2.false
+      | else-i-n-via-else-i-n w ↦ λ m. absurd (omega arith)
+    ])
+    _ refl
