@@ -14,6 +14,7 @@ use relocate::{Machine, Settings};
 const UNKNOWN_EDITION: u8 = 31;
 
 // A refusal's number, 31, or 0 and the edition's settings.
+// Kept: the contract of `named`, Names, speaks of the number and the settings, and so do the laws of those who call it.
 #[derive(Clone, Copy)]
 pub struct NamedSettings {
     pub number: u8,
@@ -24,13 +25,14 @@ pub struct NamedSettings {
 pub fn machine_of(number: u64) -> Machine
     ensures { result ≡ machine_of number }
 {
-    if number == 0 {
-        return Machine::Amd64;
+    match number {
+        0 => Machine::Amd64,
+        _ => Machine::Aarch64,
     }
-    Machine::Aarch64
 }
 
 // An edition's numbers as the settings of a restore.
+#[tactic(auto, unfolding(crate::specs::Under::settings_of))]
 fn settings_of(kept: editions::Settings) -> Settings
     ensures { result ≡ settings_of kept }
 {
@@ -72,9 +74,8 @@ pub fn named(store: Store, edition: u64) -> NamedSettings
     if read.number != 0 {
         return unnamed();
     }
-    let kept = read.settings;
     NamedSettings {
         number: 0,
-        settings: settings_of(kept),
+        settings: settings_of(read.settings),
     }
 }

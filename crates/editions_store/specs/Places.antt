@@ -1,7 +1,10 @@
 -- For the code alone: nothing here has to be believed.
--- Places by their position, as the loops find them.
-use Rattle.std.specs.Prelude.{ℕ, zero, suc, Bool, cond, List, [], ◌∷◌, eqb, get_or, set}
+-- Places by their position, as the code finds them.
+use Rattle.std.specs.Prelude.{ℕ, zero, suc, ◌+◌, Bool, cond, List, [], ◌∷◌, eqb, get_or, set}
+use Rattle.editions.specs.declared.Settings.{Settings}
 use Rattle.editions.specs.declared.Edition.{Edition}
+use Rattle.editions.specs.declared.Store.{Store}
+use Rattle.editions.specs.Calls.{Result, made}
 use Rattle.editions.specs.Store.{free, holds}
 
 abbrev pub is_free : Edition → Bool
@@ -11,6 +14,14 @@ is_free x = eqb x.number 0
 unfoldable pub first : (Edition → Bool) → List Edition → ℕ
 first p [] = 0
 first p (x ∷ xs) = cond (p x) 0 (suc (first p xs))
+
+-- a new edition at the place i
+abbrev pub made_at : Store → Settings → ℕ → Result Store
+made_at st s i =
+    record {
+      reply = made (st.greatest + 1);
+      left = record { greatest = st.greatest + 1; slots = set st.slots i (record { number = st.greatest + 1; settings = s }) };
+    }
 
 -- a place after a retirement
 abbrev pub clear : ℕ → Edition → Edition

@@ -8,7 +8,8 @@ ghost use Rattle.flat_read.specs.Read.{no_constant, this_constant, constant_answ
 
 use flat::{layout, offsets};
 
-#[derive(Clone, Copy)]
+// Kept: each of the six answers has a refusal's number and place beside its fields, as the definitions that the contracts equal have them for C.
+#[derive(Clone, Copy, Default)]
 pub struct ConstantAnswer {
     pub number: u8,
     pub place: usize,
@@ -19,9 +20,8 @@ fn no_constant(number: u8) -> ConstantAnswer
     ensures { result ≡ no_constant number }
 {
     ConstantAnswer {
-        number: number,
-        place: 0,
-        value: 0,
+        number,
+        ..ConstantAnswer::default()
     }
 }
 
@@ -38,6 +38,7 @@ fn constant_at(s: &[u8], at: usize) -> ConstantAnswer
 }
 
 // The constant k of the whole array.
+#[tactic(auto, using(flat_check::proofs::Accept::accepted_least, flat_check::proofs::Accept::accepted_arranged))]
 pub fn constant(s: &[u8], k: u64) -> ConstantAnswer
     ensures { result ≡ constant_answer s.now k }
 {
@@ -54,7 +55,7 @@ pub fn constant(s: &[u8], k: u64) -> ConstantAnswer
     )
 }
 
-#[derive(Clone, Copy)]
+#[derive(Clone, Copy, Default)]
 pub struct FrameAnswer {
     pub number: u8,
     pub place: usize,
@@ -73,17 +74,8 @@ fn no_frame(number: u8) -> FrameAnswer
     ensures { result ≡ no_frame number }
 {
     FrameAnswer {
-        number: number,
-        place: 0,
-        address: 0,
-        size: 0,
-        stack: 0,
-        flags: 0,
-        base: 0,
-        registers: 0,
-        registersat: 0,
-        records: 0,
-        recordsat: 0,
+        number,
+        ..FrameAnswer::default()
     }
 }
 
@@ -108,6 +100,7 @@ fn frame_at(s: &[u8], at: usize) -> FrameAnswer
 }
 
 // The frame k of the whole array.
+#[tactic(auto, using(flat_check::proofs::Accept::accepted_least, flat_check::proofs::Accept::accepted_arranged))]
 pub fn frame(s: &[u8], k: u64) -> FrameAnswer
     ensures { result ≡ frame_answer s.now k }
 {
@@ -124,7 +117,7 @@ pub fn frame(s: &[u8], k: u64) -> FrameAnswer
     )
 }
 
-#[derive(Clone, Copy)]
+#[derive(Clone, Copy, Default)]
 pub struct RegisterAnswer {
     pub number: u8,
     pub place: usize,
@@ -138,12 +131,8 @@ fn no_register(number: u8) -> RegisterAnswer
     ensures { result ≡ no_register number }
 {
     RegisterAnswer {
-        number: number,
-        place: 0,
-        register: 0,
-        offset: 0,
-        size: 0,
-        flags: 0,
+        number,
+        ..RegisterAnswer::default()
     }
 }
 
@@ -163,6 +152,7 @@ fn register_at(s: &[u8], at: usize) -> RegisterAnswer
 }
 
 // The frame register k of the whole array.
+#[tactic(auto, using(flat_check::proofs::Accept::accepted_least, flat_check::proofs::Accept::accepted_arranged))]
 pub fn register(s: &[u8], k: u64) -> RegisterAnswer
     ensures { result ≡ register_answer s.now k }
 {
@@ -179,7 +169,7 @@ pub fn register(s: &[u8], k: u64) -> RegisterAnswer
     )
 }
 
-#[derive(Clone, Copy)]
+#[derive(Clone, Copy, Default)]
 pub struct RecordAnswer {
     pub number: u8,
     pub place: usize,
@@ -197,16 +187,8 @@ fn no_record(number: u8) -> RecordAnswer
     ensures { result ≡ no_record number }
 {
     RecordAnswer {
-        number: number,
-        place: 0,
-        id: 0,
-        offset: 0,
-        call: 0,
-        flags: 0,
-        locations: 0,
-        locationsat: 0,
-        liveouts: 0,
-        liveoutsat: 0,
+        number,
+        ..RecordAnswer::default()
     }
 }
 
@@ -230,6 +212,7 @@ fn record_at(s: &[u8], at: usize) -> RecordAnswer
 }
 
 // The record k of the whole array.
+#[tactic(auto, using(flat_check::proofs::Accept::accepted_least, flat_check::proofs::Accept::accepted_arranged))]
 pub fn record(s: &[u8], k: u64) -> RecordAnswer
     ensures { result ≡ record_answer s.now k }
 {
@@ -246,7 +229,7 @@ pub fn record(s: &[u8], k: u64) -> RecordAnswer
     )
 }
 
-#[derive(Clone, Copy)]
+#[derive(Clone, Copy, Default)]
 pub struct LocationAnswer {
     pub number: u8,
     pub place: usize,
@@ -259,11 +242,8 @@ fn no_location(number: u8) -> LocationAnswer
     ensures { result ≡ no_location number }
 {
     LocationAnswer {
-        number: number,
-        place: 0,
-        kind: 0,
-        register: 0,
-        offset: 0,
+        number,
+        ..LocationAnswer::default()
     }
 }
 
@@ -282,6 +262,7 @@ fn location_at(s: &[u8], at: usize) -> LocationAnswer
 }
 
 // The location k of the whole array.
+#[tactic(auto, using(flat_check::proofs::Accept::accepted_least, flat_check::proofs::Accept::accepted_arranged))]
 pub fn location(s: &[u8], k: u64) -> LocationAnswer
     ensures { result ≡ location_answer s.now k }
 {
@@ -298,7 +279,7 @@ pub fn location(s: &[u8], k: u64) -> LocationAnswer
     )
 }
 
-#[derive(Clone, Copy)]
+#[derive(Clone, Copy, Default)]
 pub struct LiveOutAnswer {
     pub number: u8,
     pub place: usize,
@@ -310,10 +291,8 @@ fn no_live_out(number: u8) -> LiveOutAnswer
     ensures { result ≡ no_live_out number }
 {
     LiveOutAnswer {
-        number: number,
-        place: 0,
-        register: 0,
-        size: 0,
+        number,
+        ..LiveOutAnswer::default()
     }
 }
 
@@ -331,6 +310,7 @@ fn live_out_at(s: &[u8], at: usize) -> LiveOutAnswer
 }
 
 // The live-out k of the whole array.
+#[tactic(auto, using(flat_check::proofs::Accept::accepted_least, flat_check::proofs::Accept::accepted_arranged))]
 pub fn live_out(s: &[u8], k: u64) -> LiveOutAnswer
     ensures { result ≡ live_out_answer s.now k }
 {

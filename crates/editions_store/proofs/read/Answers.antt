@@ -1,16 +1,12 @@
-use native.Mathlib.Omega.{arith}
-use Rattle.editions.specs.Store.{free, read_in}
-use Rattle.editions_store.proofs.Places.{look_none, look-some}
+use Rattle.editions.specs.Store.{read_in}
+use mathlib.Core.Path.{sym, ◌∙◌}
+use Rattle.editions_store.proofs.Places.{look-is}
 use Rattle.editions_store.proofs.read.Goals as goal
 
-pub returns-then-i-ge-PLACES : goal.returns-then-i-ge-PLACES
+pub returns-in-Some : goal.returns-in-Some
 unfolding read_in
-returns-then-i-ge-PLACES c = rw (look_none c.args.number c.args.store.slots (let (k, n) = c.place_of-i.ensures in omega arith), c.nothing.ensures)
+returns-in-Some c = let l = look-is _ _ _ (sym c.in-Some.is ∙ c.place_of.ensures) in rw (l.1 (record { number = 0; settings = record { most = 0; machine = 0; version1 = 0; version3 = 0 } }))
 
-pub returns : goal.returns
+pub returns-in-None : goal.returns-in-None
 unfolding read_in
-returns c =
-    rw (
-      look-some c.args.number c.args.store.slots free (let (k, n) = c.place_of-i.ensures in omega arith),
-      ← c.place_of-i.ensures.0,
-    )
+returns-in-None c = let l = look-is _ _ _ (sym c.in-None.is ∙ c.place_of.ensures) in rw (l, c.nothing.ensures)

@@ -1,12 +1,11 @@
-use native.Mathlib.Omega.{arith}
-use Rattle.editions.specs.Store.{free, retire_in}
-use Rattle.editions_store.proofs.Places.{look_none, look-some}
+use Rattle.editions.specs.Store.{retire_in}
+use Rattle.editions_store.proofs.Places.{look-missing, look-there}
 use Rattle.editions_store.proofs.retire.Goals as goal
 
-pub returns-then-place_of-ge-PLACES : goal.returns-then-place_of-ge-PLACES
+pub returns-then-is_none : goal.returns-then-is_none
 unfolding retire_in
-returns-then-place_of-ge-PLACES c = rw (look_none c.args.number c.args.store.slots (let (k, n) = c.place_of.ensures in omega arith))
+returns-then-is_none c = rw (look-missing _ _ _ c.place_of.ensures c.if-is_none.ensures)
 
 pub returns : goal.returns
 unfolding retire_in
-returns c = rw (look-some c.args.number c.args.store.slots free (let (k, n) = c.place_of.ensures in omega arith), c.freed-left.ensures)
+returns c = let (s, l) = look-there _ _ _ c.place_of.ensures c.if-is_none.ensures in rw (l, c.freed.ensures)

@@ -1,7 +1,6 @@
 use native.Mathlib.Omega.{arith}
 use mathlib.Core.Path.{sym, ◌∙◌}
-use Rattle.flat_check.proofs.Chain.{accepted-told}
-use Rattle.flat_check.proofs.Accept.{told_arranged}
+use Rattle.flat_check.proofs.Accept.{accepted_arranged}
 use Rattle.flat_read.specs.Read.{constant_answer}
 use Rattle.flat_read.proofs.Asked.{asked-refused, asked_missing, asked-there}
 use Rattle.flat_read.proofs.constant.Goals as goal
@@ -9,9 +8,6 @@ use Rattle.flat_read.proofs.constant.Goals as goal
 pub returns-then-refusal-ne0 : goal.returns-then-refusal-ne0
 unfolding constant_answer
 returns-then-refusal-ne0 c = c.no_constant.ensures ∙ asked-refused _ _ _ _ _ _ _ c.check-refusal.ensures c.if-refusal-ne0.true
-
-pub num_constants-requires : goal.num_constants-requires
-num_constants-requires c = (accepted-told _ (sym c.check-refusal.ensures ∙ c.if-refusal-ne0.false)).least
 
 pub returns-then-k-num_constants : goal.returns-then-k-num_constants
 unfolding constant_answer
@@ -22,15 +18,6 @@ returns-then-k-num_constants c =
       c.if-k-num_constants.true,
     ))
 
-pub overflow_mul-k : goal.overflow_mul-k
-overflow_mul-k c = let t = accepted-told _ (sym c.check-refusal.ensures ∙ c.if-refusal-ne0.false) in let a = told_arranged _ t in omega (arith, c.num_constants.ensures, c.if-k-num_constants.false)
-
-pub overflow_add-k : goal.overflow_add-k
-overflow_add-k c = let t = accepted-told _ (sym c.check-refusal.ensures ∙ c.if-refusal-ne0.false) in let a = told_arranged _ t in omega (arith, c.num_constants.ensures, c.if-k-num_constants.false)
-
-pub constant_at-requires : goal.constant_at-requires
-constant_at-requires c = let t = accepted-told _ (sym c.check-refusal.ensures ∙ c.if-refusal-ne0.false) in let a = told_arranged _ t in omega (arith, c.num_constants.ensures, c.if-k-num_constants.false)
-
 pub returns : goal.returns
 unfolding constant_answer
 returns c =
@@ -39,3 +26,12 @@ returns c =
       c.num_constants.ensures,
       c.if-k-num_constants.false,
     ))
+
+pub overflow_mul-k : goal.overflow_mul-k
+overflow_mul-k c = let a = accepted_arranged _ (sym c.check-refusal.ensures ∙ c.if-refusal-ne0.false) in omega (arith, c.num_constants.ensures)
+
+pub overflow_add-k : goal.overflow_add-k
+overflow_add-k c = let a = accepted_arranged _ (sym c.check-refusal.ensures ∙ c.if-refusal-ne0.false) in omega (arith, c.num_constants.ensures)
+
+pub constant_at-requires : goal.constant_at-requires
+constant_at-requires c = let a = accepted_arranged _ (sym c.check-refusal.ensures ∙ c.if-refusal-ne0.false) in omega (arith, c.num_constants.ensures)

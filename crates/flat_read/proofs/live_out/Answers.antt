@@ -1,7 +1,6 @@
 use native.Mathlib.Omega.{arith}
 use mathlib.Core.Path.{sym, ◌∙◌}
-use Rattle.flat_check.proofs.Chain.{accepted-told}
-use Rattle.flat_check.proofs.Accept.{told_arranged}
+use Rattle.flat_check.proofs.Accept.{accepted_arranged}
 use Rattle.flat_read.specs.Read.{live_out_answer}
 use Rattle.flat_read.proofs.Asked.{asked-refused, asked_missing, asked-there}
 use Rattle.flat_read.proofs.live_out.Goals as goal
@@ -9,9 +8,6 @@ use Rattle.flat_read.proofs.live_out.Goals as goal
 pub returns-then-refusal-ne0 : goal.returns-then-refusal-ne0
 unfolding live_out_answer
 returns-then-refusal-ne0 c = c.no_live_out.ensures ∙ asked-refused _ _ _ _ _ _ _ c.check-refusal.ensures c.if-refusal-ne0.true
-
-pub num_live_outs-requires : goal.num_live_outs-requires
-num_live_outs-requires c = (accepted-told _ (sym c.check-refusal.ensures ∙ c.if-refusal-ne0.false)).least
 
 pub returns-then-k-num_live_outs : goal.returns-then-k-num_live_outs
 unfolding live_out_answer
@@ -22,38 +18,17 @@ returns-then-k-num_live_outs c =
       c.if-k-num_live_outs.true,
     ))
 
-pub offset-requires : goal.offset-requires
-offset-requires c = (omega arith, (accepted-told _ (sym c.check-refusal.ensures ∙ c.if-refusal-ne0.false)).least)
-
-pub overflow_mul-k : goal.overflow_mul-k
-overflow_mul-k c =
-    let t = accepted-told _ (sym c.check-refusal.ensures ∙ c.if-refusal-ne0.false) in let a = told_arranged _ t in omega (
-      arith,
-      c.offset.ensures,
-      c.num_live_outs.ensures,
-      c.if-k-num_live_outs.false,
-    )
-
-pub overflow_add-offset : goal.overflow_add-offset
-overflow_add-offset c =
-    let t = accepted-told _ (sym c.check-refusal.ensures ∙ c.if-refusal-ne0.false) in let a = told_arranged _ t in omega (
-      arith,
-      c.offset.ensures,
-      c.num_live_outs.ensures,
-      c.if-k-num_live_outs.false,
-    )
-
-pub live_out_at-requires : goal.live_out_at-requires
-live_out_at-requires c =
-    let t = accepted-told _ (sym c.check-refusal.ensures ∙ c.if-refusal-ne0.false) in let a = told_arranged _ t in omega (
-      arith,
-      c.offset.ensures,
-      c.num_live_outs.ensures,
-      c.if-k-num_live_outs.false,
-    )
-
 pub returns : goal.returns
 unfolding live_out_answer
 returns c =
     (rw c.offset.ensures.0 at c.live_out_at.ensures) ∙ asked-there _ _ _ _ _ _ _ c.check-refusal.ensures
     c.if-refusal-ne0.false (omega (arith, c.num_live_outs.ensures, c.if-k-num_live_outs.false))
+
+pub overflow_mul-k : goal.overflow_mul-k
+overflow_mul-k c = let a = accepted_arranged _ (sym c.check-refusal.ensures ∙ c.if-refusal-ne0.false) in omega (arith, c.offset.ensures, c.num_live_outs.ensures)
+
+pub overflow_add-offset : goal.overflow_add-offset
+overflow_add-offset c = let a = accepted_arranged _ (sym c.check-refusal.ensures ∙ c.if-refusal-ne0.false) in omega (arith, c.offset.ensures, c.num_live_outs.ensures)
+
+pub live_out_at-requires : goal.live_out_at-requires
+live_out_at-requires c = let a = accepted_arranged _ (sym c.check-refusal.ensures ∙ c.if-refusal-ne0.false) in omega (arith, c.offset.ensures, c.num_live_outs.ensures)
