@@ -31,7 +31,7 @@ pub fn location_in(s: &[u8], first: usize, number: u64) -> LocationAnswer
     requires { (records_at s.now ≤ length s.now) × (first + record_length (is_old s.now) (drop first s.now) ≤ length s.now) }
     ensures { result ≡ among (no_location 11 0) (this_location (read_section s.now).constants) (get_elem? (read_record (is_old s.now) (drop first s.now)).locations number) }
 {
-    let count = wire::u16_at(s, first + layout::NUM_LOCATIONS_AT) as u64;
+    let count = u64::from(wire::u16_at(s, first + layout::NUM_LOCATIONS_AT));
     if number >= count {
         return no_location(11, 0);
     }

@@ -40,10 +40,7 @@ pub struct Walked {
 fn hit(kind: u8, k: u8) -> u64
     ensures { (result ≡ one (eqb kind k)) × (result ≤ 1) }
 {
-    if kind == k {
-        return 1;
-    }
-    0
+    u64::from(kind == k)
 }
 
 // One location more.
@@ -66,8 +63,6 @@ fn kinds_of(s: &[u8], old: bool, count: usize) -> Kinds
     ensures { (result ≡ kinds_of (many (read_location old) (location_size old) count s.now 16)) × KindsMost count result }
 {
     let step = layout::location_size(old);
-    let mut p: usize = layout::RECORD_HEAD_SIZE;
-    let mut left = count;
     let mut kinds = Kinds {
         register: 0,
         direct: 0,
@@ -75,10 +70,8 @@ fn kinds_of(s: &[u8], old: bool, count: usize) -> Kinds
         constant: 0,
         pool: 0,
     };
-    while left > 0 {
-        kinds = with_kind(kinds, s[p]);
-        p += step;
-        left -= 1;
+    for i in 0..count {
+        kinds = with_kind(kinds, s[layout::RECORD_HEAD_SIZE + step * i]);
     }
     kinds
 }

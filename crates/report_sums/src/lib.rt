@@ -2,60 +2,50 @@
 // `kinds_sum` and `sum` are no entry points: they require that nothing passes.
 #![tactic(auto)]
 
-ghost use Rattle.std.specs.Prelude.{◌≡◌, ◌&&◌, ◌+◌, leb};
+ghost use Rattle.std.specs.Prelude.{◌≡◌, ◌+◌, leb};
 ghost use Rattle.report.specs.Totals.{total_most, plus_kinds, plus, kinds_fit, fits, joined_at, joined};
 ghost use Rattle.report.specs.Bounds.{KindsMost, TotalsMost};
 
 use report::{Kinds, Reported, Totals};
 
-const TOTAL_MOST: u64 = 18446744073709551615;
-
 // The refusal where a sum would pass it.
 pub const PASSED: u64 = 34;
 
-// Whether the sums before fit, and this one.
-fn fit(before: bool, a: u64, b: u64) -> bool
-    ensures { result ≡ (before && leb (a + b) total_most) }
+// Whether the sum of two numbers is below 2^64.
+fn fit(a: u64, b: u64) -> bool
+    ensures { result ≡ leb (a + b) total_most }
 {
-    if before {
-        return b <= TOTAL_MOST - a;
-    }
-    false
+    b <= u64::MAX - a
 }
 
-fn both(a: bool, b: bool) -> bool
-    ensures { result ≡ (a && b) }
-{
-    if a {
-        return b;
-    }
-    false
-}
-
+// `&` has no branch, here and below.
+#[tactic(auto, unfolding(report::specs::Totals::kinds_fit, report::specs::Totals::plus_kinds))]
 fn kinds_fit(a: Kinds, b: Kinds) -> bool
     ensures { result ≡ kinds_fit (plus_kinds a b) }
 {
-    let mut right = fit(true, a.register, b.register);
-    right = fit(right, a.direct, b.direct);
-    right = fit(right, a.indirect, b.indirect);
-    right = fit(right, a.constant, b.constant);
-    fit(right, a.pool, b.pool)
+    fit(a.register, b.register)
+        & fit(a.direct, b.direct)
+        & fit(a.indirect, b.indirect)
+        & fit(a.constant, b.constant)
+        & fit(a.pool, b.pool)
 }
 
+#[tactic(auto, unfolding(report::specs::Totals::fits, report::specs::Totals::plus))]
 fn all_fit(a: Totals, b: Totals) -> bool
     ensures { result ≡ fits (plus a b) }
 {
-    let mut right = fit(true, a.sections, b.sections);
-    right = fit(right, a.refused, b.refused);
-    right = fit(right, a.functions, b.functions);
-    right = fit(right, a.records, b.records);
-    right = fit(right, a.statepoints, b.statepoints);
-    right = fit(right, a.pairs, b.pairs);
-    right = both(right, kinds_fit(a.kinds, b.kinds));
-    right = fit(right, a.stack, b.stack);
-    fit(right, a.unknown, b.unknown)
+    fit(a.sections, b.sections)
+        & fit(a.refused, b.refused)
+        & fit(a.functions, b.functions)
+        & fit(a.records, b.records)
+        & fit(a.statepoints, b.statepoints)
+        & fit(a.pairs, b.pairs)
+        & kinds_fit(a.kinds, b.kinds)
+        & fit(a.stack, b.stack)
+        & fit(a.unknown, b.unknown)
 }
 
+#[tactic(auto, unfolding(report::specs::Totals::plus_kinds))]
 pub fn kinds_sum(a: Kinds, b: Kinds) -> Kinds
     requires { KindsMost total_most (plus_kinds a b) }
     ensures { result ≡ plus_kinds a b }
@@ -69,6 +59,7 @@ pub fn kinds_sum(a: Kinds, b: Kinds) -> Kinds
     }
 }
 
+#[tactic(auto, unfolding(report::specs::Totals::plus))]
 fn sum(a: Totals, b: Totals) -> Totals
     requires { TotalsMost total_most (plus a b) }
     ensures { result ≡ plus a b }
@@ -88,6 +79,7 @@ fn sum(a: Totals, b: Totals) -> Totals
 }
 
 // The sums, or 34 at `place` and the totals `a` as they were.
+#[tactic(auto, using(report::proofs::Plus::fits_each), unfolding(report::specs::Totals::joined_at))]
 pub fn joined_at(place: u64, a: Totals, b: Totals) -> Reported
     ensures { result ≡ joined_at place a b }
 {
@@ -106,6 +98,7 @@ pub fn joined_at(place: u64, a: Totals, b: Totals) -> Reported
 }
 
 // The report of all sections of two reports, or 34 at 0.
+#[tactic(auto, unfolding(report::specs::Totals::joined))]
 pub fn join(a: Totals, b: Totals) -> Reported
     ensures { result ≡ joined a b }
 {

@@ -8,14 +8,14 @@ use Rattle.questions_read.proofs.read.location_in.Goals as goal
 
 -- The location stands after the record's head, one size for each before it.
 
-pub u16_at-count-requires : goal.u16_at-count-requires
+pub u16_at-requires : goal.u16_at-requires
 unfolding record_length
-u16_at-count-requires c = let i = c.requires.1 in omega arith
+u16_at-requires c = let i = c.requires.1 in omega arith
 
 pub returns-then-number-count : goal.returns-then-number-count
 returns-then-number-count c =
     let q = c.args in
-    rw (c.no_location.ensures, location_past (is_old q.s.now) q.s.now q.first _ c.u16_at-count.ensures q.number c.if-number-count.true)
+    rw (c.no_location.ensures, location_past (is_old q.s.now) q.s.now q.first _ (c.from-count.ensures ∙ c.u16_at.ensures) q.number c.if-number-count.true)
 
 pub is_old-old-requires : goal.is_old-old-requires
 is_old-old-requires c = let i = c.requires.0 in omega arith
@@ -39,7 +39,7 @@ location_fields-l-requires c =
     let a = c.args in
     let r = c.location_size.result in
     let z : r ≡ location_size (is_old a.s.now) = c.location_size.ensures.0 ∙ ap location_size c.is_old-old.ensures in
-    rw (z, c.is_old-old.ensures) (location_inside (is_old a.s.now) a.s.now a.first _ c.u16_at-count.ensures a.number (omega arith) c.requires.1)
+    rw (z, c.is_old-old.ensures) (location_inside (is_old a.s.now) a.s.now a.first _ (c.from-count.ensures ∙ c.u16_at.ensures) a.number (omega arith) c.requires.1)
 
 pub returns : goal.returns
 returns c =
@@ -47,7 +47,7 @@ returns c =
     let r = c.location_size.result in
     let z : r ≡ location_size (is_old a.s.now) = c.location_size.ensures.0 ∙ ap location_size c.is_old-old.ensures in
     rw (
-      location_at_lem (is_old a.s.now) a.s.now a.first _ c.u16_at-count.ensures a.number c.if-number-count.false,
+      location_at_lem (is_old a.s.now) a.s.now a.first _ (c.from-count.ensures ∙ c.u16_at.ensures) a.number c.if-number-count.false,
       ← z,
       ← c.is_old-old.ensures,
       c.location_fields-l.ensures,
