@@ -109,12 +109,10 @@ pub fn put_frames(
     ensures { rows.new ≡ sets rows.old 0 (thread_rows (restore s.now olds.now news.now first settings) image.now 0 (frames_from (thread_of machine frames.now registers.now) count 0)) }
 {
     let mut to: usize = 0;
-    let mut k: usize = 0;
-    while k < count {
+    for k in 0..count {
         to = put_frame(
             s, image, registers, first, olds, news, machine, frames, count, keys, hits, k, rows,
             to, settings,
         );
-        k += 1;
     }
 }

@@ -27,19 +27,13 @@ put_frame-to-requires c =
           (arith, l.invariant.fits, pointers_few R a.image.now th c.requires.0.most_right a.count 0, c.requires.0.looked.most),
     )
 
-pub overflow_add-k : goal.overflow_add-k
-overflow_add-k c = omega (arith, c.requires.0.looked.most)
-
-pub loop-k-smaller : goal.loop-k-smaller
-loop-k-smaller c = omega arith
-
 pub loop-k-preserved : goal.loop-k-preserved
 loop-k-preserved c =
     let a = c.args in
     let R = restore a.s.now a.olds.now a.news.now a.first a.settings in
     let th = thread_of a.machine a.frames.now a.registers.now in
     let l = c.loop-k in
-    going_on R a.image.now th a.count _ _ l.k l.to l.invariant c.loop-k-test.true _ _ c.put_frame-to.ensures.0 c.put_frame-to.ensures.1
+    going_on R a.image.now th a.count _ _ l.k l.to l.invariant (omega arith) _ _ c.put_frame-to.ensures.0 c.put_frame-to.ensures.1
 
 pub shape_of-rows : goal.shape_of-rows
 shape_of-rows c = c.loop-k.invariant.wide
