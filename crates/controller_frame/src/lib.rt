@@ -11,7 +11,7 @@ use moves::Move;
 use questions_find::find;
 use relocate::{Frame, Settings};
 use relocate_frame::moving;
-use stackmap::Verdict;
+use refusals::Refusal;
 
 // Relocates one frame as `relocate_frame::relocate` does, and between 1 to 9 and 33: 50. The section is searched and checked once.
 // No entry point: it requires settings that the crates above have read or made.
@@ -34,8 +34,8 @@ pub fn relocate(
     }
     let machine = frame.machine;
     match controller_profile::of_accepted(section, machine) {
-        Verdict::Refused(n, p) => moving::refused(n, p),
-        Verdict::Valid(_) => relocate_frame::relocate_found(
+        Err(Refusal(cause, place)) => moving::refused(cause.number(), place),
+        Ok(_) => relocate_frame::relocate_found(
             section, found, image, first, olds, news, frame, registers, settings,
         ),
     }

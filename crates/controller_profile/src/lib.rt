@@ -4,30 +4,29 @@
 
 ghost use Rattle.std.specs.Prelude.{◌≡◌, false, length};
 ghost use Rattle.std.proofs.Math.Option.{none};
+ghost use Rattle.stackmap.specs.Verdict.{verdict};
 ghost use Rattle.stackmap.specs.Section.{is_old, entries};
 ghost use Rattle.stackmap.specs.Check.{Accepted};
 ghost use Rattle.relocate.specs.Code.{pool_of};
 ghost use Rattle.controller.specs.Profile.{first_breach, at_breach, profile_check};
 
 use relocate::Machine;
-use stackmap::{Turn, Verdict, layout};
+use refusals::{Cause, Refusal};
+use stackmap::{Turn, layout};
 use stackmap_check::walk;
 use stackmap_tables::{shape, tables};
 
-const OUTSIDE_PROFILE: u8 = 50;
-
 // 50 at the first record with a breach, of an accepted section of version 3. The records are not checked again, and no more than 65 are
 // looked at, for the record with the number 64 is a breach.
-fn first_breach(s: &[u8]) -> Verdict
+fn first_breach(s: &[u8]) -> Result<usize, Refusal>
     requires { Accepted s.now × (is_old s.now ≡ false) }
-    ensures { result ≡ at_breach (length s.now) (first_breach (pool_of s.now) none (entries s.now)) }
+    ensures { verdict result ≡ at_breach (length s.now) (first_breach (pool_of s.now) none (entries s.now)) }
 {
-    let mut remaining = wire::u32_at(s, layout::NUM_RECORDS_AT);
+    let count = wire::u32_at(s, layout::NUM_RECORDS_AT) as usize;
     let mut p = index_rows::first_record(s);
     let mut turn = walk::start(s, false);
-    let mut number: usize = 0;
     let mut last: u64 = 0;
-    while remaining > 0 {
+    for number in 0..count {
         let t = walk::owner(s, turn);
         let next = t.next;
         let left = t.left;
@@ -36,39 +35,35 @@ fn first_breach(s: &[u8]) -> Verdict
             let shape = shape::shape_at(s, p);
             p += shape.size;
         } else {
-            return Verdict::Refused(OUTSIDE_PROFILE, number);
+            return Err(Refusal(Cause::OutsideProfile, number));
         }
         last = address;
         turn = Turn {
             next,
             left: left - 1,
         };
-        number += 1;
-        remaining -= 1;
     }
-    Verdict::Valid(s.len())
+    Ok(s.len())
 }
 
 // 50 of an accepted section: at 0 for the version or the machine, and then at the first record with a breach.
-pub fn of_accepted(s: &[u8], machine: Machine) -> Verdict
+pub fn of_accepted(s: &[u8], machine: Machine) -> Result<usize, Refusal>
     requires { Accepted s.now }
-    ensures { result ≡ profile_check machine s.now }
+    ensures { verdict result ≡ profile_check machine s.now }
 {
     if tables::is_old(s) {
-        return Verdict::Refused(OUTSIDE_PROFILE, 0);
+        return Err(Refusal(Cause::OutsideProfile, 0));
     }
     match machine {
         Machine::Amd64 => first_breach(s),
-        Machine::Aarch64 => Verdict::Refused(OUTSIDE_PROFILE, 0),
+        Machine::Aarch64 => Err(Refusal(Cause::OutsideProfile, 0)),
     }
 }
 
 // The section's own refusals, and then 50.
-pub fn check(s: &[u8], machine: Machine) -> Verdict
-    ensures { result ≡ profile_check machine s.now }
+pub fn check(s: &[u8], machine: Machine) -> Result<usize, Refusal>
+    ensures { verdict result ≡ profile_check machine s.now }
 {
-    match stackmap_check::check(s) {
-        Verdict::Refused(n, p) => Verdict::Refused(n, p),
-        Verdict::Valid(_) => of_accepted(s, machine),
-    }
+    stackmap_check::check(s)?;
+    of_accepted(s, machine)
 }

@@ -10,7 +10,7 @@ ghost use Rattle.controller.specs.Kept.{ControlsThread};
 use moves::Move;
 use relocate::{Machine, Settings};
 use relocate_frame::moving;
-use stackmap::Verdict;
+use refusals::Refusal;
 
 // Relocates the frames of a list as `thread_call::relocate_thread` does, and between 1 to 9 and 33: 50. What keeps the profile has at most 64
 // records, so that they are walked over a second time.
@@ -30,8 +30,8 @@ pub fn relocate_thread(
     ensures { ControlsThread (restore section.now olds.now news.now first settings) image.old (thread_of machine list.now registers.old) result image.new registers.new }
 {
     match controller_profile::check(section, machine) {
-        Verdict::Refused(n, p) => moving::refused(n, p),
-        Verdict::Valid(_) => thread_call::relocate_thread(
+        Err(Refusal(cause, place)) => moving::refused(cause.number(), place),
+        Ok(_) => thread_call::relocate_thread(
             section, image, first, olds, news, machine, list, registers, settings,
         ),
     }

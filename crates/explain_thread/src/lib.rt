@@ -14,7 +14,7 @@ use explain_thread_rows::put_frames;
 use moves::Move;
 use relocate::{Machine, Settings};
 use relocate_frame::moving;
-use stackmap::Verdict;
+use refusals::Refusal;
 use thread::FRAMES_MOST;
 use thread_search::search::HITS_LENGTH;
 use thread_search::{addresses, list, search};
@@ -83,8 +83,8 @@ pub fn explain(
     addresses::gather(list, count, &mut keys);
     let mut hits = [0usize; HITS_LENGTH];
     match search::find_all(section, &keys, count, &mut hits) {
-        Verdict::Refused(n, p) => moving::refused(n, p),
-        Verdict::Valid(_) => of_checked(
+        Err(Refusal(cause, place)) => moving::refused(cause.number(), place),
+        Ok(_) => of_checked(
             section, image, registers, first, olds, news, machine, list, count, &keys, &hits, rows,
             settings,
         ),

@@ -1,6 +1,7 @@
 // A whole thread over a linked section in one call: all frames move, with their registers, each by its own map, or none does.
 #![tactic(auto)]
 
+ghost use Rattle.stackmap.specs.Verdict.{verdict};
 ghost use Rattle.std.specs.Prelude.{◌≡◌, ◌≤◌};
 ghost use Rattle.moves.specs.Limits.{pairs_most};
 ghost use Rattle.relocate.specs.Restore.{restore};
@@ -12,14 +13,14 @@ use linked_moves::SITES_LENGTH;
 use moves::Move;
 use relocate::{Machine, Settings};
 use relocate_frame::moving;
-use stackmap::Verdict;
+use refusals::Refusal;
 use thread::FRAMES_MOST;
 use thread_search::search::HITS_LENGTH;
 use thread_search::{addresses, list};
 
 // The verdict on a linked section: its maps' refusal, or 27 at the first byte of a map of version 1.
-pub fn check(section: &[u8]) -> Verdict
-    ensures { result ≡ linked_check section.now }
+pub fn check(section: &[u8]) -> Result<usize, Refusal>
+    ensures { verdict result ≡ linked_check section.now }
 {
     let keys = [0u64; FRAMES_MOST];
     let mut hits = [0usize; HITS_LENGTH];
@@ -50,8 +51,8 @@ pub fn relocate_linked(
     let mut hits = [0usize; HITS_LENGTH];
     let mut sites = [0usize; SITES_LENGTH];
     match linked_search::find_all(section, &keys, count, &mut hits, &mut sites) {
-        Verdict::Refused(n, p) => moving::refused(n, p),
-        Verdict::Valid(_) => linked_thread::of_maps(
+        Err(Refusal(cause, place)) => moving::refused(cause.number(), place),
+        Ok(_) => linked_thread::of_maps(
             section, image, registers, first, olds, news, machine, list, count, &keys, &hits,
             &sites, settings,
         ),

@@ -12,7 +12,8 @@ ghost use Rattle.questions_find.specs.Scan.{refused_at, told, all_records, scann
 
 use crate::Scanned;
 use questions::{Found, Hits};
-use stackmap::{Turn, Verdict, layout};
+use refusals::Refusal;
+use stackmap::{Turn, layout};
 use stackmap_check::walk;
 use stackmap_tables::tables;
 
@@ -119,8 +120,8 @@ fn search(s: &[u8], at: usize, address: u64) -> Scanned
         let next = stop.next;
         let left = stop.left;
         match walk::record_at(s, old, constants, next - 1, here) {
-            Verdict::Refused(n, q) => return stopped(n, q),
-            Verdict::Valid(end) => {
+            Err(Refusal(cause, place)) => return stopped(cause.number(), place),
+            Ok(end) => {
                 let start = walk::owner_address(s, old, next - 1);
                 let index = (count - ahead) as usize;
                 hits = note(s, start, address, index, next - 1, here, hits);
@@ -145,8 +146,8 @@ pub fn scan(s: &[u8], address: u64) -> Scanned
     ensures { (result ≡ scanned s.now address) × Bounded (length s.now) result.hits }
 {
     match tables::begin(s) {
-        Verdict::Refused(n, p) => stopped(n, p),
-        Verdict::Valid(at) => search(s, at, address),
+        Err(Refusal(cause, place)) => stopped(cause.number(), place),
+        Ok(at) => search(s, at, address),
     }
 }
 

@@ -10,7 +10,8 @@ ghost use Rattle.questions.specs.Kept.{picked};
 ghost use Rattle.questions.specs.Questions.{ask, among, not_located, located, record_place, record_part};
 
 use questions::{Located, Stretch};
-use stackmap::{Turn, Verdict, layout};
+use refusals::Refusal;
+use stackmap::{Turn, layout};
 use stackmap_check::walk;
 use stackmap_tables::tables;
 
@@ -46,19 +47,18 @@ fn search(s: &[u8], at: usize, wanted: u64) -> Located
     ensures { (result ≡ ask not_located (among (not_located 10 0) (located (is_old s.now)) (get_elem? (entries s.now) wanted)) (walk_check s.now)) × (result.first + result.size ≤ length s.now) }
 {
     let constants = wire::u32_at(s, layout::NUM_CONSTANTS_AT);
-    let mut remaining = wire::u32_at(s, layout::NUM_RECORDS_AT);
-    let mut index: u64 = 0;
+    let count = wire::u32_at(s, layout::NUM_RECORDS_AT);
     let old = tables::is_old(s);
     let mut turn = walk::start(s, old);
     let mut p = at;
     let mut kept = Stretch { first: 0, size: 0 };
-    while remaining > 0 {
+    for index in 0..count {
         let t = walk::owner(s, turn);
         let next = t.next;
         match walk::record_at(s, old, constants, next - 1, p) {
-            Verdict::Refused(n, q) => return refused(n, q),
-            Verdict::Valid(end) => {
-                kept = keep(s, wanted, index, p, end, kept);
+            Err(Refusal(cause, place)) => return refused(cause.number(), place),
+            Ok(end) => {
+                kept = keep(s, wanted, index as u64, p, end, kept);
                 p = end;
             }
         }
@@ -66,8 +66,6 @@ fn search(s: &[u8], at: usize, wanted: u64) -> Located
             next,
             left: t.left - 1,
         };
-        index += 1;
-        remaining -= 1;
     }
     if p != s.len() {
         return refused(9, p);
@@ -88,8 +86,8 @@ pub fn locate(s: &[u8], wanted: u64) -> Located
     ensures { (result ≡ record_place s.now wanted) × (result.first + result.size ≤ length s.now) }
 {
     match tables::begin(s) {
-        Verdict::Refused(n, p) => refused(n, p),
-        Verdict::Valid(at) => search(s, at, wanted),
+        Err(Refusal(cause, place)) => refused(cause.number(), place),
+        Ok(at) => search(s, at, wanted),
     }
 }
 

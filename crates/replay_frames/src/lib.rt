@@ -15,7 +15,7 @@ use moves_table::table;
 use relocate::Settings;
 use relocate_frame::{extent, moving};
 use replay::Outcome;
-use stackmap::Verdict;
+use refusals::Refusal;
 use thread::FRAMES_MOST;
 use thread_search::search;
 
@@ -75,11 +75,11 @@ fn replay_part(
     addresses::gather(t, i, n, &mut keys);
     let mut hits = [0usize; search::HITS_LENGTH];
     match search::find_all(s, &keys, n, &mut hits) {
-        Verdict::Refused(number, place) => Part {
+        Err(Refusal(cause, place)) => Part {
             next: all,
-            known: replay_compare::alike(t, all, i, moving::refused(number, place), kept),
+            known: replay_compare::alike(t, all, i, moving::refused(cause.number(), place), kept),
         },
-        Verdict::Valid(_) => Part {
+        Ok(_) => Part {
             next: i + n,
             known: frames::replay_steps(
                 s, image, first, olds, news, t, all, i, n, &keys, &hits, settings, fault, kept,

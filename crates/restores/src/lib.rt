@@ -1,6 +1,7 @@
 // Restores by the edition that they name, with the machine as a number: the definitions, and the tests that come before a restore's own.
 #![tactic(auto)]
 
+ghost use Rattle.stackmap.specs.Verdict.{verdict};
 ghost use Rattle.std.specs.Prelude.{◌≡◌};
 ghost use Rattle.questions.specs.Questions.{ask};
 ghost use Rattle.restores.specs.Code.{refused_at, Begins};
@@ -8,7 +9,7 @@ ghost use Rattle.restores.specs.Code.{refused_at, Begins};
 use editions::Store;
 use editions_settings as by_number;
 use relocate::{Machine, Settings};
-use stackmap::Verdict;
+use refusals::Refusal;
 
 // AArch64, the machine with the greatest number.
 pub const LAST_MACHINE: u64 = 1;
@@ -41,12 +42,12 @@ fn refused(number: u8, place: usize) -> Begun
 }
 
 // A number that is no machine's: the section's refusal, or 33.
-fn unknown_machine(v: Verdict) -> Begun
-    ensures { result ≡ ask refused_at (refused_at 33 0) v }
+fn unknown_machine(v: Result<usize, Refusal>) -> Begun
+    ensures { result ≡ ask refused_at (refused_at 33 0) (verdict v) }
 {
     match v {
-        Verdict::Valid(_) => refused(NOT_ALLOWED, 0),
-        Verdict::Refused(number, place) => refused(number, place),
+        Ok(_) => refused(NOT_ALLOWED, 0),
+        Err(Refusal(cause, place)) => refused(cause.number(), place),
     }
 }
 

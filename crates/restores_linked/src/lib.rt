@@ -1,6 +1,7 @@
 // The move of a whole thread over a linked section by the edition that it names, with the machine as a number.
 #![tactic(auto)]
 
+ghost use Rattle.stackmap.specs.Verdict.{verdict};
 ghost use Rattle.std.specs.Prelude.{◌≡◌};
 ghost use Rattle.questions.specs.Questions.{ask};
 ghost use Rattle.moves.specs.Settle.{refused_move};
@@ -12,19 +13,19 @@ use editions::Store;
 use moves::Move;
 use relocate_frame::moving;
 use restores::LAST_MACHINE;
-use stackmap::Verdict;
+use refusals::Refusal;
 
 const NOT_ALLOWED: u8 = 33;
 
 const UNKNOWN_EDITION: u8 = 31;
 
 // A number that is no machine's: the maps' refusal or 27, or 33.
-fn unknown_machine(v: Verdict) -> Move
-    ensures { result ≡ ask refused_move (refused_move 33 0) v }
+fn unknown_machine(v: Result<usize, Refusal>) -> Move
+    ensures { result ≡ ask refused_move (refused_move 33 0) (verdict v) }
 {
     match v {
-        Verdict::Valid(_) => moving::refused(NOT_ALLOWED, 0),
-        Verdict::Refused(number, place) => moving::refused(number, place),
+        Ok(_) => moving::refused(NOT_ALLOWED, 0),
+        Err(Refusal(cause, place)) => moving::refused(cause.number(), place),
     }
 }
 

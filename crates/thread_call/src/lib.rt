@@ -10,9 +10,9 @@ ghost use Rattle.thread.specs.Code.{Looked, Ready, Threads, Framed};
 
 use moves::Move;
 use moves_table::table;
+use refusals::Refusal;
 use relocate::{Machine, Settings};
 use relocate_frame::{extent, moving};
-use stackmap::Verdict;
 use stackmap_tables::tables;
 use thread::FRAMES_MOST;
 use thread_search::{addresses, list, search};
@@ -136,8 +136,8 @@ pub fn relocate_thread(
     addresses::gather(list, count, &mut keys);
     let mut hits = [0usize; search::HITS_LENGTH];
     match search::find_all(section, &keys, count, &mut hits) {
-        Verdict::Refused(n, p) => moving::refused(n, p),
-        Verdict::Valid(_) => of_checked(
+        Err(Refusal(cause, place)) => moving::refused(cause.number(), place),
+        Ok(_) => of_checked(
             section, image, registers, first, olds, news, machine, list, count, &keys, &hits,
             settings,
         ),

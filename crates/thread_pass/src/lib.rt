@@ -5,8 +5,7 @@
 
 ghost use Rattle.std.specs.Prelude.{◌≡◌, true, false, ◌+◌, ◌≤◌, ◌<◌, length, drop};
 ghost use Rattle.wire.specs.Word.{word};
-ghost use Rattle.stackmap.specs.Verdict.{Valid, Refused};
-ghost use Rattle.stackmap.specs.Verdict.{shift};
+ghost use Rattle.stackmap.specs.Verdict.{Valid, Refused, verdict, shift};
 ghost use Rattle.stackmap.specs.Section.{num_functions, is_old, constants_at, records_at};
 ghost use Rattle.stackmap.specs.Record.{record_check};
 ghost use Rattle.stackmap.specs.Walk.{owner_at};
@@ -14,7 +13,8 @@ ghost use Rattle.stackmap.proofs.Turns.{Walking};
 ghost use Rattle.stackmap_check.specs.Pass.{Stopped, RightAt};
 ghost use Rattle.thread_pass.specs.Inside.{Inside};
 
-use stackmap::{Turn, Verdict, layout};
+use refusals::{Cause, Refusal};
+use stackmap::{Turn, layout};
 use stackmap_check::walk;
 use stackmap_quick::quick;
 
@@ -46,12 +46,7 @@ fn is_inside(s: &[u8], start: u64, at: usize, below: u64, above: u64) -> bool
     ensures { result ≡ true → Inside below above (start + word 4 s.now (at + 8)) }
 {
     let offset = wire::u32_at(s, at + layout::INSTRUCTION_OFFSET_AT) as u64;
-    if start < above {
-        if offset < above - start {
-            return below < start + offset;
-        }
-    }
-    false
+    start < above && offset < above - start && below < start + offset
 }
 
 // Passes over records from where a walk stands, while quick looks find them right and their addresses lie strictly between the two numbers.
@@ -69,10 +64,9 @@ pub fn between(
     ensures { Stopped s.now constants (Inside below above) from.next from.left count at result.next result.left result.remaining result.at
         × (0 < result.end → RightAt s.now constants result.next result.at result.end) }
 {
-    let mut remaining = count;
     let mut turn = from;
     let mut p = at;
-    while remaining > 0 {
+    for passed in 0..count {
         let t = walk::owner(s, turn);
         let next = t.next;
         let left = t.left;
@@ -82,7 +76,7 @@ pub fn between(
             return Stop {
                 next,
                 left,
-                remaining,
+                remaining: count - passed,
                 at: p,
                 end,
             };
@@ -91,7 +85,7 @@ pub fn between(
             return Stop {
                 next,
                 left,
-                remaining,
+                remaining: count - passed,
                 at: p,
                 end,
             };
@@ -101,14 +95,13 @@ pub fn between(
             next,
             left: left - 1,
         };
-        remaining -= 1;
     }
     let next = turn.next;
     let left = turn.left;
     Stop {
         next,
         left,
-        remaining,
+        remaining: 0,
         at: p,
         end: 0,
     }
@@ -122,23 +115,23 @@ pub fn verdict(
     function: usize,
     at: usize,
     end: usize,
-) -> Verdict
+) -> Result<usize, Refusal>
     requires { (old ≡ is_old s.now) × (constants_at s.now ≤ length s.now) × (is_old s.now ≡ false → function < num_functions s.now) × (at ≤ length s.now)
         × (0 < end → shift at (record_check (is_old s.now) (drop at s.now) constants (owner_at s.now function).function.address) ≡ Valid end) }
-    ensures { result ≡ shift at (record_check (is_old s.now) (drop at s.now) constants (owner_at s.now function).function.address) }
+    ensures { verdict result ≡ shift at (record_check (is_old s.now) (drop at s.now) constants (owner_at s.now function).function.address) }
 {
     if end > 0 {
-        return Verdict::Valid(end);
+        return Ok(end);
     }
     walk::record_at(s, old, constants, function, at)
 }
 
 // The verdict of a walk that has passed all records and ended at `at`: 9 if that is not the section's end.
-pub fn ended(s: &[u8], at: usize) -> Verdict
-    ensures { (at ≡ length s.now → result ≡ Valid at) × ((at ≡ length s.now → ⊥) → result ≡ Refused 9 at) }
+pub fn ended(s: &[u8], at: usize) -> Result<usize, Refusal>
+    ensures { (at ≡ length s.now → verdict result ≡ Valid at) × ((at ≡ length s.now → ⊥) → verdict result ≡ Refused 9 at) }
 {
     if at != s.len() {
-        return Verdict::Refused(9, at);
+        return Err(Refusal(Cause::BytesAfter, at));
     }
-    Verdict::Valid(at)
+    Ok(at)
 }

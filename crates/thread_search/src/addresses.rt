@@ -11,10 +11,8 @@ fn copy(frames: &[u64], count: usize, keys: &mut [u64])
     requires { (frame_numbers * count ≤ length frames.now) × (count ≤ length keys.old) }
     ensures { (j : ℕ) → j < count → get_or keys.new j 0 ≡ get_or frames.now (frame_numbers * j) 0 }
 {
-    let mut k: usize = 0;
-    while k < count {
+    for k in 0..count {
         keys[k] = frames[FRAME_NUMBERS * k];
-        k += 1;
     }
 }
 

@@ -2,7 +2,7 @@
 // first stands for all.
 // No entry point: it requires addresses in order, as `addresses::gather` leaves them.
 ghost use Rattle.std.specs.Prelude.{◌≡◌, ℕ, ◌+◌, ◌^◌, ◌≤◌, ◌<◌, List, length};
-ghost use Rattle.stackmap.specs.Verdict.{Valid};
+ghost use Rattle.stackmap.specs.Verdict.{Valid, verdict};
 ghost use Rattle.stackmap.specs.Section.{records_at, entries};
 ghost use Rattle.stackmap.specs.Check.{section_check, Accepted};
 ghost use Rattle.stackmap.specs.Walk.{Walkable};
@@ -17,9 +17,10 @@ ghost use Rattle.thread_marks.specs.From.{counted_most, Scans};
 
 use questions::Found;
 use questions_find::find;
+use refusals::Refusal;
 use relocate::Frame;
 use sorted_numbers::gap::Gap;
-use stackmap::{Turn, Verdict, layout};
+use stackmap::{Turn, layout};
 use stackmap_check::walk;
 use stackmap_tables::tables;
 use thread::FRAMES_MOST;
@@ -34,10 +35,10 @@ fn walk_all(
     count: usize,
     hits: &mut [usize; HITS_LENGTH],
     base: usize,
-) -> Verdict
+) -> Result<usize, Refusal>
     requires { Walkable s.now × (at ≡ records_at s.now) × (at ≤ length s.now) × (count ≤ frames_most) × Sorted keys.now count
         × Counted hits.old counted_most × (base + length s.now < 2 ^ 64) }
-    ensures { (result ≡ all_records s.now) × Scans keys.now count hits.old hits.new base (entries s.now) result }
+    ensures { (verdict result ≡ all_records s.now) × Scans keys.now count hits.old hits.new base (entries s.now) (verdict result) }
 {
     let constants = wire::u32_at(s, layout::NUM_CONSTANTS_AT);
     let total = wire::u32_at(s, layout::NUM_RECORDS_AT);
@@ -57,37 +58,32 @@ fn walk_all(
         let ahead = stop.remaining;
         let here = stop.at;
         if ahead == 0 {
-            return Verdict::Valid(here);
+            return Ok(here);
         }
         let next = stop.next;
         let left = stop.left;
-        match thread_pass::verdict(s, old, constants, next - 1, here, stop.end) {
-            Verdict::Refused(n, q) => return Verdict::Refused(n, q),
-            Verdict::Valid(end) => {
-                let start = walk::owner_address(s, old, next - 1);
-                let index = (total - ahead) as usize;
-                gap = thread_marks::mark(
-                    s,
-                    start,
-                    index,
-                    next - 1,
-                    here,
-                    keys,
-                    count,
-                    hits,
-                    gap,
-                    base,
-                );
-                p = end;
-            }
-        }
+        p = thread_pass::verdict(s, old, constants, next - 1, here, stop.end)?;
+        let start = walk::owner_address(s, old, next - 1);
+        let index = (total - ahead) as usize;
+        gap = thread_marks::mark(
+            s,
+            start,
+            index,
+            next - 1,
+            here,
+            keys,
+            count,
+            hits,
+            gap,
+            base,
+        );
         turn = Turn {
             next,
             left: left - 1,
         };
         remaining = ahead - 1;
     }
-    Verdict::Valid(p)
+    Ok(p)
 }
 
 // A section that other bytes may follow, `base` bytes into a longer one: its refusal, or where its last record ends, and what it has of the
@@ -98,14 +94,12 @@ pub fn scan_all(
     count: usize,
     hits: &mut [usize; HITS_LENGTH],
     base: usize,
-) -> Verdict
+) -> Result<usize, Refusal>
     requires { (count ≤ frames_most) × Sorted keys.now count × Counted hits.old counted_most × (base + length s.now < 2 ^ 64) }
-    ensures { (result ≡ front_check s.now) × Scans keys.now count hits.old hits.new base (entries s.now) result }
+    ensures { (verdict result ≡ front_check s.now) × Scans keys.now count hits.old hits.new base (entries s.now) (verdict result) }
 {
-    match tables::begin(s) {
-        Verdict::Refused(n, p) => Verdict::Refused(n, p),
-        Verdict::Valid(at) => walk_all(s, at, keys, count, hits, base),
-    }
+    let at = tables::begin(s)?;
+    walk_all(s, at, keys, count, hits, base)
 }
 
 // The check of the section, and what it has of the addresses.
@@ -114,14 +108,12 @@ pub fn find_all(
     keys: &[u64; FRAMES_MOST],
     count: usize,
     hits: &mut [usize; HITS_LENGTH],
-) -> Verdict
+) -> Result<usize, Refusal>
     requires { (count ≤ frames_most) × Sorted keys.now count × Holding keys.now count hits.old (λ a. no_hits) × Counted hits.old 0 }
-    ensures { (result ≡ section_check s.now) × ((e : ℕ) → result ≡ Valid e → Sought s.now keys.now count hits.new) }
+    ensures { (verdict result ≡ section_check s.now) × ((e : ℕ) → verdict result ≡ Valid e → Sought s.now keys.now count hits.new) }
 {
-    match scan_all(s, keys, count, hits, 0) {
-        Verdict::Refused(n, p) => Verdict::Refused(n, p),
-        Verdict::Valid(end) => thread_pass::ended(s, end),
-    }
+    let end = scan_all(s, keys, count, hits, 0)?;
+    thread_pass::ended(s, end)
 }
 
 // The answer to the question by address, for one that was looked for.

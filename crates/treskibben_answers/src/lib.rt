@@ -1,13 +1,14 @@
 // What crosses the C boundary: the structs, and the answers of the layers below turned into them, field by field.
 #![tactic(auto)]
 
+ghost use Rattle.stackmap.specs.Verdict.{verdict};
 ghost use Rattle.std.specs.Prelude.{◌≡◌};
 ghost use Rattle.treskibben_answers.specs.Answer.{answer, move_answer, frame_of, find_answer_of, record_place_of, content_number, location_of, live_out_of};
 ghost use Rattle.questions.specs.Questions.{signed, ask};
 ghost use Rattle.moves.specs.Settle.{refused_move};
 ghost use Rattle.treskibben_answers.specs.Version.{version};
 
-use stackmap::Verdict;
+use refusals::Refusal;
 
 // The number of the interface.
 pub fn version() -> u32
@@ -26,18 +27,18 @@ pub struct Answer {
 }
 
 // The check of a section.
-pub fn check_answer(v: Verdict) -> Answer
-    ensures { result ≡ answer v }
+pub fn check_answer(v: Result<usize, Refusal>) -> Answer
+    ensures { result ≡ answer (verdict v) }
 {
     match v {
-        Verdict::Valid(_) => Answer {
+        Ok(_) => Answer {
             number: 0,
             place: 0,
             value: 0,
         },
-        Verdict::Refused(n, p) => Answer {
-            number: n as u64,
-            place: p as u64,
+        Err(Refusal(cause, place)) => Answer {
+            number: cause.number() as u64,
+            place: place as u64,
             value: 0,
         },
     }
@@ -173,17 +174,17 @@ pub fn written_answer(w: index::Written) -> Answer
 }
 
 // A move for a machine that is not known: the section's refusal, or 33.
-pub fn unknown_machine(v: Verdict) -> Answer
-    ensures { result ≡ move_answer (ask refused_move (refused_move 33 0) v) }
+pub fn unknown_machine(v: Result<usize, Refusal>) -> Answer
+    ensures { result ≡ move_answer (ask refused_move (refused_move 33 0) (verdict v)) }
 {
     match v {
-        Verdict::Valid(_) => Answer {
+        Ok(_) => Answer {
             number: 33,
             place: 0,
             value: 0,
         },
-        Verdict::Refused(number, place) => Answer {
-            number: number as u64,
+        Err(Refusal(cause, place)) => Answer {
+            number: cause.number() as u64,
             place: place as u64,
             value: 0,
         },

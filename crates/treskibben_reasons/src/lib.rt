@@ -1,13 +1,14 @@
 // What crosses the C boundary of the reasons: a reason as a struct of numbers.
 #![tactic(auto)]
 
+ghost use Rattle.stackmap.specs.Verdict.{verdict};
 ghost use Rattle.std.specs.Prelude.{◌≡◌};
 ghost use Rattle.moves.specs.Slots.{memory, register};
 ghost use Rattle.explain.specs.Explain.{slot_of};
 ghost use Rattle.treskibben_reasons.specs.Answer.{reason_answer, unknown_machine};
 
 use explain::{Asked, Reason};
-use stackmap::Verdict;
+use refusals::Refusal;
 
 // The reason's number, 0 unlisted, 1 only a base, 2 null base, 3 moved, 4 refused; of refused its number and place; of moved the lowest pair that
 // derives the slot, the old base and the new base; 0 elsewhere.
@@ -63,12 +64,12 @@ pub fn reason_answer(why: Reason) -> ReasonAnswer
 }
 
 // For a machine that is not known: the section's refusal, or 33.
-pub fn unknown_machine(v: Verdict) -> Reason
-    ensures { result ≡ unknown_machine v }
+pub fn unknown_machine(v: Result<usize, Refusal>) -> Reason
+    ensures { result ≡ unknown_machine (verdict v) }
 {
     match v {
-        Verdict::Valid(_) => Reason::Refused(33, 0),
-        Verdict::Refused(number, place) => Reason::Refused(number, place),
+        Ok(_) => Reason::Refused(33, 0),
+        Err(Refusal(cause, place)) => Reason::Refused(cause.number(), place),
     }
 }
 

@@ -1,3 +1,5 @@
+use mathlib.Core.Path.{ap}
+use Rattle.stackmap.specs.Verdict.{verdict}
 use mathlib.Core.Path.{sym, ◌∙◌}
 use Rattle.questions.proofs.Searched.{section-accepted}
 use Rattle.relocate.specs.Restore.{restore}
@@ -22,15 +24,15 @@ of_accepted-requires c =
 pub relocate_found-requires : goal.relocate_found-requires
 relocate_found-requires c = (c.records-found.ensures, sym c.of_section.ensures ∙ c.if-of_section.false, c.requires)
 
-pub returns-in-Refused : goal.returns-in-Refused
-returns-in-Refused c =
+pub returns-in-Err : goal.returns-in-Err
+returns-in-Err c =
     let a = c.args in
     let R = restore a.section.now a.olds.now a.news.now a.first a.settings in
-    control_refused R a.image.now (stopped a.frame a.registers.now) (sym c.of_accepted.ensures ∙ c.in-Refused.is) c.refused-in-Refused.ensures
+    control_refused R a.image.now (stopped a.frame a.registers.now) (sym c.of_accepted.ensures ∙ ap verdict c.in-Err.is) (rw c.number.ensures at c.refused-in-Err.ensures)
 
-pub returns-in-Valid : goal.returns-in-Valid
-returns-in-Valid c =
+pub returns-in-Ok : goal.returns-in-Ok
+returns-in-Ok c =
     let a = c.args in
     let R = restore a.section.now a.olds.now a.news.now a.first a.settings in
-    let h = sym c.of_accepted.ensures ∙ c.in-Valid.is in
+    let h = sym c.of_accepted.ensures ∙ ap verdict c.in-Ok.is in
     control_base R a.image.now (stopped a.frame a.registers.now) h c.relocate_found.ensures

@@ -1,3 +1,5 @@
+use mathlib.Core.Path.{ap}
+use Rattle.stackmap.specs.Verdict.{verdict}
 use mathlib.Core.Path.{sym, ◌∙◌}
 use Rattle.relocate.specs.Restore.{restore}
 use Rattle.thread.specs.Thread.{thread_of, frames_of}
@@ -12,7 +14,7 @@ find_all-requires c = (c.count-count.ensures.1, c.gather.ensures.sorted, blank_h
 pub of_checked-requires : goal.of_checked-requires
 of_checked-requires c =
     let a = c.args in
-    let v = c.in-Valid.is in
+    let v = ap verdict c.in-Ok.is in
     let f = c.find_all.ensures in
     let n = c.count-count.ensures in (
       record {
@@ -26,11 +28,11 @@ of_checked-requires c =
       c.requires,
     )
 
-pub returns-in-Refused : goal.returns-in-Refused
-returns-in-Refused c =
+pub returns-in-Err : goal.returns-in-Err
+returns-in-Err c =
     let a = c.args in
     let R = restore a.section.now a.olds.now a.news.now a.first a.settings in
     let th = thread_of a.machine a.list.now a.registers.now in
-    let h = sym c.find_all.ensures.0 ∙ c.in-Refused.is in
+    let h = sym c.find_all.ensures.0 ∙ ap verdict c.in-Err.is in
     let rows = thread_rows R a.image.now 0 (frames_of th) in
-    (c.refused.ensures ∙ section_no R a.image.now th _ _ h rows a.rows.now, section-kept R a.image.now th _ _ h rows a.rows.now)
+    ((rw c.number.ensures at c.refused.ensures) ∙ section_no R a.image.now th _ _ h rows a.rows.now, section-kept R a.image.now th _ _ h rows a.rows.now)

@@ -1,3 +1,5 @@
+use mathlib.Core.Path.{ap}
+use Rattle.stackmap.specs.Verdict.{verdict}
 use mathlib.Core.Path.{sym, ◌∙◌}
 use Rattle.relocate.specs.Restore.{restore}
 use Rattle.thread.specs.Thread.{thread_of}
@@ -8,16 +10,16 @@ use Rattle.linked_call.proofs.relocate_linked.Goals as goal
 pub find_all-requires : goal.find_all-requires
 find_all-requires c = (c.count-count.ensures.1, c.gather.ensures.sorted, blank_holds _ _ 16384, blank_counted 16384)
 
-pub returns-in-Refused : goal.returns-in-Refused
-returns-in-Refused c =
+pub returns-in-Err : goal.returns-in-Err
+returns-in-Err c =
     let a = c.args in
-    rw c.refused.ensures
+    rw (c.refused.ensures, c.number.ensures)
     (linked_refused (restore a.section.now a.olds.now a.news.now a.first a.settings) a.image.now (thread_of a.machine a.list.now a.registers.now) _ _
-    (sym c.find_all.ensures.0 ∙ c.in-Refused.is))
+    (sym c.find_all.ensures.0 ∙ ap verdict c.in-Err.is))
 
 pub of_maps-requires : goal.of_maps-requires
 of_maps-requires c =
-    let v = c.in-Valid.is in
+    let v = ap verdict c.in-Ok.is in
     let n = c.count-count.ensures in (
       record {
         standing = (c.find_all.ensures.1 _ v).1;
@@ -30,8 +32,8 @@ of_maps-requires c =
       c.requires,
     )
 
-pub returns-in-Valid : goal.returns-in-Valid
-returns-in-Valid c =
+pub returns-in-Ok : goal.returns-in-Ok
+returns-in-Ok c =
     let a = c.args in
     linked_moved (restore a.section.now a.olds.now a.news.now a.first a.settings) a.image.now (thread_of a.machine a.list.now a.registers.now) _
-    (sym c.find_all.ensures.0 ∙ c.in-Valid.is) c.of_maps.ensures
+    (sym c.find_all.ensures.0 ∙ ap verdict c.in-Ok.is) c.of_maps.ensures

@@ -5,8 +5,5 @@ use Rattle.questions.specs.Kept.{no_stretch, picked}
 use Rattle.questions_locate.proofs.search.Given as goal
 
 -- One walk checks the records and keeps where the wanted one stands.
-abbrev pub invariant-loop-remaining : goal.invariant-loop-remaining
-invariant-loop-remaining l = Folding (picked (is_old l.s) l.wanted) l.s l.constants no_stretch l.turn.next l.turn.left l.remaining l.index l.p l.kept × (l.kept.first + l.kept.size ≤ l.p) × (l.index + l.remaining < 2 ^ 32)
-
-abbrev pub decreases-loop-remaining : goal.decreases-loop-remaining
-decreases-loop-remaining l = l.remaining
+abbrev pub invariant-loop-index : goal.invariant-loop-index
+invariant-loop-index l = Folding (picked (is_old l.s) l.wanted) l.s l.constants no_stretch l.turn.next l.turn.left (l.count - l.index) l.index l.p l.kept × (l.kept.first + l.kept.size ≤ l.p)

@@ -1,3 +1,5 @@
+use mathlib.Core.Path.{ap}
+use Rattle.stackmap.specs.Verdict.{verdict}
 use mathlib.Core.Path.{sym, ◌∙◌}
 use native.Mathlib.Omega.{arith}
 use Rattle.relocate.specs.Restore.{restore}
@@ -11,7 +13,7 @@ find_all-requires c = (omega (arith, c.least-n.ensures), c.gather.ensures.sorted
 pub replay_steps-requires : goal.replay_steps-requires
 replay_steps-requires c =
     let a = c.args in
-    let v = c.in-Valid.is in
+    let v = ap verdict c.in-Ok.is in
     let f = c.find_all.ensures in
     let e = c.least-n.ensures in
     record {
@@ -27,9 +29,9 @@ replay_steps-requires c =
       fault_is = c.requires.3;
     }
 
-pub returns-in-Refused : goal.returns-in-Refused
-returns-in-Refused c =
+pub returns-in-Err : goal.returns-in-Err
+returns-in-Err c =
     let a = c.args in
     let R = restore a.s.now a.olds.now a.news.now a.first a.settings in
-    let k = sym c.find_all.ensures.0 ∙ c.in-Refused.is in
-    (done_alike R _ _ k a.t.now a.all a.i a.kept _ a.image.now (rw c.refused.ensures at c.alike.ensures), c.requires.1, omega arith)
+    let k = sym c.find_all.ensures.0 ∙ ap verdict c.in-Err.is in
+    (done_alike R _ _ k a.t.now a.all a.i a.kept _ a.image.now (rw (c.refused.ensures, c.number.ensures) at c.alike.ensures), c.requires.1, omega arith)

@@ -1,3 +1,5 @@
+use mathlib.Core.Path.{ap}
+use Rattle.stackmap.specs.Verdict.{verdict}
 use mathlib.Core.Path.{sym, ◌∙◌}
 use Rattle.relocate.specs.Restore.{restore}
 use Rattle.thread.specs.Thread.{thread_of}
@@ -10,7 +12,7 @@ find_all-requires c = (c.count-count.ensures.1, c.gather.ensures.sorted, blank_h
 pub of_checked-requires : goal.of_checked-requires
 of_checked-requires c =
     let a = c.args in
-    let v = c.in-Valid.is in
+    let v = ap verdict c.in-Ok.is in
     let f = c.find_all.ensures in
     let n = c.count-count.ensures in (
       record {
@@ -24,9 +26,9 @@ of_checked-requires c =
       c.requires,
     )
 
-pub returns-in-Refused : goal.returns-in-Refused
-returns-in-Refused c =
+pub returns-in-Err : goal.returns-in-Err
+returns-in-Err c =
     let a = c.args in
-    rw c.refused.ensures
+    rw (c.refused.ensures, c.number.ensures)
     (thread-section (restore a.section.now a.olds.now a.news.now a.first a.settings) a.image.now (thread_of a.machine a.list.now a.registers.now) _ _
-    (sym c.find_all.ensures.0 ∙ c.in-Refused.is))
+    (sym c.find_all.ensures.0 ∙ ap verdict c.in-Err.is))

@@ -1,5 +1,4 @@
-use Prim.Native.Nat.{ℕ, ◌+◌}
-use mathlib.Core.Path.{◌≡◌}
+use Prim.Native.Nat.{◌-◌}
 use Rattle.stackmap.specs.Section.{records_at}
 use Rattle.stackmap.proofs.Turns.{Walking}
 use Rattle.stackmap_check.specs.Pass.{Passed}
@@ -7,8 +6,5 @@ use Rattle.thread_pass.specs.Inside.{Inside}
 use Rattle.thread_pass.proofs.between.Given as goal
 
 -- The records that are passed over are right and lie between the two numbers; the walk goes on as it does.
-abbrev pub invariant-loop-remaining : goal.invariant-loop-remaining
-invariant-loop-remaining l = (k : ℕ) × Passed l.s l.constants (Inside l.below l.above) l.initial.turn.next l.initial.turn.left l.count l.at k l.turn.next l.turn.left l.remaining l.p × (k + l.remaining ≡ l.count) × Walking l.s l.constants (records_at l.s) l.turn.next l.turn.left l.remaining l.p
-
-abbrev pub decreases-loop-remaining : goal.decreases-loop-remaining
-decreases-loop-remaining l = l.remaining
+abbrev pub invariant-loop-passed : goal.invariant-loop-passed
+invariant-loop-passed l = Passed l.s l.constants (Inside l.below l.above) l.initial.turn.next l.initial.turn.left l.count l.at l.passed l.turn.next l.turn.left (l.count - l.passed) l.p × Walking l.s l.constants (records_at l.s) l.turn.next l.turn.left (l.count - l.passed) l.p

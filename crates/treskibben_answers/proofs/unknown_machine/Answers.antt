@@ -1,10 +1,10 @@
 use Rattle.questions.specs.Questions.{ask}
 use Rattle.treskibben_answers.proofs.unknown_machine.Goals as goal
 
-pub returns-in-Valid : goal.returns-in-Valid
+pub returns-in-Ok : goal.returns-in-Ok
 unfolding ask
-returns-in-Valid c = rw c.in-Valid.is
+returns-in-Ok c = rw c.in-Ok.is
 
-pub returns-in-Refused : goal.returns-in-Refused
+pub returns-in-Err : goal.returns-in-Err
 unfolding ask
-returns-in-Refused c = rw c.in-Refused.is
+returns-in-Err c = rw (c.in-Err.is, c.number.ensures)

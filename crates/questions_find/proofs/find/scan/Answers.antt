@@ -1,3 +1,5 @@
+use mathlib.Core.Path.{ap}
+use Rattle.stackmap.specs.Verdict.{verdict}
 use mathlib.Core.Path.{sym, ◌∙◌}
 use native.Mathlib.Omega.{arith}
 use Rattle.stackmap.specs.Verdict.{chain}
@@ -7,13 +9,13 @@ use Rattle.questions_find.proofs.find.scan.Goals as goal
 
 pub search-requires : goal.search-requires
 search-requires c =
-    let t = begin_held _ _ (sym c.begin.ensures ∙ c.in-Valid.is) in
+    let t = begin_held _ _ (sym c.begin.ensures ∙ ap verdict c.in-Ok.is) in
     (t.walkable, t.begins, let b = t.begins in let i = t.inside in omega arith)
 
-pub returns-in-Refused : goal.returns-in-Refused
+pub returns-in-Err : goal.returns-in-Err
 unfolding scanned front_check told chain
-returns-in-Refused c = (c.stopped.ensures ∙ rw (sym c.begin.ensures ∙ c.in-Refused.is), rw c.stopped.ensures (record { few = omega arith; inside = omega arith }))
+returns-in-Err c = ((rw c.number.ensures at c.stopped.ensures) ∙ rw (sym c.begin.ensures ∙ ap verdict c.in-Err.is), rw c.stopped.ensures (record { few = omega arith; inside = omega arith }))
 
-pub returns-in-Valid : goal.returns-in-Valid
+pub returns-in-Ok : goal.returns-in-Ok
 unfolding scanned front_check chain
-returns-in-Valid c = (c.search.ensures.0 ∙ rw (sym c.begin.ensures ∙ c.in-Valid.is), c.search.ensures.1)
+returns-in-Ok c = (c.search.ensures.0 ∙ rw (sym c.begin.ensures ∙ ap verdict c.in-Ok.is), c.search.ensures.1)

@@ -1,3 +1,5 @@
+use mathlib.Core.Path.{ap}
+use Rattle.stackmap.specs.Verdict.{verdict}
 use Prim.Native.Nat.{◌+◌, ◌-◌}
 use mathlib.Core.Path.{◌≡◌, sym, ◌∙◌}
 use native.Mathlib.Omega.{arith}
@@ -46,18 +48,18 @@ record_at-requires c =
     let i = c.requires.0.inside in
     (c.is_old-old.ensures, i, (λ z. let m = o.most z in let b = o.begun in omega arith), (kept_on _ _ t l.invariant.2 l.invariant.0).walking.inside)
 
-pub returns-in-Refused : goal.returns-in-Refused
-returns-in-Refused c =
+pub returns-in-Err : goal.returns-in-Err
+returns-in-Err c =
     let l = c.loop-remaining in
     let s = c.pass-stop in
     let t = s.ensures in
     let k = kept_on _ _ t l.invariant.2 l.invariant.0 in
     let n = c.u32_at-constants.ensures in
-    let v = sym c.record_at.ensures ∙ c.in-Refused.is in
-    (c.stopped.ensures ∙ one_wrong _ n k s.result.next s.result.left t.same (t.owned (omega arith)).some v, rw c.stopped.ensures (record { few = omega arith; inside = omega arith }))
+    let v = sym c.record_at.ensures ∙ ap verdict c.in-Err.is in
+    ((rw c.number.ensures at c.stopped.ensures) ∙ one_wrong _ n k s.result.next s.result.left t.same (t.owned (omega arith)).some v, rw c.stopped.ensures (record { few = omega arith; inside = omega arith }))
 
-pub overflow_sub-next-in-Valid : goal.overflow_sub-next-in-Valid
-overflow_sub-next-in-Valid c = let b = (c.pass-stop.ensures.owned (omega arith)).begun in omega arith
+pub overflow_sub-next-in-Ok : goal.overflow_sub-next-in-Ok
+overflow_sub-next-in-Ok c = let b = (c.pass-stop.ensures.owned (omega arith)).begun in omega arith
 
 pub owner_address-start-requires : goal.owner_address-start-requires
 owner_address-start-requires c =
@@ -68,8 +70,8 @@ owner_address-start-requires c =
 pub overflow_sub-index : goal.overflow_sub-index
 overflow_sub-index c = let n = c.pass-stop.ensures.counted in let m = c.loop-remaining.invariant.2 in omega arith
 
-pub overflow_sub-next-in-Valid-2 : goal.overflow_sub-next-in-Valid-2
-overflow_sub-next-in-Valid-2 c = let b = (c.pass-stop.ensures.owned (omega arith)).begun in omega arith
+pub overflow_sub-next-in-Ok-2 : goal.overflow_sub-next-in-Ok-2
+overflow_sub-next-in-Ok-2 c = let b = (c.pass-stop.ensures.owned (omega arith)).begun in omega arith
 
 pub note-hits-requires : goal.note-hits-requires
 note-hits-requires c =
@@ -77,7 +79,7 @@ note-hits-requires c =
     let t = c.pass-stop.ensures in
     let n = t.counted in
     let w = (kept_on _ _ t l.invariant.2 l.invariant.0).walking in
-    let i = here-inside _ _ _ _ _ _ w.inside (sym c.record_at.ensures ∙ c.in-Valid.is) in
+    let i = here-inside _ _ _ _ _ _ w.inside (sym c.record_at.ensures ∙ ap verdict c.in-Ok.is) in
     (c.owner_address-start.ensures, i, omega (arith, l.invariant.1, l.invariant.2), omega (arith, l.invariant.3))
 
 pub overflow_sub-turn : goal.overflow_sub-turn
@@ -95,7 +97,7 @@ loop-remaining-preserved c =
     let n = t.counted in
     let o = t.owned (omega arith) in
     let all = c.u32_at-count.result in
-    let v = sym c.record_at.ensures ∙ c.in-Valid.is in
+    let v = sym c.record_at.ensures ∙ ap verdict c.in-Ok.is in
     let k = kept_on a all t l.invariant.2 l.invariant.0 in
     let f = fold_on (noted a) s.result.next s.result.left k t.same o.some o.begun o.most (omega arith) v in
     let z : all - (s.result.remaining - 1) ≡ all - s.result.remaining + 1 = omega (arith, l.invariant.2) in

@@ -1,3 +1,6 @@
+use Rattle.stackmap.proofs.Passed.{passed}
+use mathlib.Core.Path.{ap}
+use Rattle.stackmap.specs.Verdict.{verdict}
 use Prim.Native.Nat.{◌+◌, ◌-◌}
 use mathlib.Core.Path.{◌≡◌, sym, ◌∙◌}
 use native.Mathlib.Omega.{arith}
@@ -57,19 +60,17 @@ verdict-requires c =
     let i = c.requires.0.inside in
     (c.is_old-old.ensures, i, (λ z. let m = o.most z in let b = o.begun in omega arith), (stop_kept l.invariant.4 _ t.0 l.invariant.2 l.invariant.0).folding.walking.inside, t.1)
 
-pub returns-in-Refused : goal.returns-in-Refused
-returns-in-Refused c =
+pub returns-in_err-p : goal.returns-in_err-p
+returns-in_err-p c =
     let l = c.loop-remaining in
     let s = c.between-stop in
     let t = s.ensures.0 in
     let k = stop_kept l.invariant.4 _ t l.invariant.2 l.invariant.0 in
-    let v = sym c.verdict.ensures ∙ c.in-Refused.is in
+    let v = sym c.verdict.ensures ∙ ap verdict c.in_err-p.was in
     let n = c.u32_at-constants.ensures in
     let w = walk_stop s.result.next s.result.left k.folding.walking t.same (t.owned (omega arith)).some v in
+    rw (passed _ _ c.from_residual.ensures.1)
     (all_are _ _ n _ w, record { noted_all = λ e z. never_valid z; grown = grown-more _ _ (omega (arith, l.invariant.3)) l.invariant.1 })
-
-pub overflow_sub-next-in-Valid : goal.overflow_sub-next-in-Valid
-overflow_sub-next-in-Valid c = let b = (c.between-stop.ensures.0.owned (omega arith)).begun in omega arith
 
 pub owner_address-start-requires : goal.owner_address-start-requires
 owner_address-start-requires c =
@@ -83,16 +84,13 @@ overflow_sub-index c =
     let m = c.loop-remaining.invariant.2 in
     omega arith
 
-pub overflow_sub-next-in-Valid-2 : goal.overflow_sub-next-in-Valid-2
-overflow_sub-next-in-Valid-2 c = let b = (c.between-stop.ensures.0.owned (omega arith)).begun in omega arith
-
 pub mark-gap-requires : goal.mark-gap-requires
 mark-gap-requires c =
     let l = c.loop-remaining in
     let t = c.between-stop.ensures.0 in
     let n = t.counted in
     let k = stop_kept l.invariant.4 _ t l.invariant.2 l.invariant.0 in
-    let v = sym c.verdict.ensures ∙ c.in-Valid.is in
+    let v = sym c.verdict.ensures ∙ ap verdict c.in_ok-p.was in
     let i = here-inside _ _ _ _ _ _ k.folding.walking.inside v in
     let b : Bytes c.args.s.now = record { below = λ j. omega (arith, c.shared_slice_known-1.given j) } in
     (c.owner_address-start.ensures, i, c.requires.6, address-fits c.args.s.now _ _ _ _ _ b v, c.requires.3, c.requires.4, counted-grown _ _ _ (omega (arith, l.invariant.3)) l.invariant.1 c.requires.5, l.invariant.4)
@@ -111,7 +109,7 @@ loop-remaining-preserved c =
     let n = t.counted in
     let o = t.owned (omega arith) in
     let all = c.u32_at-total.result in
-    let v = sym c.verdict.ensures ∙ c.in-Valid.is in
+    let v = sym c.verdict.ensures ∙ ap verdict c.in_ok-p.was in
     let k = stop_kept l.invariant.4 all t l.invariant.2 l.invariant.0 in
     let f = fold_on (noted_from _) s.result.next s.result.left k.folding t.same o.some o.begun o.most (omega arith) v in
     let z : all - (s.result.remaining - 1) ≡ all - s.result.remaining + 1 = omega (arith, n, l.invariant.2) in (
