@@ -16,7 +16,6 @@ ghost use Rattle.report_records.specs.Counts.{as_totals, grown, Most};
 
 use relocate_pairs::statepoint;
 use report::Kinds;
-use report_walker::Step;
 use stackmap::layout;
 use stackmap_tables::shape;
 
@@ -66,8 +65,6 @@ fn kinds_of(s: &[u8], old: bool, count: usize) -> Kinds
     ensures { (result ≡ kinds_of (many (read_location old) (location_size old) count s.now 16)) × KindsMost count result }
 {
     let step = layout::location_size(old);
-    let mut p: usize = layout::RECORD_HEAD_SIZE;
-    let mut left = count;
     let mut kinds = Kinds {
         register: 0,
         direct: 0,
@@ -75,10 +72,9 @@ fn kinds_of(s: &[u8], old: bool, count: usize) -> Kinds
         constant: 0,
         pool: 0,
     };
-    while left > 0 {
+    for i in 0..count {
+        let p = layout::RECORD_HEAD_SIZE + step * i;
         kinds = with_kind(kinds, s[p]);
-        p += step;
-        left -= 1;
     }
     kinds
 }
@@ -140,19 +136,19 @@ pub fn records(s: &[u8], at: usize) -> Walked
     };
     loop {
         match report_walker::next_from(s, place) {
-            Step::Refused(_, _) => {
+            Err(_) => {
                 return Walked {
                     accepted: false,
                     counts,
                 };
             }
-            Step::End => {
+            Ok(None) => {
                 return Walked {
                     accepted: place.at == s.len(),
                     counts,
                 };
             }
-            Step::Passed(after) => {
+            Ok(Some(after)) => {
                 counts = sum(counts, record_counts(s, place.old, place.at));
                 place = after;
             }

@@ -1,8 +1,7 @@
+use Prim.Native.Nat.{◌+◌, ◌*◌, ◌-◌}
+use Rattle.stackmap.specs.Layout.{location_size}
 use Rattle.report_records.proofs.Kindred.{Counting}
 use Rattle.report_records.proofs.kinds_of.Given as goal
 
-abbrev pub invariant-loop-left : goal.invariant-loop-left
-invariant-loop-left l = Counting l.old l.s l.count l.p l.left l.kinds
-
-abbrev pub decreases-loop-left : goal.decreases-loop-left
-decreases-loop-left l = l.left
+abbrev pub invariant-loop-i : goal.invariant-loop-i
+invariant-loop-i l = Counting l.old l.s l.count (16 + location_size l.old * l.i) (l.count - l.i) l.kinds
