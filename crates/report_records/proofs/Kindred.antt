@@ -11,7 +11,7 @@ use Rattle.wire.specs.Word.{word}
 use Rattle.stackmap.specs.Layout.{location_size}
 use Rattle.stackmap.specs.Fields.{many}
 use Rattle.stackmap.specs.Section.{Location, read_location}
-use Rattle.stackmap.proofs.Steps.{many_step}
+use Rattle.stackmap.proofs.Steps.{mul_step, many_step, fewer, next_place}
 use Rattle.report.specs.declared.Kinds.{Kinds}
 use Rattle.report.specs.Totals.{no_kinds, plus_kinds, one, of_kind, kinds_of}
 use Rattle.report.specs.Bounds.{KindsMost}
@@ -70,7 +70,13 @@ module _ (old : Bool) (s : List ℕ) (count : ℕ) where
         few = omega arith;
       }
 
-  pub count-end : (i : ℕ) (kinds : Kinds) → Counting old s count i kinds → i ≡ count → (kinds ≡ kinds_of (locations old count s 16)) × KindsMost count kinds
+  -- the same for a loop that counts up: location number i of them
+  pub count_turn : (i : ℕ) (kinds kinds' : Kinds) → Counting old s count (16 + location_size old * i) (count - i) kinds → i < count
+      → kinds' ≡ plus_kinds kinds (of_kind (get_or s (16 + location_size old * i) 0))
+      → Counting old s count (16 + location_size old * (i + 1)) (count - (i + 1)) kinds'
+  count_turn i kinds kinds' h l e = rw (← next_place (location_size old) 16 i, ← fewer count i) (count_on _ _ kinds kinds' h (omega arith) e)
+
+  pub count-end : (p left : ℕ) (kinds : Kinds) → Counting old s count p left kinds → left ≡ 0 → (kinds ≡ kinds_of (locations old count s 16)) × KindsMost count kinds
   unfolding kinds_of many
   count-end i kinds h z =
       let n : count - i ≡ 0 = omega arith in

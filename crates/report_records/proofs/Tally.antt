@@ -1,4 +1,7 @@
 -- The walk over the records: it checks them and keeps what they add.
+use Rattle.std.specs.Prelude.{Option, None, Some, Result, Ok, Err}
+use Rattle.refusals.specs.declared.Refusal.{Refusal}
+use Rattle.refusals.specs.Refusal.{number_of_cause}
 use Prim.Native.Nat.{ℕ, ◌+◌, ◌-◌, ◌≤◌, ◌<◌}
 use mathlib.Core.Path.{◌≡◌, refl, sym, ◌∙◌}
 use mathlib.Core.Bool.{Bool, true, false}
@@ -18,8 +21,6 @@ use Rattle.relocate.specs.Code.{record_of, RecordInside}
 use Rattle.report.specs.Totals.{none, no_kinds, plus, total, of_record, of_entry, total_most}
 use Rattle.report.proofs.Plus.{plus_none}
 use Rattle.report_walker.specs.declared.Place.{Place}
-use Rattle.report_walker.specs.declared.Step.{Step}
-use Rattle.report_walker.specs.declared.Step.TheVariants as Steps
 use Rattle.report_walker.specs.Step.{First, Standing, Passing, Refusing, Stepping}
 use Rattle.report_records.specs.declared.Counts.{Counts}
 use Rattle.report_records.specs.Counts.{as_totals, grown, Most, with_entry}
@@ -37,14 +38,15 @@ pub record Tallying (s : List ℕ) (p : Place) (counts : Counts) : Type 0 where
   pub most : Most p.at counts
 
 -- what a step tells
-pub passes : {s : List ℕ} {p q : Place} {r : Step} → Stepping s p r → r ≡ Steps.Passed q → Passing s p q
-passes h e = rw e at h
+pub passes : {s : List ℕ} {p q : Place} {r : Result (Option Place) Refusal} {o : Option Place} → Stepping s p r → r ≡ Ok o → o ≡ Some q → Passing s p q
+passes h e f = rw f at (rw e at h)
 
-pub refuses : {s : List ℕ} {p : Place} {r : Step} {n at : ℕ} → Stepping s p r → r ≡ Steps.Refused n at → Refusing s p n at
+pub refuses : {s : List ℕ} {p : Place} {r : Result (Option Place) Refusal} {f : Refusal} → Stepping s p r → r ≡ Err f
+    → Refusing s p (number_of_cause f.0) f.1
 refuses h e = rw e at h
 
-pub ends : (s : List ℕ) (p : Place) (r : Step) → Stepping s p r → r ≡ Steps.End → p.remaining ≡ 0
-ends s p r h e = rw e at h
+pub ends : (s : List ℕ) (p : Place) (r : Result (Option Place) Refusal) {o : Option Place} → Stepping s p r → r ≡ Ok o → o ≡ None → p.remaining ≡ 0
+ends s p r h e f = rw f at (rw e at h)
 
 module _ (s : List ℕ) (w : Walkable s) (t : records_at s ≤ length s) where
   pub tally_start : {p : Place} → First s p → p.remaining < 4294967296 → Tallying s p no_counts

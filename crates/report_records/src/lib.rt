@@ -16,7 +16,6 @@ ghost use Rattle.report_records.specs.Counts.{as_totals, grown, Most};
 
 use relocate_pairs::statepoint;
 use report::Kinds;
-use report_walker::Step;
 use stackmap::layout;
 use stackmap_tables::shape;
 
@@ -71,7 +70,8 @@ fn kinds_of(s: &[u8], old: bool, count: usize) -> Kinds
         pool: 0,
     };
     for i in 0..count {
-        kinds = with_kind(kinds, s[layout::RECORD_HEAD_SIZE + step * i]);
+        let p = layout::RECORD_HEAD_SIZE + step * i;
+        kinds = with_kind(kinds, s[p]);
     }
     kinds
 }
@@ -133,19 +133,19 @@ pub fn records(s: &[u8], at: usize) -> Walked
     };
     loop {
         match report_walker::next_from(s, place) {
-            Step::Refused(_, _) => {
+            Err(_) => {
                 return Walked {
                     accepted: false,
                     counts,
                 };
             }
-            Step::End => {
+            Ok(None) => {
                 return Walked {
                     accepted: place.at == s.len(),
                     counts,
                 };
             }
-            Step::Passed(after) => {
+            Ok(Some(after)) => {
                 counts = sum(counts, record_counts(s, place.old, place.at));
                 place = after;
             }

@@ -1,6 +1,8 @@
 -- For the code alone: nothing here has to be believed.
 -- Where a walker can stand, and what a step from there gives.
-use Rattle.std.specs.Prelude.{ℕ, ◌+◌, ◌-◌, ◌≤◌, ◌<◌, ◌≡◌, false, List, length, drop}
+use Rattle.std.specs.Prelude.{ℕ, ◌+◌, ◌-◌, ◌≤◌, ◌<◌, ◌≡◌, false, List, length, drop, Option, None, Some, Result, Ok, Err}
+use Rattle.refusals.specs.declared.Refusal.{Refusal}
+use Rattle.refusals.specs.Refusal.{number_of_cause}
 use Rattle.stackmap.specs.Verdict.{Verdict}
 use Rattle.stackmap.specs.Verdict.{Valid, Refused}
 use Rattle.stackmap.specs.Verdict.{shift}
@@ -8,8 +10,6 @@ use Rattle.stackmap.specs.Section.{num_functions, num_constants, num_records, is
 use Rattle.stackmap.specs.Record.{record_check}
 use Rattle.stackmap.specs.Walk.{owner_at, ahead, first_turn, Turning}
 use Rattle.report_walker.specs.declared.Place.{Place}
-use Rattle.report_walker.specs.declared.Step.{Step}
-use Rattle.report_walker.specs.declared.Step.TheVariants as Steps
 
 -- the place before the first record
 pub record First (s : List ℕ) (p : Place) : Type 0 where
@@ -58,7 +58,8 @@ pub record Refusing (s : List ℕ) (p : Place) (n at : ℕ) : Type 0 where
   pub owner : Owned s p next left
   pub refused : verdict_at s p (next - 1) ≡ Refused n at
 
-abbrev pub Stepping : List ℕ → Place → Step → Type 0
-Stepping s p (Steps.Passed q) = Passing s p q
-Stepping s p (Steps.Refused n at) = Refusing s p n at
-Stepping s p Steps.End = p.remaining ≡ 0
+-- what a step answers: the place after a valid record, that no record is ahead, or a refusal
+abbrev pub Stepping : List ℕ → Place → Result (Option Place) Refusal → Type 0
+Stepping s p (Ok (Some q)) = Passing s p q
+Stepping s p (Ok None) = p.remaining ≡ 0
+Stepping s p (Err r) = Refusing s p (number_of_cause r.0) r.1

@@ -8,7 +8,8 @@ ghost use Rattle.stackmap.specs.Section.{records_at};
 ghost use Rattle.stackmap.specs.Walk.{Walkable};
 ghost use Rattle.report_walker.specs.Step.{Standing, First, Stepping};
 
-use stackmap::{Turn, Verdict, layout};
+use refusals::Refusal;
+use stackmap::{Turn, layout};
 use stackmap_check::walk;
 use stackmap_tables::tables;
 
@@ -31,16 +32,6 @@ pub struct Walker<'a> {
     pub place: Place,
 }
 
-#[derive(Clone, Copy)]
-pub enum Step {
-    // A record that is valid, and the place after it.
-    Passed(Place),
-    // The number of a refusal, and its place.
-    Refused(u8, usize),
-    // No record is ahead.
-    End,
-}
-
 // The place before the first record, which begins at `at`.
 pub fn first(s: &[u8], at: usize) -> Place
     requires { Walkable s.now × (at ≡ records_at s.now) × (at ≤ length s.now) }
@@ -59,13 +50,13 @@ pub fn first(s: &[u8], at: usize) -> Place
     }
 }
 
-// The record at a place: its check, and the place after it.
-pub fn step_at(s: &[u8], place: Place) -> Step
+// The record at a place: its refusal, or the place after it; nothing where no record is ahead.
+pub fn step_at(s: &[u8], place: Place) -> Result<Option<Place>, Refusal>
     requires { Standing s.now place }
     ensures { Stepping s.now place result }
 {
     if place.remaining == 0 {
-        return Step::End;
+        return Ok(None);
     }
     let turn = walk::owner(
         s,
@@ -75,18 +66,15 @@ pub fn step_at(s: &[u8], place: Place) -> Step
         },
     );
     let next = turn.next;
-    match walk::record_at(s, place.old, place.constants, next - 1, place.at) {
-        Verdict::Refused(n, p) => Step::Refused(n, p),
-        Verdict::Valid(end) => Step::Passed(Place {
-            old: place.old,
-            constants: place.constants,
-            next,
-            left: turn.left - 1,
-            remaining: place.remaining - 1,
-            number: place.number + 1,
-            at: end,
-        }),
-    }
+    let end = walk::record_at(s, place.old, place.constants, next - 1, place.at)?;
+    Ok(Some(Place {
+        next,
+        left: turn.left - 1,
+        remaining: place.remaining - 1,
+        number: place.number + 1,
+        at: end,
+        ..place
+    }))
 }
 
 // A walker at a place of a section.
@@ -97,7 +85,7 @@ pub fn open_at<'a>(section: &'a [u8], place: Place) -> Walker<'a>
 }
 
 // What stands at the walker's place.
-pub fn next<'a>(w: Walker<'a>) -> Step
+pub fn next<'a>(w: Walker<'a>) -> Result<Option<Place>, Refusal>
     requires { Standing w.section.now w.place }
     ensures { Stepping w.entry.section.now w.entry.place result }
 {
@@ -105,7 +93,7 @@ pub fn next<'a>(w: Walker<'a>) -> Step
 }
 
 // One step of a walker that is opened at a place: for a loop over plain values.
-pub fn next_from(s: &[u8], place: Place) -> Step
+pub fn next_from(s: &[u8], place: Place) -> Result<Option<Place>, Refusal>
     requires { Standing s.now place }
     ensures { Stepping s.now place result }
 {
