@@ -7,7 +7,7 @@ use native.Mathlib.Omega.{arith}
 use lib.Dec.{leb}
 use lib.ListN.{length, set, take, drop}
 use Rattle.wire.specs.Word.{word}
-use Rattle.stackmap.specs.declared.Verdict.TheVariants.{Valid}
+use Rattle.stackmap.specs.Verdict.{Valid}
 use Rattle.stackmap.specs.Section.{num_functions, num_constants, is_old, records_at, record_length, read_record, address}
 use Rattle.stackmap.specs.Record.{record_bytes, record_check}
 use Rattle.stackmap.specs.Check.{records_check, walk_check, Accepted}
