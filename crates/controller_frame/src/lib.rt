@@ -9,9 +9,9 @@ ghost use Rattle.controller.specs.Kept.{Controls};
 
 use moves::Move;
 use questions_find::find;
+use refusals::Refusal;
 use relocate::{Frame, Settings};
 use relocate_frame::moving;
-use refusals::Refusal;
 
 // Relocates one frame as `relocate_frame::relocate` does, and between 1 to 9 and 33: 50. The section is searched and checked once.
 // No entry point: it requires settings that the crates above have read or made.

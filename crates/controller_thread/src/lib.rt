@@ -8,9 +8,9 @@ ghost use Rattle.thread.specs.Thread.{thread_of};
 ghost use Rattle.controller.specs.Kept.{ControlsThread};
 
 use moves::Move;
+use refusals::Refusal;
 use relocate::{Machine, Settings};
 use relocate_frame::moving;
-use refusals::Refusal;
 
 // Relocates the frames of a list as `thread_call::relocate_thread` does, and between 1 to 9 and 33: 50. What keeps the profile has at most 64
 // records, so that they are walked over a second time.

@@ -12,9 +12,9 @@ ghost use Rattle.explain_frames.specs.Rows.{explain_thread, explain_thread_list}
 use explain_rows::ROW_NUMBERS;
 use explain_thread_rows::put_frames;
 use moves::Move;
+use refusals::Refusal;
 use relocate::{Machine, Settings};
 use relocate_frame::moving;
-use refusals::Refusal;
 use thread::FRAMES_MOST;
 use thread_search::search::HITS_LENGTH;
 use thread_search::{addresses, list, search};

@@ -11,9 +11,9 @@ ghost use Rattle.linked_call.specs.Code.{LinkedThreads};
 
 use linked_moves::SITES_LENGTH;
 use moves::Move;
+use refusals::Refusal;
 use relocate::{Machine, Settings};
 use relocate_frame::moving;
-use refusals::Refusal;
 use thread::FRAMES_MOST;
 use thread_search::search::HITS_LENGTH;
 use thread_search::{addresses, list};

@@ -12,10 +12,10 @@ ghost use Rattle.replay.specs.Code.{steps_from, Holds, Done};
 ghost use Rattle.replay.specs.Code as spec;
 
 use moves_table::table;
+use refusals::Refusal;
 use relocate::Settings;
 use relocate_frame::{extent, moving};
 use replay::Outcome;
-use refusals::Refusal;
 use thread::FRAMES_MOST;
 use thread_search::search;
 

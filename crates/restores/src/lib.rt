@@ -8,8 +8,8 @@ ghost use Rattle.restores.specs.Code.{refused_at, Begins};
 
 use editions::Store;
 use editions_settings as by_number;
-use relocate::{Machine, Settings};
 use refusals::Refusal;
+use relocate::{Machine, Settings};
 
 // AArch64, the machine with the greatest number.
 pub const LAST_MACHINE: u64 = 1;

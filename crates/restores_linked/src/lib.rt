@@ -11,9 +11,9 @@ ghost use Rattle.restores_linked.specs.Code.{LinkedUnder};
 
 use editions::Store;
 use moves::Move;
+use refusals::Refusal;
 use relocate_frame::moving;
 use restores::LAST_MACHINE;
-use refusals::Refusal;
 
 const NOT_ALLOWED: u8 = 33;
 
