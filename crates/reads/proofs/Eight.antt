@@ -1,9 +1,12 @@
 -- The number in eight bytes, byte by byte; and the places that are still to be read.
 use Prim.Native.Nat.{ℕ, suc, ◌+◌, ◌*◌, ◌<◌, ◌≤◌}
-use mathlib.Core.Path.{◌≡◌, ap}
-use mathlib.Core.List.{List, [], ◌∷◌}
+use mathlib.Core.Path.{◌≡◌, refl, ap}
+use mathlib.Core.Bool.{Bool, true, false, cond}
+use mathlib.Core.List.{List}
 use native.Mathlib.Omega.{arith}
-use borrow.Author.Tests.{le-leb, lt-leb, eq-eqb, ne_eqb}
+use borrow.Author.Tests.{le-leb, lt-leb}
+use lib.Dec.{eqb}
+use mir.Val.{bool_byte}
 use lib.ListN.{length, get_or, drop}
 use lib.Seq.{drop-cons, drop-length}
 use Rattle.wire.specs.Word.{word}
@@ -21,20 +24,23 @@ eight s at =
     let p7 : at + 6 + 1 ≡ at + 7 = omega arith in
     rw (p2, p3, p4, p5, p6, p7) (omega arith)
 
+one_or_none : (b : Bool) → bool_byte b ≡ cond b 1 0
+one_or_none true = refl
+one_or_none false = refl
+
+pub one_at_most : (b : Bool) → bool_byte b ≤ 1
+one_at_most true = omega arith
+one_at_most false = omega arith
+
 -- one place
 module _ (s : List ℕ) (number at : ℕ) where
   pub hit_past : length s < at + 8 → 0 ≡ hit_at s number at
   unfolding hit_at
   hit_past h = rw (lt-leb (at + 8) (length s) h)
 
-  module _ (i : at + 8 ≤ length s) where
-    pub hit_yes : word 8 s at ≡ number → 1 ≡ hit_at s number at
-    unfolding hit_at
-    hit_yes h = rw (le-leb (at + 8) (length s) i, eq-eqb (word 8 s at) number h)
-
-    pub hit_no : (word 8 s at ≡ number → ⊥) → 0 ≡ hit_at s number at
-    unfolding hit_at
-    hit_no h = rw (le-leb (at + 8) (length s) i, ne_eqb (word 8 s at) number h)
+  pub hit_here : at + 8 ≤ length s → bool_byte (eqb (word 8 s at) number) ≡ hit_at s number at
+  unfolding hit_at
+  hit_here i = rw (le-leb (at + 8) (length s) i) (one_or_none (eqb (word 8 s at) number))
 
 -- so many have been found among the first i places
 pub record Counting (s : List ℕ) (number : ℕ) (places : List ℕ) (found i : ℕ) : Type 0 where
