@@ -27,6 +27,7 @@ pub struct Edition {
 }
 
 // The greatest number ever used, and the places.
+// Kept: this struct and the three answers below are the C interface, with 0 for a free place and for no refusal.
 #[repr(C)]
 #[derive(Clone, Copy)]
 pub struct Store {

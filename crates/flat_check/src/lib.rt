@@ -10,6 +10,7 @@ mod ranges;
 mod reserved;
 
 // The check of a whole section: the number of the refusal, 36 to 40 in document 02's order, or 0.
+// Kept: a number and no Result, since the contract equals it with the definition `flat_check`, which C gets.
 pub fn check(s: &[u8]) -> u8
     ensures { result ≡ flat_check s.now }
 {

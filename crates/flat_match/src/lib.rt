@@ -12,6 +12,7 @@ use flat::{layout, offsets};
 pub mod keys;
 
 // The number of a refusal, or 0 and the numbers of frame and record. The place is always 0.
+// Kept: a flag beside values, since the contracts of `find` and of keys' `in_frame` equal it with definitions of this record, which C gets.
 #[derive(Clone, Copy)]
 pub struct MatchAnswer {
     pub number: u8,

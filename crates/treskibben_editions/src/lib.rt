@@ -8,6 +8,7 @@ ghost use Rattle.editions.specs.Store as answers;
 ghost use Rattle.treskibben_editions.specs.Answer.{make_answer, retire_answer, read_answer};
 
 // A refusal's number and place, or 0 and 0 and the new edition's number; and the store that is left.
+// Kept: number and place in each answer, and the store in and out by value, are the C interface.
 #[repr(C)]
 #[derive(Clone, Copy)]
 pub struct MakeAnswer {
@@ -20,12 +21,11 @@ pub struct MakeAnswer {
 fn make_answer(m: editions::Made) -> MakeAnswer
     ensures { result ≡ make_answer m }
 {
-    let store = m.store;
     MakeAnswer {
         number: m.number,
         place: 0,
         edition: m.edition,
-        store,
+        store: m.store,
     }
 }
 
@@ -48,11 +48,10 @@ pub struct RetireAnswer {
 fn retire_answer(t: editions::Retired) -> RetireAnswer
     ensures { result ≡ retire_answer t }
 {
-    let store = t.store;
     RetireAnswer {
         number: t.number,
         place: 0,
-        store,
+        store: t.store,
     }
 }
 
@@ -75,11 +74,10 @@ pub struct ReadAnswer {
 fn read_answer(d: editions::Read) -> ReadAnswer
     ensures { result ≡ read_answer d }
 {
-    let settings = d.settings;
     ReadAnswer {
         number: d.number,
         place: 0,
-        settings,
+        settings: d.settings,
     }
 }
 

@@ -6,6 +6,7 @@ ghost use Rattle.std.specs.Prelude.{◌≡◌};
 ghost use Rattle.treskibben_flat.specs.Flat.{checked, matched, constant_of, frame_of, register_of, record_of, location_of, live_out_of};
 
 // A refusal's number and place, or 0 and 0 and the value that the call is for.
+// Kept: number and place in each answer are the C interface.
 #[repr(C)]
 #[derive(Clone, Copy)]
 pub struct Answer {
@@ -18,7 +19,7 @@ pub fn checked_answer(n: u8) -> Answer
     ensures { result ≡ checked n }
 {
     Answer {
-        number: n as u64,
+        number: u64::from(n),
         place: 0,
         value: 0,
     }
@@ -28,7 +29,7 @@ pub fn constant_answer(c: flat_read::ConstantAnswer) -> Answer
     ensures { result ≡ constant_of c }
 {
     Answer {
-        number: c.number as u64,
+        number: u64::from(c.number),
         place: c.place as u64,
         value: c.value,
     }
@@ -48,7 +49,7 @@ pub fn match_answer(f: flat_match::MatchAnswer) -> Match
     ensures { result ≡ matched f }
 {
     Match {
-        number: f.number as u64,
+        number: u64::from(f.number),
         place: f.place as u64,
         frame: f.frame as u64,
         index: f.index as u64,
@@ -76,7 +77,7 @@ pub fn frame_answer(f: flat_read::FrameAnswer) -> Frame
     ensures { result ≡ frame_of f }
 {
     Frame {
-        number: f.number as u64,
+        number: u64::from(f.number),
         place: f.place as u64,
         address: f.address,
         size: f.size,
@@ -106,7 +107,7 @@ pub fn register_answer(g: flat_read::RegisterAnswer) -> Register
     ensures { result ≡ register_of g }
 {
     Register {
-        number: g.number as u64,
+        number: u64::from(g.number),
         place: g.place as u64,
         register: g.register,
         offset: g.offset,
@@ -135,7 +136,7 @@ pub fn record_answer(e: flat_read::RecordAnswer) -> Record
     ensures { result ≡ record_of e }
 {
     Record {
-        number: e.number as u64,
+        number: u64::from(e.number),
         place: e.place as u64,
         id: e.id,
         offset: e.offset,
@@ -163,7 +164,7 @@ pub fn location_answer(l: flat_read::LocationAnswer) -> Location
     ensures { result ≡ location_of l }
 {
     Location {
-        number: l.number as u64,
+        number: u64::from(l.number),
         place: l.place as u64,
         offset: l.offset,
         register: l.register,
@@ -185,7 +186,7 @@ pub fn live_out_answer(l: flat_read::LiveOutAnswer) -> LiveOut
     ensures { result ≡ live_out_of l }
 {
     LiveOut {
-        number: l.number as u64,
+        number: u64::from(l.number),
         place: l.place as u64,
         register: l.register,
         size: l.size,
