@@ -13,10 +13,9 @@ ghost use Rattle.explain_pointers.specs.Told.{number_of, told_of, told};
 
 use explain::{Asked, Reason};
 use explain_pointers::{first_moved, named, numbers};
-use moves::{NewStart, PAIRS_MOST};
+use moves::PAIRS_MOST;
 use moves_slots::slots;
 use moves_table::table;
-use relocate::Spot;
 use relocate_pairs::pairs;
 
 // Where the object of an old base is now.
@@ -24,10 +23,7 @@ fn new_start(olds: &[u64], news: &[u64], base: u64) -> u64
     requires { table_right olds.now news.now ≡ true }
     ensures { result ≡ or_zero (look_up olds.now news.now base) }
 {
-    match table::look_up(olds, news, base) {
-        NewStart::At(to) => to,
-        NewStart::Nothing => 0,
-    }
+    table::look_up(olds, news, base).unwrap_or(0)
 }
 
 // The slot by its number x. The record at `at` has `count` pairs, from location `start` on, which are `pointers` pointers.
@@ -91,10 +87,10 @@ pub fn reason(
         (look_up olds.now news.now) pointers (pointers_by old (pool_of s.now) f (record_of s.now at)) (number_of sp (slot_of asked)) }
 {
     match numbers::number_of(asked, sp) {
-        Spot::At(x) => of_number(
+        Some(x) => of_number(
             s, at, start, count, old, window, registers, live, bases, derived, pointers, olds,
             news, x,
         ),
-        Spot::Outside => Reason::Unlisted,
+        None => Reason::Unlisted,
     }
 }

@@ -69,18 +69,17 @@ module _ (table : ℕ → Option ℕ) (live vs : List ℕ) where
   unknown-start n = low-start (unknown_at table live vs) n
 
 -- the code's two wrapping operations make the new content
-wrap : (d o v x : ℕ) → v < 2 ^ 64 → (x + v) % 2 ^ 64 ≡ o → (d + x) % 2 ^ 64 ≡ (d + o + (2 ^ 64 - v)) % 2 ^ 64
-wrap d o v x a e = omega arith
+wrap : (d o v : ℕ) → v < 2 ^ 64 → (d + (o + (2 ^ 64 - v)) % 2 ^ 64) % 2 ^ 64 ≡ (d + o + (2 ^ 64 - v)) % 2 ^ 64
+wrap d o v a = omega arith
 
-moved-is : (table : ℕ → Option ℕ) (d v x r n : ℕ) → v < 2 ^ 64 → table v ≡ some n → (x + v) % 2 ^ 64 ≡ n → r ≡ (d + x) % 2 ^ 64
-    → r ≡ new_derived table d v
+moved-is : (table : ℕ → Option ℕ) (d v n : ℕ) → v < 2 ^ 64 → table v ≡ some n → (d + (n + (2 ^ 64 - v)) % 2 ^ 64) % 2 ^ 64 ≡ new_derived table d v
 unfolding new_derived
-moved-is table d v x r n a e s t = t ∙ wrap d n v x a s ∙ rw e
+moved-is table d v n a e = wrap d n v a ∙ rw e
 
-pub content-new : (table : ℕ → Option ℕ) (d v x r n : ℕ) → v < 2 ^ 64 → table v ≡ some n → (x + v) % 2 ^ 64 ≡ n → r ≡ (d + x) % 2 ^ 64
-    → some r ≡ content_of table d v
+pub content-new : (table : ℕ → Option ℕ) (d v n : ℕ) → v < 2 ^ 64 → table v ≡ some n
+    → some ((d + (n + (2 ^ 64 - v)) % 2 ^ 64) % 2 ^ 64) ≡ content_of table d v
 unfolding content_of
-content-new table d v x r n a e s t = ap some (moved-is table d v x r n a e s t) ∙ (let h : is_none (table v) ≡ false = rw e in rw h)
+content-new table d v n a e = ap some (moved-is table d v n a e) ∙ (let h : is_none (table v) ≡ false = rw e in rw h)
 
 pub content-unknown : (table : ℕ → Option ℕ) (d v : ℕ) → table v ≡ none → none ≡ content_of table d v
 unfolding content_of

@@ -16,7 +16,7 @@ use Rattle.moves.specs.Pointers.{Pointer, slots, new_content}
 use Rattle.moves.specs.Settle.{refused_move, settled, settle}
 use Rattle.moves.specs.Plan.{Plan, refuse, window, at_pair}
 use Rattle.moves.proofs.Splice.{in?, part_length, part_at}
-use Rattle.moves.proofs.Cells.{Cell, byte, whole, at, Touches, SlotIn}
+use Rattle.moves.proofs.Cells.{byte, whole, Touches, SlotIn}
 use Rattle.moves.proofs.Writes.{Inside}
 use Rattle.moves.proofs.Order.{settle_shape, settle-hit, settle_miss, settle-refused}
 use Rattle.moves.proofs.Tasks.{Task, Good, answer_in, new_part, AllApart, Separate, run_answers, run_left, run-answers, run-hit, run_miss}

@@ -1,25 +1,19 @@
 -- For the code alone: nothing here has to be believed.
 -- What the code's arrays and values hold. Pair k is null where `live` is 0 at k; `bases` and `derived` are its slots, as numbers.
-use Rattle.std.specs.Prelude.{ℕ, zero, suc, ◌+◌, ◌-◌, ◌/◌, ◌%◌, ◌≤◌, ◌<◌, ◌≡◌, Bool, false, cond, not, ◌&&◌, ◌||◌, List, [], ◌∷◌, eqb, ltb, get_or, set}
+use Rattle.std.specs.Prelude.{ℕ, zero, suc, ◌+◌, ◌-◌, ◌/◌, ◌%◌, ◌≤◌, ◌<◌, ◌≡◌, Bool, false, cond, not, ◌&&◌, ◌||◌, List, [], ◌∷◌, eqb, ltb, get_or, set, Some, None}
+use Rattle.std.specs.Prelude as code
 use Rattle.std.proofs.Math.Option.{Option, none, some}
-use Rattle.moves.specs.declared.NewStart.{NewStart}
-use Rattle.moves.specs.declared.NewStart.TheVariants.{At, Nothing}
 use Rattle.moves.specs.declared.Move.{Move}
-use Rattle.moves.specs.declared.Content.{Content}
-use Rattle.moves.specs.declared.Content.TheVariants.{New, Unknown}
 use Rattle.moves.specs.Limits.{pointer_size}
 use Rattle.moves.specs.Search.{lowest, any_below}
 use Rattle.moves.specs.Slots.{Slot, memory, register, State, read, put}
 use Rattle.moves.specs.Pointers.{Pointer, null, slots, is_none, new_derived, new_content}
 use Rattle.moves.specs.Settle.{settled}
 
-abbrev pub as_option : NewStart → Option ℕ
-as_option (At n) = some n
-as_option Nothing = none
-
-abbrev pub as_content : Content → Option ℕ
-as_content (New n) = some n
-as_content Unknown = none
+-- the code's `Option`, as the definitions' own
+abbrev pub as_option : code.Option ℕ → Option ℕ
+as_option (Some n) = some n
+as_option None = none
 
 -- Slots as numbers: a slot in memory is its first byte, and register r is registers_from + 8 * r. Registers so lie past every window, and
 -- a pointer's size apart.

@@ -13,20 +13,6 @@ pub const REGISTERS_FROM: usize = 4294967296;
 // Entries of a move table.
 pub const TABLE_MOST: usize = 65536;
 
-// Where an object is now.
-#[derive(Clone, Copy)]
-pub enum NewStart {
-    At(u64),
-    Nothing,
-}
-
-// The new content of a derived slot, or that the base is unknown.
-#[derive(Clone, Copy)]
-pub enum Content {
-    New(u64),
-    Unknown,
-}
-
 // The answer to a move: a refusal's number and place, and count 0; or 0, 0 and the number of pointers, null ones included.
 #[derive(Clone, Copy)]
 pub struct Move {

@@ -7,7 +7,7 @@ ghost use Rattle.moves.specs.Slots.{state};
 ghost use Rattle.moves.specs.Arrays.{Placed, RenewsOne, Renews};
 
 use crate::slots;
-use moves::{Content, PAIRS_MOST};
+use moves::PAIRS_MOST;
 use moves_table::contents;
 
 // Whether the old base of pair k is unknown; and if it isn't, puts the pair's new content in place of the old base.
@@ -29,11 +29,11 @@ fn renew_one(
     }
     let old = slots::read(window, registers, derived[k]);
     match contents::content(old, values[k], olds, news) {
-        Content::New(value) => {
+        Some(value) => {
             values[k] = value;
             false
         }
-        Content::Unknown => true,
+        None => true,
     }
 }
 
@@ -52,12 +52,10 @@ pub fn renew(
     requires { (pairs ≤ pairs_most) × (pairs ≤ length values.old) × ((k : ℕ) → k < pairs → (get_or live.now k 0 ≡ 0 → ⊥) → Placed (length window.now) (length registers.now) (get_or derived.now k 0)) × (table_right olds.now news.now ≡ true) }
     ensures { Renews (look_up olds.now news.now) (state window.now registers.now) live.now derived.now values.old pairs result values.new }
 {
-    let mut k: usize = 0;
-    while k < pairs {
+    for k in 0..pairs {
         if renew_one(window, registers, live, derived, values, olds, news, k) {
             return k;
         }
-        k += 1;
     }
-    k
+    pairs
 }

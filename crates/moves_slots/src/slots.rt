@@ -27,9 +27,9 @@ fn put(window: &mut [u8], registers: &mut [u64], slot: usize, value: u64)
 {
     if slot < REGISTERS_FROM {
         wire::put_u64(window, slot, value);
-        return;
+    } else {
+        registers[(slot - REGISTERS_FROM) / POINTER_SIZE] = value;
     }
-    registers[(slot - REGISTERS_FROM) / POINTER_SIZE] = value;
 }
 
 // The numbers in the slots of the pairs that are not null, into `contents`.
@@ -44,12 +44,10 @@ pub fn read_all(
     requires { (pairs ≤ pairs_most) × (pairs ≤ length contents.old) × ((k : ℕ) → k < pairs → (get_or live.now k 0 ≡ 0 → ⊥) → Placed (length window.now) (length registers.now) (get_or slots.now k 0)) }
     ensures { Filled (λ k. spec.read (state window.now registers.now) (slot_of (get_or slots.now k 0))) live.now contents.new pairs }
 {
-    let mut k: usize = 0;
-    while k < pairs {
+    for k in 0..pairs {
         if live[k] != 0 {
             contents[k] = read(window, registers, slots[k]);
         }
-        k += 1;
     }
 }
 
@@ -65,11 +63,9 @@ pub fn put_all(
     requires { (pairs ≤ pairs_most) × (pairs ≤ length contents.now) × ((k : ℕ) → k < pairs → (get_or live.now k 0 ≡ 0 → ⊥) → Placed (length window.old) (length registers.old) (get_or derived.now k 0)) }
     ensures { state window.new registers.new ≡ puts live.now derived.now contents.now pairs 0 (state window.old registers.old) }
 {
-    let mut p: usize = 0;
-    while p < pairs {
+    for p in 0..pairs {
         if live[p] != 0 {
             put(window, registers, derived[p], contents[p]);
         }
-        p += 1;
     }
 }

@@ -1,11 +1,11 @@
 -- The move table: what the test of refusal 14 tells, and that a lower bound finds what the table's definition finds.
-use Rattle.std.proofs.Common.{◌≡◌, ℕ, zero, suc, ◌+◌, ◌-◌, ◌<◌, ◌≤◌, Bool, true, false, ◌&&◌, eqb, ltb, leb, List, [], ◌∷◌, length, get_or, drop, sym, refl, ap, ◌∙◌, true≢false, not-suc-le-zero, add-one, arith, drop_of_length-le, get_or-drop, drop-cons, ltb-true, le-ltb, lt-ltb, eq-eqb, ne_eqb, eqb-true, le-leb}
+use Rattle.std.proofs.Common.{◌≡◌, ℕ, zero, suc, ◌+◌, ◌<◌, ◌≤◌, Bool, true, false, ◌&&◌, eqb, ltb, leb, List, [], ◌∷◌, length, get_or, drop, sym, refl, ap, ◌∙◌, true≢false, not-suc-le-zero, add-one, arith, drop_of_length-le, get_or-drop, drop-cons, ltb-true, le-ltb, lt-ltb, eq-eqb, ne_eqb, eqb-true}
+use Rattle.std.proofs.Common.{not, nat_eq}
+use Rattle.std.specs.List.{list_any}
 use mathlib.Core.Option.{none, some}
 use native.Mathlib.Decide.{dec_lt}
 use Rattle.moves.specs.Limits.{table_most}
 use Rattle.moves.specs.Table.{rising, no_zero, table_right, found, look_up}
-use Rattle.sorted.specs.Sorted.{Sorted, LowerBound}
-use Rattle.sorted.proofs.Laws.{rising-sorted}
 
 and_true : (a b : Bool) → (a && b) ≡ true → (a ≡ true) × (b ≡ true)
 and_true true b h = (refl, h)
@@ -25,26 +25,13 @@ pub rising_on : (last i : ℕ) (os : List ℕ) → i < length os → last < get_
 unfolding rising
 rising_on last i os h l = rw (drop-cons os i 0 h, lt-ltb last (get_or os i 0) l, add-one i)
 
-pub zero_end : (i : ℕ) (ns : List ℕ) → length ns ≤ i → no_zero (drop i ns) ≡ true
+-- no zero is there exactly where a search for one finds none
+pub no_zero-contains : (ns : List ℕ) → not (list_any (λ n. nat_eq n 0) ns) ≡ no_zero ns
 unfolding no_zero
-zero_end i ns h = rw (drop_of_length-le ns {i = i} h)
-
-pub zero_stop : (i : ℕ) (ns : List ℕ) → i < length ns → get_or ns i 0 ≡ 0 → no_zero (drop i ns) ≡ false
-unfolding no_zero
-zero_stop i ns h l = rw (drop-cons ns i 0 h, le-ltb 0 (get_or ns i 0) (omega arith))
-
-pub zero_on : (i : ℕ) (ns : List ℕ) → i < length ns → (get_or ns i 0 ≡ 0 → ⊥) → no_zero (drop i ns) ≡ no_zero (drop (i + 1) ns)
-unfolding no_zero
-zero_on i ns h l = let p : 0 < get_or ns i 0 = omega arith in rw (drop-cons ns i 0 h, lt-ltb 0 (get_or ns i 0) p, add-one i)
-
-module _ (olds news : List ℕ) (e : length olds ≡ length news) (l : length olds ≤ table_most) where
-  pub right_stop : rising 0 olds ≡ false → false ≡ table_right olds news
-  unfolding table_right
-  right_stop h = rw (eq-eqb (length olds) (length news) e, le-leb (length olds) table_most l, h)
-
-  pub right-rest : rising 0 olds ≡ true → no_zero news ≡ table_right olds news
-  unfolding table_right
-  right-rest h = rw (eq-eqb (length olds) (length news) e, le-leb (length olds) table_most l, h)
+no_zero-contains [] = refl
+no_zero-contains (zero ∷ ns) = refl
+no_zero-contains (suc n ∷ ns) =
+    rw (ne_eqb (suc n) 0 (omega arith), lt-ltb 0 (suc n) (omega arith)) (no_zero-contains ns)
 
 -- What it tells.
 
@@ -76,8 +63,12 @@ old_starts_rise olds news h =
     let c = no_zero news in
     rises 0 olds (and_true b c (and_true a (b && c) (and_true (eqb (length olds) (length news)) (a && (b && c)) h).1).1).0
 
-pub old_starts_sorted : (olds news : List ℕ) → table_right olds news ≡ true → Sorted olds (length olds)
-old_starts_sorted olds news h = rising-sorted olds (length olds) (old_starts_rise olds news h)
+pub old_starts_sorted : (olds news : List ℕ) → table_right olds news ≡ true → (i j : ℕ) → i ≤ j → j < length olds → get_or olds i 0 ≤ get_or olds j 0
+old_starts_sorted olds news h i j l m = go (dec_lt i j)
+  where
+    go : Dec (i < j) → get_or olds i 0 ≤ get_or olds j 0
+    go (yes a) = omega (arith, old_starts_rise olds news h i j a m)
+    go (no a) = let e : i ≡ j = omega arith in rw e (omega arith)
 
 -- What the table's definition finds.
 
@@ -97,20 +88,11 @@ pub look_zero : (olds news : List ℕ) (b : ℕ) → b ≡ 0 → some 0 ≡ look
 unfolding look_up
 look_zero olds news b e = rw (eq-eqb b 0 e)
 
-module _ (olds news : List ℕ) (t : table_right olds news ≡ true) (b i : ℕ) (n : b ≡ 0 → ⊥) (h : LowerBound olds (length olds) b i) where
-  pub look_past : i ≡ length olds → none ≡ look_up olds news b
+module _ (olds news : List ℕ) (b : ℕ) (n : b ≡ 0 → ⊥) where
+  pub look-here : (i : ℕ) → table_right olds news ≡ true → i < length olds → get_or olds i 0 ≡ b → some (get_or news i 0) ≡ look_up olds news b
   unfolding look_up
-  look_past e = rw (ne_eqb b 0 n) (sym (found_none olds news b (λ k l q. omega (arith, h.below k (omega arith)))))
+  look-here i t l e = rw (ne_eqb b 0 n) (sym (found_at olds news b i l (λ k q r. omega (arith, old_starts_rise olds news t k i q l)) e))
 
-  pub look-here : i < length olds → get_or olds i 0 ≡ b → some (get_or news i 0) ≡ look_up olds news b
+  pub look-nowhere : ((k : ℕ) → k < length olds → get_or olds k 0 ≡ b → ⊥) → none ≡ look_up olds news b
   unfolding look_up
-  look-here l e = rw (ne_eqb b 0 n) (sym (found_at olds news b i l (λ k q r. omega (arith, h.below k q)) e))
-
-  pub look-between : i < length olds → (get_or olds i 0 ≡ b → ⊥) → none ≡ look_up olds news b
-  unfolding look_up
-  look-between l e = rw (ne_eqb b 0 n) (sym (found_none olds news b (λ k q r. go k q r (dec_lt k i) (dec_lt i k))))
-    where
-      go : (k : ℕ) → k < length olds → get_or olds k 0 ≡ b → Dec (k < i) → Dec (i < k) → ⊥
-      go k q r (yes a) d = omega (arith, h.below k a)
-      go k q r (no a) (yes d) = omega (arith, old_starts_rise olds news t i k d q, h.above i (omega arith) l)
-      go k q r (no a) (no d) = e (let z : k ≡ i = omega arith in rw (← z) r)
+  look-nowhere h = rw (ne_eqb b 0 n) (sym (found_none olds news b h))

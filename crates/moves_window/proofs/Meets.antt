@@ -1,7 +1,7 @@
 -- What the arrays of the code make is what the pairs' list makes.
 use Prim.Native.Nat.{ℕ, zero, suc, ◌+◌, ◌^◌, ◌≤◌, ◌<◌}
 use mathlib.Core.Path.{◌≡◌, refl, sym, ap, ◌∙◌}
-use mathlib.Core.Bool.{Bool, true, false, cond}
+use mathlib.Core.Bool.{Bool, true, false, cond, true≢false}
 use mathlib.Core.Option.{Option}
 use mathlib.Core.List.{List}
 use native.Mathlib.Omega.{arith}
@@ -129,12 +129,16 @@ module _ (live bs ds : List ℕ) (n : ℕ) where
         }
 
     -- only judged, or refused: nothing is written
-    pub judged : Settles table false r w ps w
+    judged : Settles table false r w ps w
     judged = record { answer = j.answer; left = refl }
 
-    pub stays : (write : Bool) → (r.number ≡ 0 → ⊥) → Settles table write r w ps w
+    pub stays : (write : Bool) → (r.number ≡ 0 → write ≡ false) → Settles table write r w ps w
     stays false z = judged
-    stays true z = record { answer = j.answer; left = sym (settle-refused table ps w (λ e. z (ap (λ (m : Move). m.number) j.answer ∙ e))) }
+    stays true z =
+        record {
+          answer = j.answer;
+          left = sym (settle-refused table ps w (λ e. true≢false (z (ap (λ (m : Move). m.number) j.answer ∙ e))));
+        }
 
 -- no number is near 2^63
 pub placed_below : (m registers n : ℕ) (live bs ds : List ℕ) → m ≤ registers_from → registers ≤ 32 → AllPlaced m registers n live bs ds → Within (2 ^ 63) n live bs ds

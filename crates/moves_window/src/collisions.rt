@@ -8,37 +8,21 @@ ghost use Rattle.moves.specs.Arrays.{overlap_at, any_overlap_at, slots_clash_at,
 use moves::{PAIRS_MOST, POINTER_SIZE};
 
 // Two slots share a byte and are not the same.
+#[tactic(auto, unfolding(moves::specs::Arrays::overlap_at))]
 fn overlap(x: usize, y: usize) -> bool
     requires { (x + pointer_size < 2 ^ 64) × (y + pointer_size < 2 ^ 64) }
     ensures { result ≡ overlap_at x y }
 {
-    if x == y {
-        return false;
-    }
-    if y + POINTER_SIZE <= x {
-        return false;
-    }
-    if x + POINTER_SIZE <= y {
-        return false;
-    }
-    true
+    x != y && x < y + POINTER_SIZE && y < x + POINTER_SIZE
 }
 
 // Of two pairs, by their base and derived slots: two listed slots overlap without being equal.
+#[tactic(auto, unfolding(moves::specs::Arrays::any_overlap_at))]
 fn any_overlap(b: usize, d: usize, b2: usize, d2: usize) -> bool
     requires { (b + pointer_size < 2 ^ 64) × (d + pointer_size < 2 ^ 64) × (b2 + pointer_size < 2 ^ 64) × (d2 + pointer_size < 2 ^ 64) }
     ensures { result ≡ any_overlap_at b d b2 d2 }
 {
-    if overlap(b, b2) {
-        return true;
-    }
-    if overlap(b, d2) {
-        return true;
-    }
-    if overlap(d, b2) {
-        return true;
-    }
-    overlap(d, d2)
+    overlap(b, b2) || overlap(b, d2) || overlap(d, b2) || overlap(d, d2)
 }
 
 // Whether four slots begin at multiples of 8, as nearly all do: then none overlaps another without being equal. False says nothing.
@@ -53,30 +37,20 @@ fn overlapping(b: usize, d: usize, b2: usize, d2: usize) -> bool
     requires { (b + pointer_size < 2 ^ 64) × (d + pointer_size < 2 ^ 64) × (b2 + pointer_size < 2 ^ 64) × (d2 + pointer_size < 2 ^ 64) }
     ensures { result ≡ any_overlap_at b d b2 d2 }
 {
-    if all_aligned(b, d, b2, d2) {
-        return false;
-    }
-    any_overlap(b, d, b2, d2)
+    !all_aligned(b, d, b2, d2) && any_overlap(b, d, b2, d2)
 }
 
 // Two pairs that are not null clash; v and v2 are their old bases.
+#[tactic(auto, unfolding(moves::specs::Arrays::slots_clash_at))]
 fn clash(b: usize, d: usize, v: u64, b2: usize, d2: usize, v2: u64) -> bool
     requires { (b + pointer_size < 2 ^ 64) × (d + pointer_size < 2 ^ 64) × (b2 + pointer_size < 2 ^ 64) × (d2 + pointer_size < 2 ^ 64) }
     ensures { result ≡ slots_clash_at b d v b2 d2 v2 }
 {
-    if overlapping(b, d, b2, d2) {
-        return true;
-    }
-    if d != d2 {
-        return false;
-    }
-    if v == v2 {
-        return false;
-    }
-    true
+    overlapping(b, d, b2, d2) || d == d2 && v != v2
 }
 
 // Pairs p and q clash; a null pair clashes with none. `contents` has the old bases.
+#[tactic(auto, unfolding(moves::specs::Arrays::clash_at))]
 fn clash_at(
     live: &[u8; PAIRS_MOST],
     bases: &[usize; PAIRS_MOST],
@@ -89,20 +63,16 @@ fn clash_at(
     requires { (pairs ≤ pairs_most) × (pairs ≤ length contents.now) × (p < pairs) × (q < pairs) × Within (2 ^ 63) pairs live.now bases.now derived.now }
     ensures { result ≡ clash_at live.now bases.now derived.now contents.now p q }
 {
-    if live[p] == 0 {
-        return false;
-    }
-    if live[q] == 0 {
-        return false;
-    }
-    clash(
-        bases[p],
-        derived[p],
-        contents[p],
-        bases[q],
-        derived[q],
-        contents[q],
-    )
+    live[p] != 0
+        && live[q] != 0
+        && clash(
+            bases[p],
+            derived[p],
+            contents[p],
+            bases[q],
+            derived[q],
+            contents[q],
+        )
 }
 
 // The lowest pair that collides with itself or an earlier one; `pairs` if none does. The search stops at the first.
@@ -117,16 +87,12 @@ pub fn collision(
     requires { (pairs ≤ pairs_most) × (pairs ≤ length contents.now) × Within (2 ^ 63) pairs live.now bases.now derived.now }
     ensures { result ≡ first_clash live.now bases.now derived.now contents.now pairs }
 {
-    let mut p: usize = 0;
-    'pairs: while p < pairs {
-        let mut q: usize = 0;
-        while q <= p {
+    for p in 0..pairs {
+        for q in 0..=p {
             if clash_at(live, bases, derived, contents, pairs, p, q) {
-                break 'pairs;
+                return p;
             }
-            q += 1;
         }
-        p += 1;
     }
-    p
+    pairs
 }

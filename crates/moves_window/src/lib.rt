@@ -81,10 +81,7 @@ fn settle_pairs(
     let answer = judge(
         window, registers, live, bases, derived, values, pairs, olds, news,
     );
-    if answer.number != 0 {
-        return answer;
-    }
-    if write {
+    if answer.number == 0 && write {
         slots::put_all(window, registers, live, derived, values, pairs);
     }
     answer

@@ -5,7 +5,7 @@ use mathlib.Core.Bool.{true, false, ◌&&◌}
 use mathlib.Core.List.{List, [], ◌∷◌}
 use native.Mathlib.Omega.{arith}
 use native.Mathlib.Nat.{not-suc-le-zero}
-use borrow.Author.Tests.{eqb-true, leb-true, ltb-true, lt-ltb, le-ltb, le-leb, lt-leb, eq-eqb, ne_eqb}
+use borrow.Author.Tests.{eqb-true, leb-true, ltb-true, le-ltb}
 use lib.Dec.{eqb, leb, ltb}
 use lib.ListN.{length, get_or, drop, length-drop}
 use lib.Seq.{get_or-drop}
@@ -35,41 +35,10 @@ statepoint_tells r h =
     let h₃ = and_true b₁ (b₂ && b₃) h₂.1 in
     record { head = leb-true _ _ h₀.0; signed = ltb-true _ _ h₂.0; room = leb-true _ _ h₃.0; even = eqb-true _ _ (and_true b₂ b₃ h₃.1).0 }
 
--- the tests of the code, by the deopt count and the number of locations
-module _ (r : Record) (deopt count : ℕ) (d : deopt ≡ deopt_count r) (n : count ≡ length r.locations) where
-  pub rest_negative : 2 ^ 31 ≤ deopt → false ≡ paired_rest r
-  unfolding paired_rest
-  rest_negative h = rw (← d, le-ltb deopt (2 ^ 31) h)
-
-  module _ (signed : deopt < 2 ^ 31) where
-    pub rest_past : count < 3 + deopt → false ≡ paired_rest r
-    unfolding paired_rest
-    rest_past h = rw (← d, ← n, lt-ltb deopt (2 ^ 31) signed, lt-leb (3 + deopt) count h)
-
-    module _ (room : 3 + deopt ≤ count) where
-      pub rest_odd : ((count - (3 + deopt)) % 2 ≡ 0 → ⊥) → false ≡ paired_rest r
-      unfolding paired_rest
-      rest_odd h =
-          rw (← d, ← n, lt-ltb deopt (2 ^ 31) signed, le-leb (3 + deopt) count room, ne_eqb ((count - (3 + deopt)) % 2) 0 h)
-
-      pub rest-last : (count - (3 + deopt)) % 2 ≡ 0 → (outs : ℕ) → outs ≡ length r.live_outs → eqb outs 0 ≡ paired_rest r
-      unfolding paired_rest
-      rest-last h outs o =
-          rw (← d, ← n, ← o, lt-ltb deopt (2 ^ 31) signed, le-leb (3 + deopt) count room, eq-eqb ((count - (3 + deopt)) % 2) 0 h)
-
-module _ (r : Record) (count : ℕ) (n : count ≡ length r.locations) where
-  pub few : count < 3 → false ≡ is_statepoint r
-  unfolding is_statepoint
-  few h = rw (← n, lt-leb 3 count h)
-
-  module _ (enough : 3 ≤ count) where
-    pub other-head : constant_head r ≡ false → false ≡ is_statepoint r
-    unfolding is_statepoint
-    other-head h = rw (← n, le-leb 3 count enough, h)
-
-    pub right-head : constant_head r ≡ true → paired_rest r ≡ is_statepoint r
-    unfolding is_statepoint
-    right-head h = rw (← n, le-leb 3 count enough, h)
+-- a deopt count that is negative
+pub rest_negative : (r : Record) (deopt : ℕ) → deopt ≡ deopt_count r → 2 ^ 31 ≤ deopt → false ≡ paired_rest r
+unfolding paired_rest
+rest_negative r deopt d h = rw (← d, le-ltb deopt (2 ^ 31) h)
 
 -- pairs by their numbers
 

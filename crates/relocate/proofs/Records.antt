@@ -1,12 +1,9 @@
 -- What stands in the record at a place of the section.
 use Prim.Native.Nat.{ℕ, ◌+◌, ◌*◌, ◌≤◌, ◌<◌}
-use mathlib.Core.Path.{◌≡◌, sym, ap, ◌∙◌}
+use mathlib.Core.Path.{◌≡◌, ap}
 use mathlib.Core.Option.{some}
 use mathlib.Core.List.{List}
 use native.Mathlib.Omega.{arith}
-use mathlib.Core.Bool.{true, false}
-use borrow.Author.Tests.{eq-eqb, ne_eqb}
-use lib.Dec.{eqb}
 use lib.ListN.{length, drop, get_elem?}
 use Rattle.stackmap.specs.Layout.{location_size}
 use Rattle.stackmap.specs.Section.{Location, is_old, num_locations, record_length}
@@ -44,14 +41,5 @@ pair_inside {s} {at} {start} w p h = location_inside s at w.stands (start + 2 * 
 
 -- what the reader says of a location's kind
 module _ (a : LocationAnswer) (pool : List ℕ) (l : Location) (e : a ≡ this_location pool l) where
-  pub kind-other : (a.kind ≡ 4 → ⊥) → eqb l.kind 4 ≡ false
-  kind-other n = ne_eqb l.kind 4 (λ q. n (ap (λ (x : LocationAnswer). x.kind) e ∙ q))
-
-  pub kind-same : a.kind ≡ 4 → eqb l.kind 4 ≡ true
-  kind-same q = eq-eqb l.kind 4 (sym (ap (λ (x : LocationAnswer). x.kind) e) ∙ q)
-
-  pub kind_test : eqb a.kind 4 ≡ eqb l.kind 4
-  kind_test = ap (λ (x : LocationAnswer). eqb x.kind 4) e
-
   pub offset-said : a.offset ≡ l.offset
   offset-said = ap (λ (x : LocationAnswer). x.offset) e

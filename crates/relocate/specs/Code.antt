@@ -13,8 +13,6 @@ use Rattle.relocate.specs.declared.Cursor.{Cursor}
 use Rattle.relocate.specs.declared.Machine.{Machine}
 use Rattle.relocate.specs.declared.Machine.TheVariants.{Amd64}
 use Rattle.relocate.specs.declared.Settings.{Settings}
-use Rattle.relocate.specs.declared.Spot.{Spot}
-use Rattle.relocate.specs.declared.Spot.TheVariants.{At, Outside}
 use Rattle.moves.specs.Plan.{Plan, window}
 use Rattle.relocate.specs.Limits.{register_count, kind_constant}
 use Rattle.relocate.specs.Restore.{Restore}
@@ -82,10 +80,6 @@ zero_said a = eqb a.constant 0 && (eqb a.kind kind_constant || eqb a.kind kind_c
 
 -- Slots as numbers (moves/specs/Arrays), those in memory in the n bytes from the stack pointer, counted from it; none for a slot in memory
 -- that is not wholly inside.
-
-abbrev pub spot_of : Spot → Option ℕ
-spot_of (At p) = some p
-spot_of Outside = none
 
 -- the first slot of a location as a number
 unfoldable pub number_of : Cursor → Location → ℕ

@@ -1,15 +1,8 @@
 // Statepoints and relocation, a layer above the section reader: the definitions, and the theorems about moves and lists of moves.
 #![tactic(auto)]
 
-// Where a location's first slot is in a frame, as one number: counted from the stack pointer, or a register (`slot_of`, moves/specs/Arrays).
-#[derive(Clone, Copy)]
-pub enum Spot {
-    At(usize),
-    Outside,
-}
-
 // The machine that a stopped thread is of.
-#[derive(Clone, Copy)]
+#[derive(Clone, Copy, PartialEq, Eq)]
 pub enum Machine {
     Amd64,
     Aarch64,

@@ -48,10 +48,7 @@ fn is_slot(machine: Machine, s: &[u8], at: usize) -> bool
     ensures { result ≡ true → OneSlot machine (read_location false s.now at) }
 {
     let w = wire::u64_at(s, at);
-    if w == at_frame_pointer(machine) {
-        return true;
-    }
-    w == at_stack_pointer(machine)
+    w == at_frame_pointer(machine) || w == at_stack_pointer(machine)
 }
 
 // Whether the two locations of the pair whose base is location j are so.
@@ -60,10 +57,7 @@ fn are_slots(machine: Machine, s: &[u8], at: usize, j: usize) -> bool
     ensures { result ≡ true → Plain machine (pair_from (record_of s.now at) j) }
 {
     let base = at + layout::RECORD_HEAD_SIZE + layout::LOCATION_SIZE * j;
-    if is_slot(machine, s, base) {
-        return is_slot(machine, s, base + layout::LOCATION_SIZE);
-    }
-    false
+    is_slot(machine, s, base) && is_slot(machine, s, base + layout::LOCATION_SIZE)
 }
 
 // The same of a section of either version: it says nothing of version 1.
@@ -71,8 +65,5 @@ pub fn plain(machine: Machine, s: &[u8], at: usize, j: usize) -> bool
     requires { RecordInside s.now at × (j + 1 < num_locations (drop at s.now)) }
     ensures { result ≡ true → Plain machine (pair_from (record_of s.now at) j) }
 {
-    if tables::is_old(s) {
-        return false;
-    }
-    are_slots(machine, s, at, j)
+    !tables::is_old(s) && are_slots(machine, s, at, j)
 }

@@ -1,7 +1,7 @@
 -- The tests of one pair, as the code makes them one after the other.
 use Prim.Native.Nat.{ℕ, ◌+◌, ◌*◌, ◌-◌, ◌≤◌, ◌<◌}
 use mathlib.Core.Path.{◌≡◌, refl, sym, ap, ◌∙◌}
-use mathlib.Core.Bool.{Bool, true, false, not, ◌&&◌, ◌||◌}
+use mathlib.Core.Bool.{Bool, true, false, not}
 use mathlib.Core.Option.{none, some}
 use mathlib.Core.List.{List}
 use native.Mathlib.Omega.{arith}
@@ -54,20 +54,6 @@ module _ (old : Bool) (f : Cursor) (n : ℕ) (l : Location) where
       go : (b : Bool) → slots_inside old f n l ≡ b → false ≡ slots_inside old f n l
       go true q = absurd (let w : none ≡ some (number_of f l) = rw q at h in let z : ◌≡◌ {A = ℕ} 0 1 = cc in omega arith)
       go false q = sym q
-
--- two tests, by the first of them
-module _ (a k : Bool) where
-  pub and_no : a ≡ false → false ≡ (a && k)
-  and_no h = rw h
-
-  pub and_rest : a ≡ true → k ≡ (a && k)
-  and_rest h = rw h
-
-  pub or_yes : a ≡ true → true ≡ (a || k)
-  or_yes h = rw h
-
-  pub or_rest : a ≡ false → k ≡ (a || k)
-  or_rest h = rw h
 
 -- a pair by its base's location number, and by its own
 pub pair-from : (r : Record) (start p : ℕ) → start ≡ pairs_at r → pair_from r (start + 2 * p) ≡ pair_number r p

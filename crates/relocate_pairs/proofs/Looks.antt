@@ -100,14 +100,14 @@ run_is zero b d h = absurd (omega arith)
 run_is (suc k) b d h = refl
 
 module _ (old : Bool) (pool : List ℕ) (f : Cursor) (n : ℕ) (p : Pair) where
-  pub look-null : is_null pool p ≡ true → (true ≡ inside old pool f n p) × (◌≡◌ {A = Bool} true true → Looked old pool f n p 0 0 0)
+  pub look-null : is_null pool p ≡ true → (true ≡ inside old pool f n p) × Looked old pool f n p 0 0 0
   unfolding inside pointers_of
-  look-null e = rw e (refl, λ t. record { pointers_are = rw e; base_placed = λ a. absurd (omega arith); derived_placed = λ a. absurd (omega arith) })
+  look-null e = rw e (refl, record { pointers_are = rw e; base_placed = λ a. absurd (omega arith); derived_placed = λ a. absurd (omega arith) })
 
   module _ (e : is_null pool p ≡ false) where
     -- both are inside
     pub look-run : right_form f.machine old pool p ≡ true → n ≤ 1048576 → (x y k : ℕ) → some x ≡ slot_in old f n p.base → some y ≡ slot_in old f n p.derived
-        → k ≡ pointers_in old p.base.size → (true ≡ inside old pool f n p) × (◌≡◌ {A = Bool} true true → Looked old pool f n p k x y)
+        → k ≡ pointers_in old p.base.size → (true ≡ inside old pool f n p) × Looked old pool f n p k x y
     unfolding inside pointers_of
     look-run form small x y k hx hy hk =
         let t = form_slots f.machine old pool p form e in
@@ -115,7 +115,7 @@ module _ (old : Bool) (pool : List ℕ) (f : Cursor) (n : ℕ) (p : Pair) where
         let b = at-inside old f n p.derived y hy in
         let same = same_count old p t.one_size in (
           rw (e, ← a.0, ← b.0),
-          λ z. record {
+          record {
             pointers_are = rw (
               e,
               a.1,
@@ -130,12 +130,10 @@ module _ (old : Bool) (pool : List ℕ) (f : Cursor) (n : ℕ) (p : Pair) where
           },
         )
 
-    pub look-base : (Q : Type 0) → none ≡ slot_in old f n p.base → (false ≡ inside old pool f n p) × (◌≡◌ {A = Bool} false true → Q)
+    pub look-base : none ≡ slot_in old f n p.base → false ≡ inside old pool f n p
     unfolding inside
-    look-base Q h = (rw (e, ← out_inside old f n p.base h), λ z. absurd (true≢false (sym z)))
+    look-base h = rw (e, ← out_inside old f n p.base h)
 
-    pub look-derived : (Q : Type 0) (x : ℕ) → some x ≡ slot_in old f n p.base → none ≡ slot_in old f n p.derived
-        → (false ≡ inside old pool f n p) × (◌≡◌ {A = Bool} false true → Q)
+    pub look-derived : (x : ℕ) → some x ≡ slot_in old f n p.base → none ≡ slot_in old f n p.derived → false ≡ inside old pool f n p
     unfolding inside
-    look-derived Q x hx h =
-        (rw (e, ← (at-inside old f n p.base x hx).0, ← out_inside old f n p.derived h), λ z. absurd (true≢false (sym z)))
+    look-derived x hx h = rw (e, ← (at-inside old f n p.base x hx).0, ← out_inside old f n p.derived h)

@@ -1,7 +1,7 @@
 // The slots of a statepoint's pairs (refusal 19), and the arrays that a move takes: pointer k is null where live[k] is 0, and else its base
 // slot is at bases[k] and its derived slot at derived[k], both as numbers: counted from the stack pointer, or registers (moves/specs/Arrays).
 // No entry point: it requires pairs of the right form, and that the arrays have room for their pointers.
-ghost use Rattle.std.specs.Prelude.{◌≡◌, true, not, ℕ, ◌+◌, ◌*◌, ◌≤◌, ◌<◌, length, drop};
+ghost use Rattle.std.specs.Prelude.{◌≡◌, true, not, ℕ, ◌+◌, ◌*◌, ◌≤◌, ◌<◌, length, drop, is_some, IfSome};
 ghost use mathlib.Core.List.{◌++◌, flatten};
 ghost use Rattle.stackmap.specs.Section.{num_locations};
 ghost use Rattle.moves.specs.Limits.{pairs_most};
@@ -12,7 +12,7 @@ ghost use Rattle.relocate.specs.Statepoint.{right_form, inside, pointers_from};
 ghost use Rattle.relocate.specs.Code.{record_of, pool_of, RecordInside, pair_from, pair_number, Paired, pointers_by, run_of, RunPlaced, Looked, Room};
 
 use crate::{pairs, reader};
-use relocate::{Cursor, Spot};
+use relocate::Cursor;
 use relocate_slots::slots;
 
 // Puts k pointers after n others, from the slots b and d on; it answers how many there are then. What was placed stays so, in a window of
@@ -34,24 +34,21 @@ fn put_run(
         × (arrays.AllPlaced size register_count n live.old bases.old derived.old
         → arrays.AllPlaced size register_count result live.new bases.new derived.new) }
 {
-    let mut next: usize = 0;
-    while next < k {
+    for next in 0..k {
         let i = n + next;
         live[i] = 1;
         bases[i] = b + 8 * next;
         derived[i] = d + 8 * next;
-        next += 1;
     }
-    n + next
+    n + k
 }
 
-// A pair as `count` pointers from two slots on, by their numbers; 0 means a null pair. It counts where `inside` is true.
+// A pair as `count` pointers from two slots on, by their numbers; 0 means a null pair.
 #[derive(Clone, Copy)]
 pub struct Run {
     pub count: usize,
     pub base: usize,
     pub derived: usize,
-    pub inside: bool,
 }
 
 // Puts a pair's pointers after n others; it answers how many there are then.
@@ -88,44 +85,28 @@ fn put(
 }
 
 // Where the slots of the pair are whose base is location j, if all are inside the extent of `size` bytes.
-fn look(old: bool, s: &[u8], at: usize, j: usize, frame: Cursor, size: usize) -> Run
+fn look(old: bool, s: &[u8], at: usize, j: usize, frame: Cursor, size: usize) -> Option<Run>
     requires { RecordInside s.now at × (j + 1 < num_locations (drop at s.now)) × (size ≤ image_most)
         × (right_form frame.machine old (pool_of s.now) (pair_from (record_of s.now at) j) ≡ true) }
-    ensures { (result.inside ≡ inside old (pool_of s.now) frame size (pair_from (record_of s.now at) j))
-        × (result.inside ≡ true → Looked old (pool_of s.now) frame size (pair_from (record_of s.now at) j) result.count result.base result.derived) }
+    ensures all_inside { is_some result ≡ inside old (pool_of s.now) frame size (pair_from (record_of s.now at) j) }
+    ensures looked { IfSome result (λ r. Looked old (pool_of s.now) frame size (pair_from (record_of s.now at) j) r.count r.base r.derived) }
 {
     let b = reader::location(s, at, j);
     let d = reader::location(s, at, j + 1);
     if pairs::null_said(b, d) {
-        return Run {
+        return Some(Run {
             count: 0,
             base: 0,
             derived: 0,
-            inside: true,
-        };
+        });
     }
-    match slots::slot(frame, old, size, b) {
-        Spot::At(x) => match slots::slot(frame, old, size, d) {
-            Spot::At(y) => Run {
-                count: slots::pointers_in(old, b.size),
-                base: x,
-                derived: y,
-                inside: true,
-            },
-            Spot::Outside => Run {
-                count: 0,
-                base: 0,
-                derived: 0,
-                inside: false,
-            },
-        },
-        Spot::Outside => Run {
-            count: 0,
-            base: 0,
-            derived: 0,
-            inside: false,
-        },
-    }
+    let base = slots::slot(frame, old, size, b)?;
+    let derived = slots::slot(frame, old, size, d)?;
+    Some(Run {
+        count: slots::pointers_in(old, b.size),
+        base,
+        derived,
+    })
 }
 
 // Fills the arrays with the pointers of all pairs; it answers the lowest pair with a slot that is not wholly inside the extent of `size`
@@ -152,15 +133,12 @@ pub fn fill(
         × (count ≤ result → arrays.AllPlaced size register_count (length (flatten (pointers_by old (pool_of s.now) frame (record_of s.now at))))
         live.new bases.new derived.new) }
 {
-    let mut n: usize = 0;
-    let mut p: usize = 0;
-    while p < count {
-        let run = look(old, s, at, start + 2 * p, frame, size);
-        if !run.inside {
+    let mut n = 0;
+    for p in 0..count {
+        let Some(run) = look(old, s, at, start + 2 * p, frame, size) else {
             return p;
-        }
+        };
         n = put(live, bases, derived, n, run, size);
-        p += 1;
     }
-    p
+    count
 }

@@ -16,20 +16,14 @@ const HEAD_LOCATIONS: usize = 3;
 const DEOPT_AT: usize = 2;
 
 // Whether the first three locations have kind 4.
+#[tactic(auto, unfolding(relocate::specs::Statepoint::constant_head))]
 fn constant_head(s: &[u8], at: usize) -> bool
     requires { RecordInside s.now at × (head_locations ≤ num_locations (drop at s.now)) }
     ensures { result ≡ constant_head (record_of s.now at) }
 {
-    let a = reader::location(s, at, 0);
-    if a.kind != layout::KIND_CONSTANT {
-        return false;
-    }
-    let b = reader::location(s, at, 1);
-    if b.kind != layout::KIND_CONSTANT {
-        return false;
-    }
-    let c = reader::location(s, at, 2);
-    c.kind == layout::KIND_CONSTANT
+    reader::location(s, at, 0).kind == layout::KIND_CONSTANT
+        && reader::location(s, at, 1).kind == layout::KIND_CONSTANT
+        && reader::location(s, at, 2).kind == layout::KIND_CONSTANT
 }
 
 // Whether the deopt count leaves whole pairs, and there are no live-outs; the record has `count` locations and `outs` live-outs.
@@ -43,27 +37,18 @@ fn paired_rest(s: &[u8], at: usize, count: usize, outs: usize) -> bool
         return false;
     }
     let start = HEAD_LOCATIONS + deopt as usize;
-    if start > count {
-        return false;
-    }
-    if (count - start) % 2 != 0 {
-        return false;
-    }
-    outs == 0
+    start <= count && (count - start) % 2 == 0 && outs == 0
 }
 
+#[tactic(auto, unfolding(relocate::specs::Statepoint::is_statepoint))]
 pub fn is_statepoint(s: &[u8], at: usize) -> bool
     requires { RecordInside s.now at }
     ensures { result ≡ is_statepoint (record_of s.now at) }
 {
     let shape = shape::shape_at(s, at);
-    if shape.locations < HEAD_LOCATIONS {
-        return false;
-    }
-    if constant_head(s, at) {
-        return paired_rest(s, at, shape.locations, shape.outs);
-    }
-    false
+    shape.locations >= HEAD_LOCATIONS
+        && constant_head(s, at)
+        && paired_rest(s, at, shape.locations, shape.outs)
 }
 
 // The number of the first location that is of a pair, and how many pairs there are.

@@ -57,44 +57,29 @@ fn general_registers(machine: Machine) -> u16
 }
 
 // Whether a register is the machine's frame pointer or stack pointer.
+#[tactic(auto, unfolding(relocate::specs::Statepoint::is_frame_or_stack))]
 pub fn is_frame_or_stack(machine: Machine, register: u16) -> bool
     ensures { result ≡ is_frame_or_stack machine register }
 {
-    if register == frame_pointer(machine) {
-        return true;
-    }
-    register == stack_pointer(machine)
+    register == frame_pointer(machine) || register == stack_pointer(machine)
 }
 
 // Whether a register may state this size: 8, and in version 1 also 0.
 fn register_size(old: bool, bytes: u16) -> bool
     ensures { result ≡ (eqb bytes 8 || (old && eqb bytes 0)) }
 {
-    if bytes == SLOT_SIZE {
-        return true;
-    }
-    if old {
-        return bytes == 0;
-    }
-    false
+    bytes == SLOT_SIZE || old && bytes == 0
 }
 
 // Whether a location is a register that is a slot: kind 1, the size of one pointer, offset 0, and one of the machine's registers but its frame and
 // its stack pointer.
+#[tactic(auto, unfolding(relocate::specs::Statepoint::is_register_slot))]
 pub fn is_register_slot(machine: Machine, old: bool, l: LocationAnswer) -> bool
     ensures { result ≡ is_register_slot machine old (location_of l) }
 {
-    if l.kind != KIND_REGISTER {
-        return false;
-    }
-    if register_size(old, l.size) {
-        if l.offset != 0 {
-            return false;
-        }
-        if l.register >= general_registers(machine) {
-            return false;
-        }
-        return !is_frame_or_stack(machine, l.register);
-    }
-    false
+    l.kind == KIND_REGISTER
+        && register_size(old, l.size)
+        && l.offset == 0
+        && l.register < general_registers(machine)
+        && !is_frame_or_stack(machine, l.register)
 }

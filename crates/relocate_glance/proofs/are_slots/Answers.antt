@@ -1,15 +1,10 @@
 use Prim.Native.Nat.{◌+◌}
-use mathlib.Core.Path.{sym}
-use mathlib.Core.Bool.{true≢false}
 use native.Mathlib.Omega.{arith}
 use Rattle.relocate_glance.proofs.Laws.{location_fits, pair_is}
 use Rattle.relocate_glance.proofs.are_slots.Goals as goal
 
 pub returns-then-is_slot : goal.returns-then-is_slot
 returns-then-is_slot c = λ h. pair_is _ _ _ _ c.requires.1 c.requires.2 (c.is_slot.ensures c.if-is_slot.true) (c.is_slot-then-is_slot.ensures h)
-
-pub returns : goal.returns
-returns c = λ h. absurd (true≢false (sym h))
 
 pub overflow_mul-base : goal.overflow_mul-base
 overflow_mul-base c = omega (arith, location_fits _ _ c.args.j c.requires.1 (omega arith) c.requires.0)

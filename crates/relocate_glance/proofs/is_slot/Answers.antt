@@ -7,10 +7,10 @@ use Rattle.relocate_glance.proofs.is_slot.Goals as goal
 
 pub returns-then-w-at_frame_pointer : goal.returns-then-w-at_frame_pointer
 returns-then-w-at_frame_pointer c =
-    let w : Bytes c.args.s.now = record { below = λ i. omega (arith, c.shared_slice_known-1.given i) } in
+    let w : Bytes c.args.s.now = record { below = λ i. omega (arith, c.type_inv.s i) } in
     λ h. framed _ _ _ w (sym c.u64_at-w.ensures ∙ c.if-w-at_frame_pointer.true ∙ c.at_frame_pointer.ensures)
 
-pub returns : goal.returns
-returns c =
-    let w : Bytes c.args.s.now = record { below = λ i. omega (arith, c.shared_slice_known-1.given i) } in
+pub returns-else-w-at_frame_pointer : goal.returns-else-w-at_frame_pointer
+returns-else-w-at_frame_pointer c =
+    let w : Bytes c.args.s.now = record { below = λ i. omega (arith, c.type_inv.s i) } in
     λ h. stacked _ _ _ w (sym c.u64_at-w.ensures ∙ eqb-true _ _ h ∙ c.at_stack_pointer.ensures)

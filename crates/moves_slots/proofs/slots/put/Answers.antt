@@ -11,5 +11,5 @@ returns-then-slot-lt-REGISTERS_FROM c = put-memory _ _ _ _ _ c.if-slot-lt-REGIST
 pub bounds-registers-slot : goal.bounds-registers-slot
 bounds-registers-slot c = omega (arith, c.requires.in_list c.if-slot-lt-REGISTERS_FROM.false)
 
-pub returns : goal.returns
-returns c = put-register _ _ _ _ c.if-slot-lt-REGISTERS_FROM.false
+pub returns-else-slot-lt-REGISTERS_FROM : goal.returns-else-slot-lt-REGISTERS_FROM
+returns-else-slot-lt-REGISTERS_FROM c = put-register _ _ _ _ c.if-slot-lt-REGISTERS_FROM.false

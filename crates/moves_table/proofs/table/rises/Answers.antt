@@ -1,21 +1,18 @@
-use Rattle.std.proofs.Common.{◌-◌, sym, refl, ◌∙◌, arith}
+use Rattle.std.proofs.Common.{sym, ◌∙◌, arith}
 use Rattle.moves_table.proofs.Tables.{rising-end, rising_stop, rising_on}
 use Rattle.moves_table.proofs.table.rises.Goals as goal
 
-pub loop-i-init : goal.loop-i-init
-loop-i-init c = (omega arith, refl)
+pub returns-then-old-last : goal.returns-then-old-last
+returns-then-old-last c =
+    let l = c.loop-old in
+    sym (rising_stop l.last l.old-index c.args.olds.now (omega arith) (omega arith)) ∙ l.invariant
 
-pub returns-then-olds-i : goal.returns-then-olds-i
-returns-then-olds-i c =
-    let l = c.loop-i in
-    sym (rising_stop l.last l.i c.args.olds.now (omega arith) c.if-olds-i.true) ∙ l.invariant.1
-
-pub loop-i-preserved : goal.loop-i-preserved
-loop-i-preserved c =
-    let l = c.loop-i in
-    (omega arith, sym (rising_on l.last l.i c.args.olds.now (omega arith) c.if-olds-i.false) ∙ l.invariant.1)
+pub loop-old-preserved : goal.loop-old-preserved
+loop-old-preserved c =
+    let l = c.loop-old in
+    sym (rising_on l.last l.old-index c.args.olds.now (omega arith) (omega arith)) ∙ l.invariant
 
 pub returns : goal.returns
 returns c =
-    let l = c.loop-i in
-    sym (rising-end l.last l.i c.args.olds.now (omega arith)) ∙ l.invariant.1
+    let l = c.loop-old in
+    sym (rising-end l.last l.old-index c.args.olds.now (omega arith)) ∙ l.invariant

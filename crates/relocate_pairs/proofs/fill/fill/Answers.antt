@@ -1,8 +1,6 @@
-use mathlib.Core.Path.{sym, ap, ◌∙◌}
+use mathlib.Core.Path.{◌≡◌, sym, ap, ◌∙◌}
 use native.Mathlib.Omega.{arith}
-use borrow.Author.Tests.{not-false}
 use lib.ListN.{length}
-use Rattle.stackmap.proofs.Tests.{not-true}
 use Rattle.relocate.specs.Statepoint.{pointers_of}
 use Rattle.relocate.specs.Code.{record_of, pool_of, pair_number}
 use Rattle.relocate.proofs.Records.{pair_inside}
@@ -20,22 +18,13 @@ overflow_mul-p c = omega (arith, pair_inside c.requires.1 c.loop-p.p (omega arit
 pub overflow_add-start : goal.overflow_add-start
 overflow_add-start c = omega (arith, pair_inside c.requires.1 c.loop-p.p (omega arith))
 
-pub look-run-requires : goal.look-run-requires
-look-run-requires c =
+pub look-requires : goal.look-requires
+look-requires c =
     let e = pair-from (record_of c.args.s.now c.args.at) c.args.start c.loop-p.p c.requires.1.starts in
     (c.requires.1.stands, omega (arith, c.requires.1.room), c.requires.2, rw e (c.requires.3 c.loop-p.p (omega arith)))
 
-pub shape_of-live-then-not-run : goal.shape_of-live-then-not-run
-shape_of-live-then-not-run c = c.loop-p.invariant.1.live_room ∙ sym c.requires.0.live_room
-
-pub shape_of-bases-then-not-run : goal.shape_of-bases-then-not-run
-shape_of-bases-then-not-run c = c.loop-p.invariant.1.bases_room ∙ sym c.requires.0.bases_room
-
-pub shape_of-derived-then-not-run : goal.shape_of-derived-then-not-run
-shape_of-derived-then-not-run c = c.loop-p.invariant.1.derived_room ∙ sym c.requires.0.derived_room
-
-pub returns-then-not-run : goal.returns-then-not-run
-returns-then-not-run c = (look_hit c.loop-p.invariant.0 c.requires.1.starts (omega arith) (sym c.look-run.ensures.0 ∙ not-true _ c.if-not-run.true), c.loop-p.invariant.1, λ h. absurd (omega arith), λ h. absurd (omega arith))
+pub returns-in_default : goal.returns-in_default
+returns-in_default c = (look_hit c.loop-p.invariant.0 c.requires.1.starts (omega arith) (sym c.in_default.ensures.all_inside), c.loop-p.invariant.1, λ h. absurd (omega arith), λ h. absurd (omega arith))
 
 pub put-n-requires : goal.put-n-requires
 put-n-requires c =
@@ -43,7 +32,7 @@ put-n-requires c =
     let r = record_of a.s.now a.at in
     let pool = pool_of a.s.now in
     let e = pair-from r a.start c.loop-p.p c.requires.1.starts in
-    let k = c.look-run.ensures.1 (not-false _ c.if-not-run.false) in
+    let k = c.in-Some.ensures.looked in
     let f = fill_long a.old pool a.frame r _ _ c.loop-p.invariant.2 (omega (arith, c.requires.1.counted)) in
     let g = ap length (k.pointers_are ∙ ap (pointers_of a.old pool a.frame) e) ∙ pair-length a.old pool a.frame (pair_number r c.loop-p.p) in
     let h = held-length c.loop-p.n c.loop-p.live c.loop-p.bases c.loop-p.derived in
@@ -54,26 +43,17 @@ loop-p-preserved c =
     let a = c.args in
     let r = record_of a.s.now a.at in
     let e = pair-from r a.start c.loop-p.p c.requires.1.starts in
-    let yes = not-false _ c.if-not-run.false in
-    let k = c.look-run.ensures in (
-      look_on c.loop-p.invariant.0 c.requires.1.starts (omega arith) (sym k.0 ∙ yes),
+    let k = c.in-Some.ensures in (
+      look_on c.loop-p.invariant.0 c.requires.1.starts (omega arith) (sym k.all_inside),
       c.put-n.ensures.0,
-      fill_on _ _ _ _ _ _ _ c.loop-p.invariant.2 (omega (arith, c.requires.1.counted)) (c.put-n.ensures.1 ∙ rw ((k.1 yes).pointers_are, e)),
+      fill_on _ _ _ _ _ _ _ c.loop-p.invariant.2 (omega (arith, c.requires.1.counted)) (c.put-n.ensures.1 ∙ rw (k.looked.pointers_are, e)),
       c.put-n.ensures.2 c.loop-p.invariant.3,
     )
-
-pub shape_of-live : goal.shape_of-live
-shape_of-live c = c.loop-p.invariant.1.live_room ∙ sym c.requires.0.live_room
-
-pub shape_of-bases : goal.shape_of-bases
-shape_of-bases c = c.loop-p.invariant.1.bases_room ∙ sym c.requires.0.bases_room
-
-pub shape_of-derived : goal.shape_of-derived
-shape_of-derived c = c.loop-p.invariant.1.derived_room ∙ sym c.requires.0.derived_room
 
 pub returns : goal.returns
 returns c =
     let l = c.loop-p in
     let w = fill_end _ _ _ _ _ _ l.invariant.2 (omega (arith, c.requires.1.counted)) in
     let z = sym (ap length w) ∙ held-length l.n l.live l.bases l.derived in
-    (look-end l.invariant.0 (omega arith), l.invariant.1, λ h. rw z w, λ h. rw z l.invariant.3)
+    let e : l.p ≡ c.args.count = omega arith in
+    (rw e at (look-end l.invariant.0 (omega arith)), l.invariant.1, λ h. rw z w, λ h. rw z l.invariant.3)

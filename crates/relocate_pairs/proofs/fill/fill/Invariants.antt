@@ -1,4 +1,3 @@
-use Prim.Native.Nat.{◌-◌}
 use Rattle.moves.specs.Arrays as arrays
 use Rattle.relocate.specs.Limits.{register_count}
 use Rattle.relocate.specs.Statepoint.{inside}
@@ -10,6 +9,3 @@ use Rattle.relocate_pairs.proofs.fill.fill.Given as goal
 abbrev pub invariant-loop-p : goal.invariant-loop-p
 invariant-loop-p l = Looking (inside l.old (pool_of l.s) l.frame l.size) (record_of l.s l.at) l.count l.p × Room l.live l.bases l.derived
     × Filling l.old (pool_of l.s) l.frame (record_of l.s l.at) (arrays.pointers_of l.n l.live l.bases l.derived) l.p × arrays.AllPlaced l.size register_count l.n l.live l.bases l.derived
-
-abbrev pub decreases-loop-p : goal.decreases-loop-p
-decreases-loop-p l = l.count - l.p

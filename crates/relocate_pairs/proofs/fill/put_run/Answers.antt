@@ -1,4 +1,4 @@
-use mathlib.Core.Path.{◌≡◌, refl, sym, ◌∙◌}
+use mathlib.Core.Path.{◌≡◌, refl}
 use native.Mathlib.Omega.{arith}
 use Rattle.relocate_pairs.proofs.Held.{run-start, run_on, ahead-most}
 use Rattle.relocate_pairs.proofs.fill.put_run.Goals as goal
@@ -6,8 +6,9 @@ use Rattle.relocate_pairs.proofs.fill.put_run.Goals as goal
 pub returns : goal.returns
 returns c =
     let l = c.loop-next in
-    let e : l.next ≡ c.args.k = omega (arith, l.invariant.most) in
-    rw (← e) (refl, l.invariant.room, l.invariant.holds, l.invariant.placed)
+    let e : l.next ≡ c.args.k = omega arith in
+    let r = rw e at l.invariant in
+    (refl, r.room, r.holds, r.placed)
 
 pub loop-next-init : goal.loop-next-init
 loop-next-init c = run-start _ _ _ _ _ _ _ _ c.requires.0
@@ -44,15 +45,3 @@ offset_bounds-derived-i c = omega (arith, c.requires.1)
 
 pub bounds-derived-i : goal.bounds-derived-i
 bounds-derived-i c = omega (arith, c.requires.1, c.loop-next.invariant.room.derived_room)
-
-pub overflow_add-result : goal.overflow_add-result
-overflow_add-result c = omega (arith, c.requires.1, c.loop-next.invariant.most)
-
-pub shape_of-live : goal.shape_of-live
-shape_of-live c = c.loop-next.invariant.room.live_room ∙ sym c.requires.0.live_room
-
-pub shape_of-bases : goal.shape_of-bases
-shape_of-bases c = c.loop-next.invariant.room.bases_room ∙ sym c.requires.0.bases_room
-
-pub shape_of-derived : goal.shape_of-derived
-shape_of-derived c = c.loop-next.invariant.room.derived_room ∙ sym c.requires.0.derived_room

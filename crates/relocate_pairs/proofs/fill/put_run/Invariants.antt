@@ -1,9 +1,5 @@
-use Prim.Native.Nat.{◌-◌}
 use Rattle.relocate_pairs.proofs.Held.{Running}
 use Rattle.relocate_pairs.proofs.fill.put_run.Given as goal
 
 abbrev pub invariant-loop-next : goal.invariant-loop-next
 invariant-loop-next l = Running l.size l.n l.k l.b l.d l.initial.live l.initial.bases l.initial.derived l.live l.bases l.derived l.next
-
-abbrev pub decreases-loop-next : goal.decreases-loop-next
-decreases-loop-next l = l.k - l.next

@@ -1,11 +1,7 @@
-use Prim.Native.Nat.{◌-◌, ◌≤◌}
 use Rattle.relocate.specs.declared.Cursor as CursorType
 use Rattle.relocate.specs.Code.{record_of, pool_of}
 use Rattle.relocate_pairs.proofs.Counting.{Seeking}
 use Rattle.relocate_pairs.proofs.pairs.pair_of.Given as goal
 
 abbrev pub invariant-loop-p : goal.invariant-loop-p
-invariant-loop-p l = (l.p ≤ l.count) × ((f : CursorType.Cursor) → Seeking l.old (pool_of l.s) f (record_of l.s l.at) l.pointer l.left l.p)
-
-abbrev pub decreases-loop-p : goal.decreases-loop-p
-decreases-loop-p l = l.count - l.p
+invariant-loop-p l = (f : CursorType.Cursor) → Seeking l.old (pool_of l.s) f (record_of l.s l.at) l.pointer l.left l.p

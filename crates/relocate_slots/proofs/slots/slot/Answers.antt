@@ -7,7 +7,7 @@ use Rattle.relocate_slots.proofs.slots.slot.Goals as goal
 pub returns-then-l-eq-KIND_REGISTER : goal.returns-then-l-eq-KIND_REGISTER
 returns-then-l-eq-KIND_REGISTER c =
     let a = c.args in
-    slot-register a.old a.frame a.size (location_of a.l) c.if-l-eq-KIND_REGISTER.true
+    rw c.from.ensures (slot-register a.old a.frame a.size (location_of a.l) c.if-l-eq-KIND_REGISTER.true)
 
 pub returns-then-l-frame_pointer : goal.returns-then-l-frame_pointer
 returns-then-l-frame_pointer c =
