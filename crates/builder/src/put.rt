@@ -22,10 +22,11 @@ use stackmap::layout;
 fn version_word(old: bool) -> u32
     ensures { result ≡ version_number old }
 {
-    if old {
-        return layout::OLD_VERSION as u32;
-    }
-    layout::VERSION as u32
+    u32::from(if old {
+        layout::OLD_VERSION
+    } else {
+        layout::VERSION
+    })
 }
 
 // The header: version and three zero bytes, and how many functions, constants and records.

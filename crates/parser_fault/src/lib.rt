@@ -19,18 +19,12 @@ use parser_items::{Plan, shape};
 use refusals::{Cause, Refusal};
 use stackmap::layout;
 
-// The location item at `at`, in a listing of `constants` constants; it is to stand at `place`.
-fn location(
-    l: &[u8],
-    old: bool,
-    at: usize,
-    place: usize,
-    constants: usize,
-) -> Result<usize, Refusal>
-    requires { (at + location_item_size ≤ length l.now) × (place + location_size old ≤ section_most) }
-    ensures { verdict result ≡ location_fault old constants (listed_location l.now at) place }
+// The location item at `at`; it is to stand at `place`.
+fn location(l: &[u8], plan: Plan, at: usize, place: usize) -> Result<usize, Refusal>
+    requires { (at + location_item_size ≤ length l.now) × (place + location_size plan.old ≤ section_most) }
+    ensures { verdict result ≡ location_fault plan.old plan.constants (listed_location l.now at) place }
 {
-    let end = place + layout::location_size(old);
+    let end = place + layout::location_size(plan.old);
     let kind = l[at + numbers::LISTED_LOCATION_KIND_AT];
     if kind < layout::KIND_LEAST || kind > layout::KIND_MOST {
         return Err(Refusal(Cause::UnknownKind, place));
@@ -39,32 +33,24 @@ fn location(
         return Ok(end);
     }
     let index = wire::u32_at(l, at + numbers::LISTED_LOCATION_OFFSET_AT);
-    if index >= layout::NEGATIVE_FROM || index as usize >= constants {
+    if index >= layout::NEGATIVE_FROM || index as usize >= plan.constants {
         return Err(Refusal(Cause::NotInPool, place));
     }
     Ok(end)
 }
 
 // The `n` location items from `at`; the first is to stand at `place`.
-fn locations(
-    l: &[u8],
-    old: bool,
-    at: usize,
-    n: usize,
-    place: usize,
-    constants: usize,
-) -> Result<usize, Refusal>
-    requires { (at + location_item_size * n ≤ length l.now) × (place + location_size old * n ≤ section_most) }
-    ensures { verdict result ≡ locations_fault old constants (many listed_location location_item_size n l.now at) place }
+fn locations(l: &[u8], plan: Plan, at: usize, n: usize, place: usize) -> Result<usize, Refusal>
+    requires { (at + location_item_size * n ≤ length l.now) × (place + location_size plan.old * n ≤ section_most) }
+    ensures { verdict result ≡ locations_fault plan.old plan.constants (many listed_location location_item_size n l.now at) place }
 {
-    let step = layout::location_size(old);
+    let step = layout::location_size(plan.old);
     for i in 0..n {
         location(
             l,
-            old,
+            plan,
             at + numbers::LOCATION_ITEM_SIZE * i,
             place + step * i,
-            constants,
         )?;
     }
     Ok(place + step * n)
@@ -96,19 +82,17 @@ pub fn entry(
     requires { RecordCounted l.now at shape.locations shape.outs shape.stop × (plan.old ≡ false → function_item_size * function + function_item_size ≤ length l.now) × (length l.now ≤ listing_most) × (place + record_size plan.old shape.locations shape.outs ≤ section_most) }
     ensures { verdict result ≡ shift place (entry_fault plan.old plan.constants (listed_entry l.now plan.old function at place)) }
 {
-    let old = plan.old;
-    let address = owner_address(l, old, function);
+    let address = owner_address(l, plan.old, function);
     let offset = u64::from(wire::u32_at(l, at + numbers::LISTED_INSTRUCTION_OFFSET_AT));
     if offset > layout::ADDRESS_MOST - address {
         return Err(Refusal(Cause::AddressOverflow, place));
     }
     locations(
         l,
-        old,
+        plan,
         at + numbers::RECORD_ITEM_SIZE,
         shape.locations,
         place + layout::RECORD_HEAD_SIZE,
-        plan.constants,
     )?;
-    Ok(place + shape::record_size(old, shape))
+    Ok(place + shape::record_size(plan.old, shape))
 }

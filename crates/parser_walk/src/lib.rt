@@ -2,7 +2,7 @@
 // No entry point: it requires the plan that was made of this listing.
 #![tactic(auto)]
 
-ghost use Rattle.std.specs.Prelude.{◌≡◌, false, ◌*◌, ◌≤◌, ◌<◌, length, eqb};
+ghost use Rattle.std.specs.Prelude.{◌≡◌, false, ◌+◌, ◌*◌, ◌≤◌, ◌<◌, length, eqb};
 ghost use Rattle.stackmap.specs.Verdict.{verdict};
 ghost use Rattle.stackmap.specs.Section.{record_owners, counted, entries_from};
 ghost use Rattle.stackmap.specs.Check.{counts_right};
@@ -53,9 +53,9 @@ struct Turn {
 
 // Passes over functions that have no record left, to the owner of the next record. In version 1 one is always left, and no
 // function is read.
-fn owner(l: &[u8], old: bool, functions: usize, mut turn: Turn) -> Turn
-    requires { (function_item_size * functions ≤ length l.now) × Turning old functions turn.next turn.left × (0 < length (ahead l.now old functions turn.next turn.left)) }
-    ensures { (ahead l.now old functions result.next result.left ≡ ahead l.now old functions turn.next turn.left) × (0 < result.left) × (0 < result.next) × (old ≡ false → result.next ≤ functions) }
+fn owner(l: &[u8], plan: Plan, mut turn: Turn) -> Turn
+    requires { (function_item_size * plan.functions ≤ length l.now) × Turning plan.old plan.functions turn.next turn.left × (0 < length (ahead l.now plan.old plan.functions turn.next turn.left)) }
+    ensures { (ahead l.now plan.old plan.functions result.next result.left ≡ ahead l.now plan.old plan.functions turn.next turn.left) × (0 < result.left) × (0 < result.next) × (plan.old ≡ false → result.next ≤ plan.functions) }
 {
     // Kept: a `for` over the functions would need an answer at its end, which is never reached.
     while turn.left == 0 {
@@ -81,16 +81,16 @@ fn start(plan: Plan) -> Turn
     Turn { next: 0, left: 0 }
 }
 
-// The records from the item at `from` on; the first is to stand at `place`, and the section ends at `end`.
-fn records(l: &[u8], plan: Plan, from: usize, place: usize, end: usize) -> Result<usize, Refusal>
-    requires { Walkable l.now plan.old plan.functions from plan.records place end × (length l.now ≤ listing_most) }
-    ensures { verdict result ≡ entries_fault plan.old plan.constants (entries_from plan.old 0 place (record_owners plan.old plan.records (functions_of l.now plan.functions)) (records_from l.now from)) end }
+// The records from the item at `from` on; the first is to stand at `place`.
+fn records(l: &[u8], plan: Plan, from: usize, place: usize) -> Result<usize, Refusal>
+    requires { Walkable l.now plan.old plan.functions from plan.records place (place + plan.bytes) × (length l.now ≤ listing_most) }
+    ensures { verdict result ≡ entries_fault plan.old plan.constants (entries_from plan.old 0 place (record_owners plan.old plan.records (functions_of l.now plan.functions)) (records_from l.now from)) (place + plan.bytes) }
 {
     let mut turn = start(plan);
     let mut at = from;
     let mut to = place;
     for _ in 0..plan.records {
-        turn = owner(l, plan.old, plan.functions, turn);
+        turn = owner(l, plan, turn);
         let shape = shape::record_shape(l, at);
         to = parser_fault::entry(l, plan, at, shape, turn.next - 1, to)?;
         at = shape.stop;
@@ -117,5 +117,5 @@ pub fn section(l: &[u8], plan: Plan) -> Result<usize, Refusal>
         return Err(Refusal(Cause::WrongCounts, layout::NUM_RECORDS_AT));
     }
     let from = numbers::FUNCTION_ITEM_SIZE * functions + numbers::CONSTANT_ITEM_SIZE * constants;
-    records(l, plan, from, place, end)
+    records(l, plan, from, place)
 }

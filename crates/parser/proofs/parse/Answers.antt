@@ -1,10 +1,9 @@
 use Rattle.std.proofs.Common.{rules}
-use mathlib.Core.Path.{◌≡◌, refl, sym, ◌∙◌, ap}
+use mathlib.Core.Path.{◌≡◌, refl, sym, ◌∙◌}
 use Rattle.std.specs.Prelude.{◌+◌, Result, Ok, Err}
 use Rattle.std.specs.Result.{MatchResult, IsErrAnd}
 use Rattle.std.proofs.lemmas.Result.{err_from_is_err_and}
 use Rattle.refusals.specs.declared.Refusal.{Refusal}
-use Rattle.stackmap.specs.Verdict.{verdict}
 use Rattle.parser_items.specs.declared.Plan.{Plan}
 use Rattle.parser.proofs.Outcomes.{too_long, start-inside, items_refused, items_accepted, buildable}
 use Rattle.parser.proofs.parse.Goals as goal
@@ -45,10 +44,10 @@ returns-in_err-size c =
     let w = rw (kept _ _ _ _ c.in_ok-plan.was c.map_err.ensures.cases) at c.items-drafted.ensures in
     rw (x.1, x.2)
     (items_accepted c.args.l.now c.listed_old-old.ensures c.version_length-start.ensures.0 c.if-l-gt-LISTING_MOST.false w.0 w.1
-    ∙ sym c.section.ensures ∙ ap verdict c.in_err-size.was)
+    ∙ sym c.in_err-size.ensures)
 
 pub returns : goal.returns
 returns c =
     let w = rw (kept _ _ _ _ c.in_ok-plan.was c.map_err.ensures.cases) at c.items-drafted.ensures in
     buildable c.args.l.now c.listed_old-old.ensures c.version_length-start.ensures.0 c.if-l-gt-LISTING_MOST.false w.0 w.1
-    (sym c.section.ensures ∙ ap verdict c.in_ok-size.was)
+    (sym c.in_ok-size.ensures)

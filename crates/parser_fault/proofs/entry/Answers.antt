@@ -14,8 +14,7 @@ unfolding chain
 returns-in_err-locations c =
     rw (
       entry-fits c.args.plan.old c.args.function c.args.place c.args.plan.constants c.requires.0 (omega (arith, c.owner_address-address.type_inv)),
-      ← c.locations.ensures,
-      c.in_err-locations.was,
+      ← c.in_err-locations.ensures,
       passed _ _ c.from_residual.ensures.1,
     )
 
@@ -24,7 +23,6 @@ unfolding chain
 returns c =
     rw (
       entry-fits c.args.plan.old c.args.function c.args.place c.args.plan.constants c.requires.0 (omega (arith, c.owner_address-address.type_inv)),
-      ← c.locations.ensures,
-      c.in_ok-locations.was,
+      ← c.in_ok-locations.ensures,
       c.record_size.ensures,
     )

@@ -12,7 +12,7 @@ use Rattle.parser_fault.proofs.locations.Goals as goal
 
 pub location-requires : goal.location-requires
 location-requires c =
-    let h = item_inside (location_size c.args.old) c.args.n c.loop-i.i c.loop-i-test.true in
+    let h = item_inside (location_size c.args.plan.old) c.args.n c.loop-i.i c.loop-i-test.true in
     rw c.location_size-step.ensures.0 (omega arith, omega arith)
 
 pub returns-in_err-location : goal.returns-in_err-location
@@ -22,8 +22,7 @@ returns-in_err-location c =
       c.loop-i.invariant,
       locations_turn _ _ _ _ _ _ _ c.loop-i-test.true,
       ← c.location_size-step.ensures.0,
-      ← c.location.ensures,
-      c.in_err-location.was,
+      ← c.in_err-location.ensures,
       passed _ _ c.from_residual.ensures.1,
     )
 
@@ -34,8 +33,7 @@ loop-i-preserved c =
       c.loop-i.invariant,
       locations_turn _ _ _ _ _ _ _ c.loop-i-test.true,
       ← c.location_size-step.ensures.0,
-      ← c.location.ensures,
-      c.in_ok-location.was,
+      ← c.in_ok-location.ensures,
     )
 
 pub returns : goal.returns

@@ -8,5 +8,5 @@ use Rattle.parser_fault.proofs.locations.Given as goal
 
 abbrev pub invariant-loop-i : goal.invariant-loop-i
 invariant-loop-i l =
-    locations_fault l.old l.constants (many listed_location 10 l.n l.l l.at) l.place
-    ≡ locations_fault l.old l.constants (many listed_location 10 (l.n - l.i) l.l (l.at + 10 * l.i)) (l.place + location_size l.old * l.i)
+    locations_fault l.plan.old l.plan.constants (many listed_location 10 l.n l.l l.at) l.place
+    ≡ locations_fault l.plan.old l.plan.constants (many listed_location 10 (l.n - l.i) l.l (l.at + 10 * l.i)) (l.place + location_size l.plan.old * l.i)

@@ -16,11 +16,11 @@ loop-turn-preserved c =
     let a = c.args in
     let p = c.loop-turn in
     let some = rw c.loop-turn-test.true at p.invariant.1 in
-    let h = ahead-some a.l.now a.functions a.old p.turn.next some in
+    let h = ahead-some a.l.now a.plan.functions a.plan.old p.turn.next some in
     let m = h.1 in
-    let r : ahead a.l.now a.old a.functions (p.turn.next + 1) c.u64_at.result ≡ ahead a.l.now a.old a.functions p.turn.next 0 =
-    rw (h.0, ahead-next a.l.now a.functions p.turn.next h.1, c.u64_at.ensures) in
-    let ahead_now : 0 < length (ahead a.l.now a.old a.functions (p.turn.next + 1) c.u64_at.result) = rw r some in (
+    let r : ahead a.l.now a.plan.old a.plan.functions (p.turn.next + 1) c.u64_at.result ≡ ahead a.l.now a.plan.old a.plan.functions p.turn.next 0 =
+    rw (h.0, ahead-next a.l.now a.plan.functions p.turn.next h.1, c.u64_at.ensures) in
+    let ahead_now : 0 < length (ahead a.l.now a.plan.old a.plan.functions (p.turn.next + 1) c.u64_at.result) = rw r some in (
       record { most = λ _. omega arith; begun = λ _. omega arith },
       ahead_now,
       r ∙ rw c.loop-turn-test.true at p.invariant.2,

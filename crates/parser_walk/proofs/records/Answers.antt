@@ -1,8 +1,8 @@
 use native.Mathlib.Omega.{arith}
 use native.Mathlib.Nat.{sub-zero}
 use Prim.Native.Nat.{◌+◌, ◌-◌}
-use mathlib.Core.Path.{◌≡◌, sym, ◌∙◌, ap}
-use Rattle.stackmap.specs.Verdict.{verdict, chain}
+use mathlib.Core.Path.{◌≡◌, sym}
+use Rattle.stackmap.specs.Verdict.{chain}
 use Rattle.stackmap.proofs.Passed.{passed}
 use Rattle.parser_items.proofs.Records.{record_inside_lem}
 use Rattle.parser_walk.proofs.Walking.{walk_start, walk_room, walk_here, walk_on, walk_end}
@@ -38,8 +38,7 @@ returns-in_err-to c =
     let o = c.owner-turn in
     rw (
       walk_here c.loop.invariant (omega arith) c.record_shape-shape.ensures o.result.next o.result.left o.ensures.0 o.ensures.1,
-      ← c.entry.ensures,
-      c.in_err-to.was,
+      ← c.in_err-to.ensures,
       passed _ _ c.from_residual.ensures.1,
     )
 
@@ -49,7 +48,7 @@ loop-preserved c =
     let fewer : c.args.plan.records - (c.loop.counter + 1) ≡ c.args.plan.records - c.loop.counter - 1 = omega arith in
     rw fewer
     (walk_on c.loop.invariant (omega arith) c.record_shape-shape.ensures o.result.next o.result.left o.ensures.0 o.ensures.1
-    o.ensures.2 o.ensures.3 (sym c.entry.ensures ∙ ap verdict c.in_ok-to.was))
+    o.ensures.2 o.ensures.3 (sym c.in_ok-to.ensures))
 
 pub returns : goal.returns
 returns c = sym (walk_end c.loop.invariant (omega arith))

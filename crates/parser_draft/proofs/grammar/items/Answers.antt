@@ -7,18 +7,15 @@ pub returns-in_err-end : goal.returns-in_err-end
 unfolding chain
 returns-in_err-end c =
     let s = c.requires in
-    let e = c.end.ensures in
-    rw (passed _ _ c.from_residual.ensures.1) (
-      rw (items_crowded s.0 (rw c.if-survey.true at s.1), ← c.records_stop.ensures.0, ← e.0, c.in_err-end.was),
-      rw c.in_err-end.was at e.1,
-    )
+    let e = c.in_err-end.ensures in
+    rw (passed _ _ c.from_residual.ensures.1) (rw (items_crowded s.0 (rw c.if-survey.true at s.1), ← c.records_stop.ensures.0, ← e.0), e.1)
 
 pub returns-then-survey : goal.returns-then-survey
 unfolding chain
 returns-then-survey c =
     let s = c.requires in
     let i = s.0.inside in
-    (rw (items_crowded s.0 (rw c.if-survey.true at s.1), ← c.records_stop.ensures.0, ← c.end.ensures.0, c.in_ok-end.was), i)
+    (rw (items_crowded s.0 (rw c.if-survey.true at s.1), ← c.records_stop.ensures.0, ← c.in_ok-end.ensures.0), i)
 
 pub returns : goal.returns
 returns c =

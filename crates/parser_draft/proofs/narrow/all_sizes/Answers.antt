@@ -17,12 +17,9 @@ unfolding chain
 returns-in_err-sizes c =
     let p = c.loop in
     let n = p.invariant.1 in
-    let s = c.sizes.ensures in
+    let s = c.in_err-sizes.ensures in
     let e = some_record c.args.l.now p.at (omega arith) in
-    rw (passed _ _ c.from_residual.ensures.1) (
-      rw (p.invariant.2, sizes_here c.record_shape-shape.ensures e, ← s.0, c.in_err-sizes.was),
-      rw c.in_err-sizes.was at s.1,
-    )
+    rw (passed _ _ c.from_residual.ensures.1) (rw (p.invariant.2, sizes_here c.record_shape-shape.ensures e, ← s.0), s.1)
 
 pub loop-preserved : goal.loop-preserved
 unfolding chain
@@ -32,7 +29,7 @@ loop-preserved c =
     let h = c.record_shape-shape.ensures in
     let e = some_record c.args.l.now p.at (omega arith) in
     let k = ap length (records-here h e) in
-    (h.inside, omega arith, rw (p.invariant.2, sizes_here h e, ← c.sizes.ensures.0, c.in_ok-sizes.was))
+    (h.inside, omega arith, rw (p.invariant.2, sizes_here h e, ← c.in_ok-sizes.ensures.0))
 
 pub returns : goal.returns
 returns c =
