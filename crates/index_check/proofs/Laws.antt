@@ -1,5 +1,5 @@
 -- What the walk tells of a list is whether it is the section's index.
-use Prim.Native.Nat.{ℕ, zero, suc, ◌+◌, ◌*◌, ◌-◌, ◌^◌, ◌≤◌, ◌<◌}
+use Prim.Native.Nat.{ℕ, suc, ◌+◌, ◌*◌, ◌-◌, ◌^◌, ◌≤◌, ◌<◌}
 use mathlib.Core.Path.{◌≡◌, refl, sym, ap, ◌∙◌}
 use mathlib.Core.Bool.{Bool, true, false, ◌&&◌, true≢false}
 use mathlib.Core.Logic.{⊎_elim}
@@ -15,7 +15,7 @@ use Rattle.wire.proofs.Laws.{word_bound, word-drop}
 use Rattle.stackmap.specs.Verdict.{Verdict}
 use Rattle.stackmap.specs.Verdict.{Valid}
 use Rattle.stackmap.specs.Verdict.{shift}
-use Rattle.stackmap.specs.Section.{Record, Owner, Entry, address, num_records, is_old, records_at, read_functions, read_record, read_records, record_owners, entries_from, entries}
+use Rattle.stackmap.specs.Section.{Record, Owner, Entry, address, num_records, is_old, records_at, read_record, entries_from, entries}
 use Rattle.stackmap.specs.Record.{record_check}
 use Rattle.stackmap.specs.Walk.{owner_at, entry_at, Walkable}
 use Rattle.stackmap.proofs.Verdicts.{must-held, chain-rest, shift-valid}

@@ -17,7 +17,8 @@ ghost use Rattle.index_follow.specs.Seen.{all_seen, Following};
 use index_follow::{first_place, next_place};
 use questions::{Found, Hits};
 use questions_find::find;
-use stackmap::{Turn, Verdict, layout};
+use refusals::Refusal;
+use stackmap::{Turn, layout};
 use stackmap_check::walk;
 use stackmap_tables::tables;
 
@@ -95,20 +96,18 @@ fn walk_both(s: &[u8], list: &[u64], at: usize, address: u64, place: usize) -> C
     ensures { (result.found ≡ ask not_found (first_of (with_address address (entries s.now))) (walk_check s.now)) × (walk_check s.now ≡ Valid (length s.now) → result.right ≡ all_seen s.now list.now (leb place (num_records s.now))) }
 {
     let constants = wire::u32_at(s, layout::NUM_CONSTANTS_AT);
-    let mut remaining = wire::u32_at(s, layout::NUM_RECORDS_AT);
-    let n = remaining as usize;
-    let mut number: usize = 0;
+    let n = wire::u32_at(s, layout::NUM_RECORDS_AT) as usize;
     let old = tables::is_old(s);
     let mut turn = walk::start(s, old);
     let mut p = at;
     let mut hits = no_hits();
     let mut here = place;
-    while remaining > 0 {
+    for number in 0..n {
         let t = walk::owner(s, turn);
         let next = t.next;
         match walk::record_at(s, old, constants, next - 1, p) {
-            Verdict::Refused(k, q) => return refused(k, q),
-            Verdict::Valid(end) => {
+            Err(Refusal(cause, q)) => return refused(cause.number(), q),
+            Ok(end) => {
                 let start = walk::owner_address(s, old, next - 1);
                 hits = find::note(s, start, address, number, next - 1, p, hits);
                 here = next_place(s, list, n, start, number, next - 1, p, here);
@@ -119,8 +118,6 @@ fn walk_both(s: &[u8], list: &[u64], at: usize, address: u64, place: usize) -> C
             next,
             left: t.left - 1,
         };
-        number += 1;
-        remaining -= 1;
     }
     if p != s.len() {
         return refused(9, p);
@@ -133,8 +130,8 @@ pub fn check(s: &[u8], list: &[u64], address: u64) -> Checked
     ensures { (result.found ≡ searched s.now address) × (Accepted s.now → is_old s.now ≡ false → result.right ≡ same list.now (index_of s.now)) }
 {
     match tables::begin(s) {
-        Verdict::Refused(n, p) => refused(n, p),
-        Verdict::Valid(at) => {
+        Err(Refusal(cause, place)) => refused(cause.number(), place),
+        Ok(at) => {
             let n = wire::u32_at(s, layout::NUM_RECORDS_AT) as usize;
             let place = first_place(list, n);
             walk_both(s, list, at, address, place)

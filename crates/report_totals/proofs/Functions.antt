@@ -1,7 +1,8 @@
 -- The loop over the functions: what is left gives what the whole gives.
+use Rattle.std.specs.Prelude.{None, Some}
 use Prim.Native.Nat.{ℕ, ◌+◌, ◌*◌, ◌-◌, ◌≤◌, ◌<◌}
 use mathlib.Core.Path.{◌≡◌, refl, sym, ap, ◌∙◌}
-use mathlib.Core.Bool.{Bool, true, false, cond, true≢false}
+use mathlib.Core.Bool.{Bool, true, false, cond}
 use mathlib.Core.List.{List}
 use native.Mathlib.Omega.{arith}
 use lib.Dec.{eqb}
@@ -10,7 +11,7 @@ use Rattle.wire.specs.Word.{word}
 use Rattle.stackmap.specs.Layout.{function_size, stack_size_unknown}
 use Rattle.stackmap.specs.Fields.{many}
 use Rattle.stackmap.specs.Section.{Function, num_functions, is_old, constants_at, read_function, read_functions, read_section}
-use Rattle.stackmap.proofs.Steps.{mul_step, many_step}
+use Rattle.stackmap.proofs.Steps.{mul_step, many_step, fewer, next_place}
 use Rattle.report.specs.declared.Totals.{Totals}
 use Rattle.report.specs.Totals.{total_most, no_kinds, plus, total, one, of_function}
 use Rattle.report.proofs.Plus.{kinds-none, plus_none, plus-end, plus_assoc, totals_are}
@@ -80,12 +81,19 @@ module _ (s : List ℕ) where
             known-fits = fit;
           })
 
-  pub sum_end : {left p known unknown : ℕ} → Summing s left p known unknown → left ≡ 0 → Stacked s (record { exact = true; known = known; unknown = unknown })
+  -- the same for a loop that counts up: function number i of n
+  pub sum_turn : {n : ℕ} (i : ℕ) {known unknown : ℕ} → Summing s (n - i) (16 + function_size (is_old s) * i) known unknown → i < n
+      → {size more : ℕ} → size ≡ word 8 s (16 + function_size (is_old s) * i + 8) → more ≡ cond (eqb size stack_size_unknown) 0 size
+      → {hit : ℕ} → hit ≡ one (eqb size stack_size_unknown) → hit ≤ 1 → known + more ≤ total_most
+      → Summing s (n - (i + 1)) (16 + function_size (is_old s) * (i + 1)) (known + more) (unknown + hit)
+  sum_turn {n} i h l e k q m fit = rw (← next_place (function_size (is_old s)) 16 i, ← fewer n i) (sum_on h (omega arith) e k q m fit refl)
+
+  pub sum_end : {left p known unknown : ℕ} → Summing s left p known unknown → left ≡ 0 → Stacked s (Some (record { known = known; unknown = unknown }))
   unfolding read_section read_functions total many
   sum_end h z =
       let n : num_functions s - 0 ≡ num_functions s = omega arith in
-      record { sums = λ _. rw (z, n, plus-end) at h.all; passes = λ e. absurd (true≢false e) }
+      rw (z, n, plus-end) at h.all
 
-  pub sum_stop : total_most < (total of_function (functions s (num_functions s) 16)).stack → Stacked s (record { exact = false; known = 0; unknown = 0 })
+  pub sum_stop : total_most < (total of_function (functions s (num_functions s) 16)).stack → Stacked s None
   unfolding read_section read_functions
-  sum_stop h = record { sums = λ e. absurd (true≢false (sym e)); passes = λ _. h }
+  sum_stop h = h

@@ -1,4 +1,5 @@
 -- What a section adds, put together.
+use Rattle.std.specs.Prelude.{None, Some}
 use Prim.Native.Nat.{ℕ, ◌<◌}
 use mathlib.Core.Path.{◌≡◌, refl, sym, ◌∙◌}
 use mathlib.Core.Bool.{Bool, true, false, true≢false}
@@ -24,9 +25,9 @@ module _ (s : List ℕ) where
   refusal n p = of_refused
 
   -- what stands before the records is refused
-  pub tally_refused : {t : Totals} → t ≡ of_refused → {n p : ℕ} → chain (header_check s) (tables_check s) ≡ Refused n p → Tallied (contribution s) (record { exact = true; totals = t })
+  pub tally_refused : {t : Totals} → t ≡ of_refused → {n p : ℕ} → chain (header_check s) (tables_check s) ≡ Refused n p → Tallied (contribution s) (Some t)
   unfolding contribution
-  tally_refused e h = record { is = λ _. e ∙ sym (ask-refused refusal (of_accepted s) s _ _ h); passes = λ z. absurd (true≢false z) }
+  tally_refused e h = e ∙ sym (ask-refused refusal (of_accepted s) s _ _ h)
 
   module _ {e : ℕ} (h : chain (header_check s) (tables_check s) ≡ Valid e) where
     -- by the walk over the records alone
@@ -35,9 +36,9 @@ module _ (s : List ℕ) where
     walked b k = ask-begun refusal (of_accepted s) s _ h
 
     -- a record is refused, or something follows
-    pub tally_wrong : false ≡ ask (λ n p. false) true (walk_check s) → {t : Totals} → t ≡ of_refused → Tallied (contribution s) (record { exact = true; totals = t })
+    pub tally_wrong : false ≡ ask (λ n p. false) true (walk_check s) → {t : Totals} → t ≡ of_refused → Tallied (contribution s) (Some t)
     unfolding ask
-    tally_wrong k e = record { is = λ _. e ∙ sym (walked false k ∙ go (walk_check s) k); passes = λ z. absurd (true≢false z) }
+    tally_wrong k e = e ∙ sym (walked false k ∙ go (walk_check s) k)
       where
         go : (v : Verdict) → false ≡ ask (λ n p. false) true v → ask refusal (of_accepted s) v ≡ of_refused
         go (Valid p) k = absurd (true≢false (sym k))
@@ -52,15 +53,15 @@ module _ (s : List ℕ) where
         go (Refused n p) k = absurd (true≢false k)
 
     -- all is accepted
-    pub tally_right : true ≡ ask (λ n p. false) true (walk_check s) → (counts : Counts) → as_totals counts ≡ total of_entry (entries s) → {stacks : Stacks} → Stacked s stacks
-        → {n : ℕ} → n ≡ num_functions s → {t : Totals} → t ≡ plus one_section (plus (function_totals n stacks.known stacks.unknown) (as_totals counts))
-        → Tallied (contribution s) (record { exact = stacks.exact; totals = t })
+    pub tally_right : true ≡ ask (λ n p. false) true (walk_check s) → (counts : Counts) → as_totals counts ≡ total of_entry (entries s) → (stacks : Stacks)
+        → Stacked s (Some stacks) → {n : ℕ} → n ≡ num_functions s → {t : Totals}
+        → t ≡ plus one_section (plus (function_totals n stacks.known stacks.unknown) (as_totals counts)) → Tallied (contribution s) (Some t)
     unfolding of_accepted
-    tally_right k counts c f q e =
-        record {
-          is = λ z. e ∙ rw (accepted k, f.sums z, c, q);
-          passes = λ z. rw (accepted k) (let l = f.passes z in over l);
-        }
+    tally_right k counts c stacks f q e = e ∙ rw (accepted k, f, c, q)
+
+    pub tally_over : true ≡ ask (λ n p. false) true (walk_check s) → Stacked s None → Tallied (contribution s) None
+    unfolding of_accepted
+    tally_over k l = rw (accepted k) (over l)
       where
         over : total_most < (total of_function (read_section s).functions).stack → total_most < (plus one_section (plus (total of_function (read_section s).functions) (total of_entry (entries s)))).stack
         over l = unfold plus in omega arith

@@ -10,26 +10,16 @@ ghost use Rattle.report_totals.specs.Sizes.{one_section, function_totals, Stacke
 
 use report::{Kinds, Reported, Totals};
 use report_records::Counts;
-use stackmap::{Verdict, layout};
+use stackmap::layout;
 use stackmap_tables::tables;
 
 const STACK_SIZE_UNKNOWN: u64 = 18446744073709551615;
 
-const TOTAL_MOST: u64 = 18446744073709551615;
-
-// The sum of the known stack sizes and the number of the unknown ones; not exact where the sum would pass 2^64 - 1.
+// The sum of the known stack sizes and the number of the unknown ones.
 #[derive(Clone, Copy)]
 pub struct Stacks {
-    pub exact: bool,
     pub known: u64,
     pub unknown: u64,
-}
-
-// What a section adds; not exact where its own stack sizes pass 2^64 - 1.
-#[derive(Clone, Copy)]
-pub struct Share {
-    pub exact: bool,
-    pub totals: Totals,
 }
 
 // What a stack size adds to the sum.
@@ -52,36 +42,22 @@ fn unknown_size(size: u64) -> u64
     0
 }
 
-// The stack sizes of all functions.
-fn stack_sizes(s: &[u8]) -> Stacks
+// The stack sizes of all functions; nothing where the sum would pass 2^64 - 1.
+fn stack_sizes(s: &[u8]) -> Option<Stacks>
     requires { constants_at s.now ≤ length s.now }
     ensures { Stacked s.now result }
 {
     let step = layout::function_size(tables::is_old(s));
-    let mut left = wire::u32_at(s, layout::NUM_FUNCTIONS_AT);
-    let mut p: usize = layout::HEADER_SIZE;
+    let functions = wire::u32_at(s, layout::NUM_FUNCTIONS_AT) as usize;
     let mut known: u64 = 0;
     let mut unknown: u64 = 0;
-    while left > 0 {
+    for i in 0..functions {
+        let p = layout::HEADER_SIZE + step * i;
         let size = wire::u64_at(s, p + layout::STACK_SIZE_AT);
-        let more = known_size(size);
-        if more > TOTAL_MOST - known {
-            return Stacks {
-                exact: false,
-                known: 0,
-                unknown: 0,
-            };
-        }
-        known += more;
+        known = known.checked_add(known_size(size))?;
         unknown += unknown_size(size);
-        p += step;
-        left -= 1;
     }
-    Stacks {
-        exact: true,
-        known,
-        unknown,
-    }
+    Some(Stacks { known, unknown })
 }
 
 fn refused_totals() -> Totals
@@ -123,29 +99,20 @@ fn accepted_totals(functions: u64, stacks: Stacks, counts: Counts) -> Totals
     }
 }
 
-// What a section adds: one walk checks its records and counts.
-fn tally(section: &[u8]) -> Share
+// What a section adds: one walk checks its records and counts. Nothing where its own stack sizes pass 2^64 - 1.
+fn tally(section: &[u8]) -> Option<Totals>
     ensures { Tallied (contribution section.now) result }
 {
     match tables::begin(section) {
-        Verdict::Refused(_, _) => Share {
-            exact: true,
-            totals: refused_totals(),
-        },
-        Verdict::Valid(at) => {
+        Err(_) => Some(refused_totals()),
+        Ok(at) => {
             let walked = report_records::records(section, at);
-            if walked.accepted {
-                let stacks = stack_sizes(section);
-                let functions = wire::u32_at(section, layout::NUM_FUNCTIONS_AT) as u64;
-                return Share {
-                    exact: stacks.exact,
-                    totals: accepted_totals(functions, stacks, walked.counts),
-                };
+            if !walked.accepted {
+                return Some(refused_totals());
             }
-            Share {
-                exact: true,
-                totals: refused_totals(),
-            }
+            let stacks = stack_sizes(section)?;
+            let functions = wire::u32_at(section, layout::NUM_FUNCTIONS_AT) as u64;
+            Some(accepted_totals(functions, stacks, walked.counts))
         }
     }
 }
@@ -154,13 +121,12 @@ fn tally(section: &[u8]) -> Share
 pub fn add(section: &[u8], totals: Totals) -> Reported
     ensures { result ≡ add_section section.now totals }
 {
-    let more = tally(section);
-    if more.exact {
-        return report_sums::joined_at(totals.sections, totals, more.totals);
-    }
-    Reported {
-        number: report_sums::PASSED,
-        place: totals.sections,
-        totals,
+    match tally(section) {
+        Some(more) => report_sums::joined_at(totals.sections, totals, more),
+        None => Reported {
+            number: report_sums::PASSED,
+            place: totals.sections,
+            totals,
+        },
     }
 }
