@@ -2,7 +2,7 @@
 // What an operating system call reads is outside every contract; all that matters is in `report_totals` and `report_lines`.
 #![tactic(auto)]
 
-ghost use Rattle.std.specs.Prelude.{◌≡◌, ◌<◌, ◌≤◌, ◌⊎◌, ◌↔◌, [], length, IfSome, IsTrue};
+ghost use Rattle.std.specs.Prelude.{◌≡◌, ◌≤◌, ◌⊎◌, [], length, IfSome};
 ghost use Rattle.report.specs.Totals.{add_section};
 
 use report::{Kinds, Reported, Totals};
@@ -17,29 +17,21 @@ const ROOM: usize = 65537;
 // Room for a file's name. A longer one names no file.
 const NAME_ROOM: usize = 4096;
 
-// Whether the file's bytes are all there, where no read failed: else one came beyond the most that a file may have.
-fn is_whole(got: usize) -> bool
-    ensures { IsTrue result ↔ (got < ROOM) }
-{
-    got < ROOM
-}
-
 // A file that can't be read counts as a refused section, as no bytes are one.
 fn add_refused(totals: Totals) -> Reported
     ensures { result ≡ add_section [] totals }
 {
-    let nothing = [0u8; 1];
-    report_totals::add(&nothing[..0], totals)
+    report_totals::add(&[], totals)
 }
 
-// The file's bytes count where they all came: no read failed, and the file is not too long.
+// The file's bytes count where they all came: no read failed, and none came beyond the most that a file may have.
 fn add_open<R: Read>(file: &mut R, totals: Totals) -> Reported
     ensures { IfSome (R.remaining file.old) (λ bytes. (result ≡ add_section [] totals)
         ⊎ ((length bytes ≤ 65536) × (result ≡ add_section bytes totals))) }
 {
     let mut bytes = [0u8; ROOM];
     match inputs::read_full(file, &mut bytes) {
-        Ok(n) if is_whole(n) => report_totals::add(&bytes[..n], totals),
+        Ok(n) if n < ROOM => report_totals::add(&bytes[..n], totals),
         _ => add_refused(totals),
     }
 }
@@ -62,12 +54,9 @@ fn add_file(rt: &(impl Env + Files), i: usize, totals: Totals) -> Reported {
 
 // How many arguments there are, the program's own name among them.
 fn arg_count(rt: &impl Env) -> usize {
-    for i in 0..usize::MAX {
-        if let Err(FillError::NotPresent) = rt.arg(i, &mut []) {
-            return i;
-        }
-    }
-    usize::MAX
+    (0..usize::MAX)
+        .find(|&i| matches!(rt.arg(i, &mut []), Err(FillError::NotPresent)))
+        .unwrap_or(usize::MAX)
 }
 
 // All files in order; 34 ends the report.
@@ -103,16 +92,9 @@ fn files(rt: &(impl Env + Files), count: usize) -> Reported {
     report
 }
 
-// Room for what is written. The `ensures` gives only the length, which lending the array as a slice needs.
-fn room() -> [u8; 512]
-    ensures { 512 ≡ length result }
-{
-    [0; 512]
-}
-
 pub fn run(rt: &(impl Env + Files + Print)) -> io::Result<()> {
     let report = files(rt, arg_count(rt));
-    let mut out = room();
+    let mut out = [0; 512];
     let n = report_lines::lines(&mut out, report);
     io::writer(rt).write_all(&out[..n])
 }
