@@ -57,7 +57,7 @@ fn owner(l: &[u8], plan: Plan, mut turn: Turn) -> Turn
     requires { (function_item_size * plan.functions ≤ length l.now) × Turning plan.old plan.functions turn.next turn.left × (0 < length (ahead l.now plan.old plan.functions turn.next turn.left)) }
     ensures { (ahead l.now plan.old plan.functions result.next result.left ≡ ahead l.now plan.old plan.functions turn.next turn.left) × (0 < result.left) × (0 < result.next) × (plan.old ≡ false → result.next ≤ plan.functions) }
 {
-    // Kept: a `for` over the functions would need an answer at its end, which is never reached.
+    // Kept: a `for` over the functions is no plainer: it takes an `if` in front of it, and an `unreachable!()` behind it.
     while turn.left == 0 {
         turn.left = wire::u64_at(
             l,
