@@ -2,7 +2,7 @@
 // No entry point: it requires that the maps are right, the frames' records are found and each frame's extent is known.
 #![tactic(auto)]
 
-ghost use Rattle.std.specs.Prelude.{◌≡◌, true, cond, [], map, ◌*◌, ◌≤◌, ◌<◌, ltb, length};
+ghost use Rattle.std.specs.Prelude.{◌≡◌, cond, [], map, ◌*◌, ◌≤◌, ◌<◌, ltb, length};
 ghost use Rattle.stackmap.specs.Check.{Accepted};
 ghost use Rattle.questions.specs.Questions.{first_of};
 ghost use Rattle.moves.specs.declared.Move as MoveType;
@@ -13,7 +13,6 @@ ghost use Rattle.relocate.specs.Plan.{records_of};
 ghost use Rattle.relocate.specs.Relocation.{extent_of};
 ghost use Rattle.thread.specs.Thread.{stopped_at, frames_from, apart, thread_of};
 ghost use Rattle.thread.specs.Code.{Sited};
-ghost use Rattle.thread_stretches.specs.Listed.{AllApart};
 ghost use Rattle.linked_moves.specs.Thread.{extent_over};
 ghost use Rattle.linked_moves.specs.Code.{maps_in, LookedIn, EachSitedIn};
 
@@ -25,7 +24,6 @@ use thread::FRAMES_MOST;
 use thread_extents::Stretch;
 use thread_search::list;
 use thread_search::search::HITS_LENGTH;
-use thread_stretches::PAIRS_LENGTH;
 
 // The extent of a frame by the bytes of its map: it begins at the stack pointer in the frame's own registers.
 fn extent_in(map: &[u8], found: Found, frame: Frame, registers: &[u64]) -> Stretch
@@ -58,83 +56,17 @@ fn extent(
         × (result.end ≡ (extent_over (maps_in s.now) (stopped_at (thread_of machine frames.now registers.now) k)).end) }
 {
     let site = linked_frames::site_of(s, frames, count, keys, hits, sites, k);
-    let from = site.from;
-    let to = site.to;
     let frame = list::frame_at(machine, frames, k);
     let p = REGISTERS * k;
     extent_in(
-        &s[from..to],
+        site.bytes(s),
         site.found,
         frame,
         &registers[p..p + REGISTERS],
     )
 }
 
-// Whether no two extents share a byte, by a look at neighbours in order: false says nothing.
-fn all_apart(
-    machine: Machine,
-    s: &[u8],
-    frames: &[u64],
-    registers: &[u64],
-    count: usize,
-    keys: &[u64; FRAMES_MOST],
-    hits: &[usize; HITS_LENGTH],
-    sites: &[usize; SITES_LENGTH],
-) -> bool
-    requires { LookedIn s.now (maps_in s.now) frames.now count keys.now hits.now sites.now × (length registers.now ≡ register_count * count)
-        × EachSitedIn (maps_in s.now) (thread_of machine frames.now registers.now) count }
-    ensures { result ≡ true → AllApart (λ j. (extent_over (maps_in s.now) (stopped_at (thread_of machine frames.now registers.now) j)).start)
-        (λ j. (extent_over (maps_in s.now) (stopped_at (thread_of machine frames.now registers.now) j)).end) count }
-{
-    let mut pairs = [0u64; PAIRS_LENGTH];
-    let mut ends = [0u64; FRAMES_MOST];
-    let mut kept: usize = 0;
-    let mut k: usize = 0;
-    while k < count {
-        let x = extent(machine, s, frames, registers, count, keys, hits, sites, k);
-        kept = thread_stretches::put(&mut pairs, &mut ends, kept, k, x.start, x.end);
-        k += 1;
-    }
-    thread_stretches::all_apart(&mut pairs, kept, &ends)
-}
-
 // The position of the first frame whose extent shares a byte with an earlier one's; `count` if there is none.
-fn first_of(
-    machine: Machine,
-    s: &[u8],
-    frames: &[u64],
-    registers: &[u64],
-    count: usize,
-    keys: &[u64; FRAMES_MOST],
-    hits: &[usize; HITS_LENGTH],
-    sites: &[usize; SITES_LENGTH],
-) -> usize
-    requires { LookedIn s.now (maps_in s.now) frames.now count keys.now hits.now sites.now × (length registers.now ≡ register_count * count)
-        × EachSitedIn (maps_in s.now) (thread_of machine frames.now registers.now) count }
-    ensures { (result ≤ count) × ((m : MoveType.Move) → apart 0 [] (map (extent_over (maps_in s.now)) (frames_from (thread_of machine frames.now registers.now) count 0)) m
-        ≡ cond (ltb result count) (refused_move 26 result) m) }
-{
-    let mut starts = [0u64; FRAMES_MOST];
-    let mut ends = [0u64; FRAMES_MOST];
-    let mut kept: usize = 0;
-    let mut k: usize = 0;
-    while k < count {
-        let x = extent(machine, s, frames, registers, count, keys, hits, sites, k);
-        let start = x.start;
-        let end = x.end;
-        if thread_disjoint::shares(&starts, &ends, kept, start, end) {
-            return k;
-        }
-        if start < end {
-            thread_disjoint::keep(&mut starts, &mut ends, kept, start, end);
-            kept += 1;
-        }
-        k += 1;
-    }
-    k
-}
-
-// The same: the look at neighbours first, so that only a refused call is looked at frame by frame.
 pub fn first_shared(
     machine: Machine,
     s: &[u8],
@@ -150,8 +82,7 @@ pub fn first_shared(
     ensures { (result ≤ count) × ((m : MoveType.Move) → apart 0 [] (map (extent_over (maps_in s.now)) (frames_from (thread_of machine frames.now registers.now) count 0)) m
         ≡ cond (ltb result count) (refused_move 26 result) m) }
 {
-    if all_apart(machine, s, frames, registers, count, keys, hits, sites) {
-        return count;
-    }
-    first_of(machine, s, frames, registers, count, keys, hits, sites)
+    thread_extents::first_shared_by(count, |k| {
+        extent(machine, s, frames, registers, count, keys, hits, sites, k)
+    })
 }

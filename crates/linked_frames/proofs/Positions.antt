@@ -4,12 +4,15 @@ use mathlib.Core.Path.{◌≡◌, sym, ap, ◌∙◌}
 use mathlib.Core.Bool.{true}
 use mathlib.Core.List.{List, ◌++◌}
 use lib.ListN.{get_or, take, drop}
+use Rattle.stackmap.specs.Check.{Accepted}
+use Rattle.questions.specs.Questions.{first_of}
 use Rattle.moves.specs.declared.Move.{Move}
 use Rattle.moves.specs.Window.{part, splice}
 use Rattle.moves.proofs.Splice.{splice_mid, splice-same}
 use Rattle.relocate.specs.declared.Frame.{Frame}
-use Rattle.relocate.specs.Restore.{Restore}
+use Rattle.relocate.specs.Restore.{Restore, allowed}
 use Rattle.relocate.specs.Stopped.{stopped}
+use Rattle.relocate.specs.Plan.{records_of}
 use Rattle.relocate.specs.Relocation.{answer}
 use Rattle.relocate.specs.Reorder.{with_section}
 use Rattle.relocate.specs.Code.{Relocates}
@@ -20,7 +23,7 @@ use Rattle.linked_moves.specs.Thread.{allowed_new, answer_over, moved_over}
 use Rattle.linked_moves.specs.Code.{registers_after}
 use Rattle.linked_frames.specs.declared.Site.{Site}
 use Rattle.linked_frames.specs.Sites.{SiteOf}
-use Rattle.linked_frames.proofs.ByMap.{AtSite, refused-left, map-answer, map-moved, map-registers}
+use Rattle.linked_frames.proofs.ByMap.{AtSite, refused-left, map-accepted, map_found, map-allowed, map-answer, map-moved, map-registers}
 
 module _ (t : Thread) (k : ℕ) where
   pub site_at : {s : List ℕ} {ms : List Map} {r : Site} → SiteOf s ms (get_or t.list (2 * k) 0) r → SiteOf s ms (stopped_at t k).frame.address r
@@ -43,6 +46,17 @@ module _ (t : Thread) (k : ℕ) where
     left_there o h =
         let e = refused-left R ms im (stopped_at t k) o h in
         (e.0, sym (ap (splice t.registers (32 * k) 32) (sym e.1) ∙ splice-same t.registers (32 * k) 32))
+
+    -- what the plain move asks of its map, for both the judgement and the move
+    pub there_right : (o : AtSite R.section ms (stopped_at t k) r) (f : Frame) → f ≡ frame_at t.machine t.list k → allowed_new R t.machine ≡ true
+        → Accepted (part R.section r.from (r.to - r.from)) × (r.found ≡ first_of (records_of (part R.section r.from (r.to - r.from)) f))
+        × (allowed (with_section R (part R.section r.from (r.to - r.from))) f.machine ≡ true)
+    there_right o f e h =
+        let q = frame_is f e in (
+          map-accepted R ms (stopped_at t k) o,
+          rw q (map_found R ms (stopped_at t k) o),
+          rw q (map-allowed R ms (stopped_at t k) o (allowed_at R h)),
+        )
 
     -- its map's bytes and its own registers are lent
     module _ (o : AtSite R.section ms (stopped_at t k) r) (n : ℕ) (f : Frame) (e : f ≡ frame_at t.machine t.list k) (z : n ≡ 32) where

@@ -41,12 +41,10 @@ fn judge_frame(
     if site.number != 0 {
         return moving::refused(site.number, 0);
     }
-    let from = site.from;
-    let to = site.to;
     let frame = list::frame_at(machine, frames, k);
     let p = REGISTERS * k;
     map::judge(
-        &s[from..to],
+        site.bytes(s),
         site.found,
         image,
         &registers[p..p + REGISTERS],
@@ -79,8 +77,7 @@ pub fn judge(
         (accepted_move (pointers_over (restore s.now olds.now news.now first settings) (maps_in s.now) image.now (frames_from (thread_of machine frames.now registers.now) count 0))) }
 {
     let mut sum: usize = 0;
-    let mut k: usize = 0;
-    while k < count {
+    for k in 0..count {
         let m = judge_frame(
             s, image, registers, first, olds, news, machine, frames, count, keys, hits, sites, k,
             settings,
@@ -89,7 +86,6 @@ pub fn judge(
             return moving::refused(m.number, k);
         }
         sum += m.count;
-        k += 1;
     }
     Move {
         number: 0,
@@ -123,12 +119,10 @@ fn move_frame(
     if site.number != 0 {
         return;
     }
-    let begin = site.from;
-    let end = site.to;
     let frame = list::frame_at(machine, frames, k);
     let p = REGISTERS * k;
     map::relocate(
-        &s[begin..end],
+        site.bytes(s),
         site.found,
         image,
         &mut registers[p..p + REGISTERS],
@@ -160,12 +154,10 @@ pub fn move_all(
     ensures { (image.new ≡ final_over (restore s.now olds.now news.now first settings) (maps_in s.now) (frames_from (thread_of machine frames.now registers.old) count 0) image.old)
         × (registers.new ≡ flatten (final_registers_over (restore s.now olds.now news.now first settings) (maps_in s.now) (frames_from (thread_of machine frames.now registers.old) count 0) image.old)) }
 {
-    let mut next: usize = 0;
-    while next < count {
+    for next in 0..count {
         move_frame(
             s, image, registers, first, olds, news, machine, frames, count, keys, hits, sites,
             next, settings,
         );
-        next += 1;
     }
 }

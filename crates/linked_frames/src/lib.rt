@@ -2,7 +2,8 @@
 // No entry point: it requires that the maps are right and the frames' records are found.
 #![tactic(auto)]
 
-ghost use Rattle.std.specs.Prelude.{◌*◌, ◌<◌, ◌≡◌, get_or};
+ghost use Rattle.std.specs.Prelude.{◌*◌, ◌-◌, ◌<◌, ◌≤◌, ◌≡◌, length, get_or};
+ghost use Rattle.moves.specs.Window.{part};
 ghost use Rattle.thread.specs.Thread.{frame_numbers};
 ghost use Rattle.linked_moves.specs.Code.{maps_in, LookedIn};
 ghost use Rattle.linked_frames.specs.Sites.{SiteOf};
@@ -16,12 +17,23 @@ pub mod frames;
 pub mod map;
 
 // 10 or 15; or 0, the bytes of the map that has the one record with a frame's address, and what the map says of this address.
+// Kept: no Result, which is no plainer here: `linked_extents` knows that its frames have a site, and would match an error that never comes.
 #[derive(Clone, Copy)]
 pub struct Site {
     pub number: u8,
     pub from: usize,
     pub to: usize,
     pub found: Found,
+}
+
+impl Site {
+    // The bytes of its map.
+    pub fn bytes<'a>(self, s: &'a [u8]) -> &'a [u8]
+        requires { (self.from ≤ self.to) × (self.to ≤ length s.now) }
+        ensures { result.now ≡ part s.now self.from (self.to - self.from) }
+    {
+        &s[self.from..self.to]
+    }
 }
 
 // A refusal.
@@ -58,25 +70,25 @@ pub fn site_of(
 {
     let i = sorted::lower_bound(keys, count, frames[FRAME_NUMBERS * k]);
     let h = thread_marks::hits_at(hits, i);
-    if h.sharing == 0 {
-        return nowhere(10);
-    }
-    if h.sharing != 1 {
-        return nowhere(15);
-    }
-    let p = SITE_NUMBERS * i;
-    let from = sites[p];
-    Site {
-        from,
-        to: from + sites[p + 1],
-        found: Found {
-            number: 0,
-            place: 0,
-            index: h.index,
-            function: h.function,
-            sharing: h.sharing,
-            first: h.first,
-        },
-        number: 0,
+    match h.sharing {
+        0 => nowhere(10),
+        1 => {
+            let p = SITE_NUMBERS * i;
+            let from = sites[p];
+            Site {
+                from,
+                to: from + sites[p + 1],
+                found: Found {
+                    number: 0,
+                    place: 0,
+                    index: h.index,
+                    function: h.function,
+                    sharing: h.sharing,
+                    first: h.first,
+                },
+                number: 0,
+            }
+        }
+        _ => nowhere(15),
     }
 }

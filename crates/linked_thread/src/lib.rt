@@ -76,19 +76,18 @@ fn of_allowed(
         × (allowed_new (restore s.now olds.now news.now first settings) machine ≡ true) × (settings.most ≤ pairs_most) }
     ensures { ThreadsOver (restore s.now olds.now news.now first settings) (maps_in s.now) image.old (thread_of machine list.now registers.old) result image.new registers.new }
 {
-    if extent::image_right(first, image.len()) {
-        if table::table_right(olds, news) {
-            if list::list_right(list, registers) {
-                return move_frames(
-                    s, image, registers, first, olds, news, machine, list, count, keys, hits,
-                    sites, settings,
-                );
-            }
-            return moving::refused(25, 0);
-        }
+    if !extent::image_right(first, image.len()) {
+        return moving::refused(13, 0);
+    }
+    if !table::table_right(olds, news) {
         return moving::refused(14, 0);
     }
-    moving::refused(13, 0)
+    if !list::list_right(list, registers) {
+        return moving::refused(25, 0);
+    }
+    move_frames(
+        s, image, registers, first, olds, news, machine, list, count, keys, hits, sites, settings,
+    )
 }
 
 // 33 and what follows, of maps of version 3 in which the frames' records are found.
@@ -110,11 +109,10 @@ pub fn of_maps(
     requires { LookedIn s.now (maps_in s.now) list.now count keys.now hits.now sites.now × (list_right list.now registers.old ≡ true → count ≡ length list.now / frame_numbers) × (settings.most ≤ pairs_most) }
     ensures { ThreadsOver (restore s.now olds.now news.now first settings) (maps_in s.now) image.old (thread_of machine list.now registers.old) result image.new registers.new }
 {
-    if relocate_frame::allowed(false, machine, settings) {
-        return of_allowed(
-            s, image, registers, first, olds, news, machine, list, count, keys, hits, sites,
-            settings,
-        );
+    if !relocate_frame::allowed(false, machine, settings) {
+        return moving::refused(33, 0);
     }
-    moving::refused(33, 0)
+    of_allowed(
+        s, image, registers, first, olds, news, machine, list, count, keys, hits, sites, settings,
+    )
 }

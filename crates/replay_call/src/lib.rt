@@ -9,7 +9,7 @@ ghost use Rattle.replay.specs.Code.{steps_from, Holds};
 use editions::Store;
 use relocate_frame::moving;
 use replay::Outcome;
-use replay_trace::{Shape, items};
+use replay_trace::items;
 
 // A trace that holds these steps, under the edition that is named.
 // No entry point: it requires that the trace is whole.
@@ -53,8 +53,8 @@ pub fn replay(
         × (image.new ≡ replay_image store edition (restore section.now olds.now news.now first) image.old trace.now) }
 {
     match items::measure(trace) {
-        Shape::Broken(place) => Outcome::Broken(place),
-        Shape::Whole(all) => of_steps(
+        Err(broken) => Outcome::Broken(broken.place),
+        Ok(all) => of_steps(
             store, edition, section, image, first, olds, news, trace, all,
         ),
     }

@@ -16,10 +16,7 @@ use replay_trace::steps;
 fn value_of(m: Move) -> usize
     ensures { result ≡ value_of m }
 {
-    if m.number == 0 {
-        return m.count;
-    }
-    m.place
+    if m.number == 0 { m.count } else { m.place }
 }
 
 // The answer of the step number i, and the one that was recorded.
@@ -27,13 +24,11 @@ fn judge(i: usize, recorded: Recorded, m: Move) -> Outcome
     ensures { result ≡ compared1 i recorded m }
 {
     let value = value_of(m);
-    if recorded.number == m.number {
-        if recorded.value == value {
-            return Outcome::Same;
-        }
-        return Outcome::Differs(i, m.number, value);
+    if recorded.number == m.number && recorded.value == value {
+        Outcome::Same
+    } else {
+        Outcome::Differs(i, m.number, value)
     }
-    Outcome::Differs(i, m.number, value)
 }
 
 // What is known already, or else what comes.
@@ -41,9 +36,8 @@ fn first(kept: Outcome, next: Outcome) -> Outcome
     ensures { result ≡ or_else kept next }
 {
     match kept {
-        Outcome::Broken(p) => Outcome::Broken(p),
         Outcome::Same => next,
-        Outcome::Differs(i, number, value) => Outcome::Differs(i, number, value),
+        known => known,
     }
 }
 
@@ -62,10 +56,8 @@ pub fn alike(t: &[u8], n: usize, i: usize, m: Move, kept: Outcome) -> Outcome
     ensures { result ≡ or_else kept (compared_alike t.now (n - i) i m) }
 {
     let mut known = kept;
-    let mut k = i;
-    while k < n {
+    for k in i..n {
         known = note(t, n, k, m, known);
-        k += 1;
     }
     known
 }

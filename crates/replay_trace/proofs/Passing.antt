@@ -1,10 +1,13 @@
 -- The check of a trace, step by step.
-use Prim.Native.Nat.{ℕ, zero, suc, ◌+◌, ◌*◌, ◌-◌, ◌≤◌}
+use Prim.Native.Nat.{ℕ, zero, suc, ◌+◌, ◌*◌, ◌-◌, ◌/◌, ◌≤◌, ◌<◌}
 use mathlib.Core.Path.{◌≡◌, refl, sym, ap, ◌∙◌}
-use mathlib.Core.Bool.{Bool, true, false, ◌&&◌}
+use mathlib.Core.Bool.{Bool, true, false, not, ◌&&◌, true≢false}
 use mathlib.Core.List.{List, [], ◌∷◌}
 use native.Mathlib.Omega.{arith}
 use native.Mathlib.Numerals.{add-one}
+use Rattle.std.specs.Prelude as Std
+use Rattle.std.proofs.Common.{Some, None}
+use Rattle.std.specs.Option.{MatchOption, unwrap_or}
 use borrow.Author.Tests.{le-leb}
 use lib.Dec.{eqb, leb}
 use lib.ListN.{length, get_or}
@@ -99,3 +102,48 @@ module _ {t : List ℕ} {n p : ℕ} (g : Passing t n p) where
 
   pub passing_end : (frame_stands t p && answer_stands t (p + 274)) ≡ false → Shapes t (ended t n p)
   passing_end h = by_tests (frame_stands t p) (answer_stands t (p + 274)) (end_stands t p) (eqb (p + 1) (length t)) refl refl refl refl h
+
+-- whether a step stands where the step number k would
+abbrev pub step_at-number : List ℕ → ℕ → Bool
+step_at-number t k = frame_stands t (284 * k) && answer_stands t (284 * k + 274)
+
+-- all of the first n stand
+pub passing_all : (t : List ℕ) (n : ℕ) → ((k : ℕ) → k < n → step_at-number t k ≡ true) → Passing t n (284 * n)
+passing_all t zero h = passing_start t
+passing_all t (suc n) h =
+    let g = passing_all t n (λ k l. h k (omega arith)) in
+    let z : 284 * n + 284 ≡ 284 * suc n = omega arith in
+    let y : n + 1 ≡ suc n = omega arith in
+    rw (z, y) at (passing_on g (h n (omega arith)))
+
+-- where there is no room for a step, none stands
+pub no_step : (t : List ℕ) (p : ℕ) → length t < p + 284 → (frame_stands t p && answer_stands t (p + 274)) ≡ false
+no_step t p l = go (frame_stands t p && answer_stands t (p + 274)) refl
+  where
+    go : (b : Bool) → (frame_stands t p && answer_stands t (p + 274)) ≡ b → b ≡ false
+    go true e = let i = step_inside t p e in absurd (omega arith)
+    go false e = refl
+
+stands_not : (b : Bool) → not b ≡ false → b ≡ true
+stands_not true e = refl
+stands_not false e = absurd (true≢false e)
+
+none-not : (b : Bool) → not b ≡ true → b ≡ false
+none-not true e = absurd (true≢false (sym e))
+none-not false e = refl
+
+-- the first number, of the m for which there is room, at which none stands
+abbrev pub First : List ℕ → ℕ → Std.Option ℕ → Type 0
+First t m r =
+    MatchOption r ((k : ℕ) → 0 ≤ k → k < m → not (step_at-number t k) ≡ false)
+    (λ i. (0 ≤ i) × (i < m) × (not (step_at-number t i) ≡ true) × ((k : ℕ) → 0 ≤ k → k < i → not (step_at-number t k) ≡ false))
+
+pub first-most : (t : List ℕ) (m : ℕ) (r : Std.Option ℕ) → First t m r → unwrap_or r m ≤ m
+first-most t m None h = omega arith
+first-most t m (Some i) h = omega (arith, h.1)
+
+pub shapes_first : (t : List ℕ) (m : ℕ) (r : Std.Option ℕ) → m ≡ length t / 284 → First t m r → Shapes t (ended t (unwrap_or r m) (284 * unwrap_or r m))
+shapes_first t m None e h =
+    passing_end (passing_all t m (λ k l. stands_not (step_at-number t k) (h k (omega arith) l))) (no_step t (284 * m) (omega arith))
+shapes_first t m (Some i) e h =
+    passing_end (passing_all t i (λ k l. stands_not (step_at-number t k) (h.3 k (omega arith) l))) (none-not (step_at-number t i) h.2)

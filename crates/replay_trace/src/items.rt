@@ -6,7 +6,7 @@ ghost use Rattle.replay.specs.Layout.{frame_item_size};
 ghost use Rattle.replay.specs.Trace.{frame_stands, answer_stands};
 ghost use Rattle.replay_trace.specs.Shapes.{Shapes, ended};
 
-use crate::Shape;
+use crate::Broken;
 use replay::{ANSWER_SIZE, FRAME_SIZE, STEP_SIZE};
 
 const FRAME_KIND: u8 = 1;
@@ -23,10 +23,7 @@ fn stands(t: &[u8], kind: u8, size: usize, at: usize) -> bool
     requires { (at ≤ length t.now) × (1 ≤ size) }
     ensures { result ≡ spec.stands kind size t.now at }
 {
-    if size > t.len() - at {
-        return false;
-    }
-    t[at] == kind
+    size <= t.len() - at && t[at] == kind
 }
 
 // Whether a frame item stands there, with a machine that is known.
@@ -34,10 +31,7 @@ fn frame_stands(t: &[u8], at: usize) -> bool
     requires { at ≤ length t.now }
     ensures { result ≡ frame_stands t.now at }
 {
-    if stands(t, FRAME_KIND, FRAME_SIZE, at) {
-        return t[at + 1] <= LAST_MACHINE;
-    }
-    false
+    stands(t, FRAME_KIND, FRAME_SIZE, at) && t[at + 1] <= LAST_MACHINE
 }
 
 // Whether a frame item stands there, and its answer after it.
@@ -45,38 +39,35 @@ fn step_stands(t: &[u8], at: usize) -> bool
     requires { at ≤ length t.now }
     ensures { result ≡ (frame_stands t.now at && answer_stands t.now (at + frame_item_size)) }
 {
-    if frame_stands(t, at) {
-        return stands(t, ANSWER_KIND, ANSWER_SIZE, at + FRAME_SIZE);
-    }
-    false
+    frame_stands(t, at) && stands(t, ANSWER_KIND, ANSWER_SIZE, at + FRAME_SIZE)
 }
 
 // What stands after n steps, at `at`, where no step stands: the end and nothing after it, or the first bad item.
-fn finish(t: &[u8], n: usize, at: usize) -> Shape
+fn finish(t: &[u8], n: usize, at: usize) -> Result<usize, Broken>
     requires { at ≤ length t.now }
     ensures { result ≡ ended t.now n at }
 {
     if frame_stands(t, at) {
-        return Shape::Broken(at + FRAME_SIZE);
+        return Err(Broken {
+            place: at + FRAME_SIZE,
+        });
     }
-    if stands(t, END_KIND, 1, at) {
-        if at + 1 != t.len() {
-            return Shape::Broken(at + 1);
-        }
-        return Shape::Whole(n);
+    if !stands(t, END_KIND, 1, at) {
+        return Err(Broken { place: at });
     }
-    Shape::Broken(at)
+    if at + 1 != t.len() {
+        return Err(Broken { place: at + 1 });
+    }
+    Ok(n)
 }
 
 // Where the trace is broken, by its first bad item, or how many steps it has.
-pub fn measure(t: &[u8]) -> Shape
+pub fn measure(t: &[u8]) -> Result<usize, Broken>
     ensures { Shapes t.now result }
 {
-    let mut n: usize = 0;
-    let mut p: usize = 0;
-    while step_stands(t, p) {
-        p += STEP_SIZE;
-        n += 1;
-    }
-    finish(t, n, p)
+    let most = t.len() / STEP_SIZE;
+    let n = (0..most)
+        .find(|&n| !step_stands(t, STEP_SIZE * n))
+        .unwrap_or(most);
+    finish(t, n, STEP_SIZE * n)
 }

@@ -4,9 +4,8 @@
 pub mod items;
 pub mod steps;
 
-// Where a trace is broken, or how many steps it has.
-#[derive(Clone, Copy)]
-pub enum Shape {
-    Broken(usize),
-    Whole(usize),
+// A trace that is broken, and where: the place of its first bad item.
+#[derive(Clone, Copy, Debug, PartialEq, Eq)]
+pub struct Broken {
+    pub place: usize,
 }

@@ -5,25 +5,18 @@ ghost use Rattle.relocate.specs.Limits.{register_count};
 ghost use Rattle.replay.specs.Layout.{frame_item_size, answer_item_size};
 ghost use Rattle.replay.specs.Trace.{frame_at, registers_at, recorded_at};
 
-use relocate::{Frame, REGISTERS};
+use relocate::Frame;
 use replay::Recorded;
-
-fn wide(x: u8) -> u64
-    ensures { result ≡ x }
-{
-    x as u64
-}
 
 // The frame of the item at a place, without its registers.
 pub fn frame_at(t: &[u8], at: usize) -> Frame
     requires { at + frame_item_size ≤ length t.now }
     ensures { result ≡ frame_at t.now at }
 {
-    let machine = editions_settings::machine_of(wide(t[at + 1]));
     Frame {
         address: wire::u64_at(t, at + 2),
         function: wire::u64_at(t, at + 10),
-        machine,
+        machine: editions_settings::machine_of(u64::from(t[at + 1])),
     }
 }
 
@@ -32,10 +25,8 @@ pub fn read_registers(t: &[u8], at: usize, registers: &mut [u64])
     requires { (at + frame_item_size ≤ length t.now) × (length registers.old ≡ register_count) }
     ensures { registers.new ≡ registers_at t.now at }
 {
-    let mut k: usize = 0;
-    while k < REGISTERS {
-        registers[k] = wire::u64_at(t, at + 18 + 8 * k);
-        k += 1;
+    for (k, register) in registers.iter_mut().enumerate() {
+        *register = wire::u64_at(t, at + 18 + 8 * k);
     }
 }
 

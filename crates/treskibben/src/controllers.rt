@@ -1,5 +1,6 @@
 // The exported functions of the bench controller, for C and Rust, and nothing else. What is outside its profile is 50: at 0 for the version or the
 // machine, any number but 0, and else at the first record with a breach.
+// Kept: each function is one call, and what it repeats of those in `edition_moves` is its list of arguments and its contract: the C interface.
 ghost use Rattle.std.specs.Prelude.{◌≡◌};
 ghost use Rattle.relocate.specs.declared.Machine.TheVariants.{Amd64};
 ghost use Rattle.restores.specs.Restores.{request};

@@ -1,5 +1,6 @@
 // The exported functions of the restores that name an edition, for C and Rust, and nothing else. The store goes in by value and stays as it is;
 // 31 comes first, for an edition that is unknown or retired, and a machine that is neither 0 nor 1 is 33 after the section's own refusals.
+// Kept: each function is one call, and what it repeats of those in `controllers` is its list of arguments and its contract: the C interface.
 ghost use Rattle.std.specs.Prelude.{◌≡◌};
 ghost use Rattle.moves.specs.Slots.{memory, register};
 ghost use Rattle.restores.specs.Restores.{request};

@@ -5,16 +5,16 @@ use Rattle.linked_moves.specs.Code.{maps_in}
 use Rattle.linked_thread.proofs.Whole.{allowed-is, thread_33}
 use Rattle.linked_thread.proofs.of_maps.Goals as goal
 
-pub returns : goal.returns
-returns c =
+pub returns-then-not-allowed : goal.returns-then-not-allowed
+returns-then-not-allowed c =
     let a = c.args in
     let R = restore a.s.now a.olds.now a.news.now a.first a.settings in
     let ms = maps_in a.s.now in
     let th = thread_of a.machine a.list.now a.registers.now in
-    rw c.refused.ensures (thread_33 R ms a.image.now th c.requires.0.standing (allowed-is R a.machine _ c.allowed.ensures ∙ c.if-allowed.false))
+    rw c.refused.ensures (thread_33 R ms a.image.now th c.requires.0.standing (allowed-is R a.machine _ c.allowed.ensures ∙ c.if-not-allowed.true))
 
 pub of_allowed-requires : goal.of_allowed-requires
 of_allowed-requires c =
     let a = c.args in
     let R = restore a.s.now a.olds.now a.news.now a.first a.settings in
-    (c.requires.0, c.requires.1, allowed-is R a.machine _ c.allowed.ensures ∙ c.if-allowed.true, c.requires.2)
+    (c.requires.0, c.requires.1, allowed-is R a.machine _ c.allowed.ensures ∙ c.if-not-allowed.false, c.requires.2)

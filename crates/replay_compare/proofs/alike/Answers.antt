@@ -6,9 +6,6 @@ use Rattle.replay_compare.proofs.alike.Goals as goal
 pub loop-k-init : goal.loop-k-init
 loop-k-init c = record { same = refl; most = c.requires.1 }
 
-pub note-known-requires : goal.note-known-requires
-note-known-requires c = (c.requires.0, c.loop-k-test.true)
-
 pub loop-k-preserved : goal.loop-k-preserved
 loop-k-preserved c = alike_step _ _ _ c.loop-k.invariant (omega arith) c.note-known.ensures
 

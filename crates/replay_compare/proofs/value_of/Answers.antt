@@ -6,6 +6,6 @@ pub returns-then-m-eq0 : goal.returns-then-m-eq0
 unfolding value_of
 returns-then-m-eq0 c = rw (eq-eqb _ _ c.if-m-eq0.true)
 
-pub returns : goal.returns
+pub returns-else-m-eq0 : goal.returns-else-m-eq0
 unfolding value_of
-returns c = rw (ne_eqb _ _ c.if-m-eq0.false)
+returns-else-m-eq0 c = rw (ne_eqb _ _ c.if-m-eq0.false)

@@ -3,7 +3,6 @@ use borrow.Author.Tests.{lt-leb, le-leb}
 use Rattle.stackmap.specs.Verdict.{Verdict}
 use Rattle.questions.specs.Questions.{ask}
 use Rattle.moves.specs.Settle.{refused_move}
-use Rattle.relocate.specs.Relocation
 use Rattle.treskibben_answers.specs.Answer.{move_answer}
 use Rattle.treskibben.proofs.treskibben_relocate.Goals as goal
 

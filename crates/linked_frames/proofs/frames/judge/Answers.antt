@@ -48,9 +48,3 @@ overflow_add-sum c =
     let i = c.loop-k.invariant in
     let w = judging_few R (maps_in a.s.now) a.image.now th a.count i c.loop-k-test.true j.result j.ensures in
     omega (arith, w, i.few, i.most, c.requires.looked.most, c.requires.most_right)
-
-pub overflow_add-k : goal.overflow_add-k
-overflow_add-k c = omega (arith, c.loop-k.invariant.most, c.requires.looked.most)
-
-pub loop-k-smaller : goal.loop-k-smaller
-loop-k-smaller c = omega arith

@@ -1,4 +1,3 @@
-use native.Mathlib.Omega.{arith}
 use Rattle.relocate.specs.Restore.{restore}
 use Rattle.linked_moves.specs.Code.{maps_in}
 use Rattle.linked_frames.proofs.Moving.{moving_start, moving_on, moving_end}
@@ -26,9 +25,6 @@ pub move_frame-requires : goal.move_frame-requires
 move_frame-requires c =
     let inv = c.loop-next.invariant in
     (rw (inv.long, inv.wide) c.requires, c.loop-next-test.true)
-
-pub overflow_add-next : goal.overflow_add-next
-overflow_add-next c = omega (arith, c.loop-next.invariant.most, c.requires.looked.most)
 
 pub shape_of-image : goal.shape_of-image
 shape_of-image c = c.loop-next.invariant.long

@@ -1,4 +1,3 @@
-use Prim.Native.Nat.{◌-◌}
 use Rattle.relocate.specs.Restore.{restore}
 use Rattle.linked_moves.specs.Code.{maps_in}
 use Rattle.linked_frames.proofs.Moving.{Moving}
@@ -6,6 +5,3 @@ use Rattle.linked_frames.proofs.frames.move_all.Given as goal
 
 abbrev pub invariant-loop-next : goal.invariant-loop-next
 invariant-loop-next l = Moving (restore l.s l.olds l.news l.first l.settings) (maps_in l.s) l.initial.image l.machine l.frames l.initial.registers l.count l.next l.image l.registers
-
-abbrev pub decreases-loop-next : goal.decreases-loop-next
-decreases-loop-next l = l.count - l.next

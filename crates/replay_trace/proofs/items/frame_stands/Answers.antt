@@ -14,6 +14,6 @@ pub returns-then-stands : goal.returns-then-stands
 unfolding frame_stands
 returns-then-stands c = rw (sym c.stands.ensures ∙ c.if-stands.true)
 
-pub returns : goal.returns
+pub returns-else-stands : goal.returns-else-stands
 unfolding frame_stands
-returns c = rw (sym c.stands.ensures ∙ c.if-stands.false)
+returns-else-stands c = c.if-stands.false ∙ rw (sym c.stands.ensures ∙ c.if-stands.false)

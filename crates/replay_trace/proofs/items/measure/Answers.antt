@@ -1,32 +1,34 @@
-use mathlib.Core.Path.{sym, ◌∙◌}
-use native.Mathlib.Omega.{arith}
-use Rattle.replay_trace.proofs.Passing.{passing_start, passing_on, passing_end, step_inside}
+use Prim.Native.Nat.{◌/◌}
+use mathlib.Core.Path.{refl}
+use mathlib.Core.Bool.{true, false, not}
+use borrow.Author.Tests.{tests}
+use Rattle.std.proofs.Common.{rules, arith, ◌≡◌, length}
+use Rattle.std.proofs.lemmas.Iterator.{first_from_Range}
+use Rattle.replay_trace.proofs.Passing.{first-most, shapes_first, step_at-number}
 use Rattle.replay_trace.proofs.items.measure.Goals as goal
 
-pub loop-p-init : goal.loop-p-init
-loop-p-init c = passing_start c.args.t.now
-
-pub step_stands-requires : goal.step_stands-requires
-step_stands-requires c = c.loop-p.invariant.inside
-
-pub returns : goal.returns
-returns c = rw c.finish.ensures (passing_end c.loop-p.invariant (sym c.step_stands.ensures ∙ c.loop-p-test.false))
-
-pub loop-p-preserved : goal.loop-p-preserved
-loop-p-preserved c = passing_on c.loop-p.invariant (sym c.step_stands.ensures ∙ c.loop-p-test.true)
-
-pub overflow_add-p : goal.overflow_add-p
-overflow_add-p c =
-    let i = step_inside c.args.t.now _ (sym c.step_stands.ensures ∙ c.loop-p-test.true) in
-    omega arith
-
-pub overflow_add-n : goal.overflow_add-n
-overflow_add-n c = omega (arith, c.loop-p.invariant.place)
-
-pub loop-p-smaller : goal.loop-p-smaller
-loop-p-smaller c =
-    let i = step_inside c.args.t.now _ (sym c.step_stands.ensures ∙ c.loop-p-test.true) in
+pub overflow_mul-n : goal.overflow_mul-n
+overflow_mul-n c =
+    let t = c.args.t.now in
+    let first =
+    first_from_Range _ _ _ c.find.result (λ k. not (step_at-number t k) ≡ true) (λ k. not (step_at-number t k) ≡ false) c.find.ensures.ran
+    (λ x q k. search (rules, tests)) (λ x q k. search (rules, tests)) in
+    let m = first-most t (length t / 284) c.find.result first in
     omega arith
 
 pub finish-requires : goal.finish-requires
-finish-requires c = c.loop-p.invariant.inside
+finish-requires c =
+    let t = c.args.t.now in
+    let first =
+    first_from_Range _ _ _ c.find.result (λ k. not (step_at-number t k) ≡ true) (λ k. not (step_at-number t k) ≡ false) c.find.ensures.ran
+    (λ x q k. search (rules, tests)) (λ x q k. search (rules, tests)) in
+    let m = first-most t (length t / 284) c.find.result first in
+    omega arith
+
+pub returns : goal.returns
+returns c =
+    let t = c.args.t.now in
+    let first =
+    first_from_Range _ _ _ c.find.result (λ k. not (step_at-number t k) ≡ true) (λ k. not (step_at-number t k) ≡ false) c.find.ensures.ran
+    (λ x q k. search (rules, tests)) (λ x q k. search (rules, tests)) in
+    rw (c.finish.ensures, c.unwrap_or-n.ensures) (shapes_first t (length t / 284) c.find.result refl first)

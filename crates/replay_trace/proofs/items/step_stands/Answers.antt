@@ -13,6 +13,3 @@ stands-requires c =
 pub returns-then-frame_stands : goal.returns-then-frame_stands
 unfolding answer_stands
 returns-then-frame_stands c = rw (sym c.frame_stands.ensures ∙ c.if-frame_stands.true) c.stands.ensures
-
-pub returns : goal.returns
-returns c = rw (sym c.frame_stands.ensures ∙ c.if-frame_stands.false)

@@ -3,4 +3,4 @@ use Rattle.replay_trace.proofs.steps.frame_at.Goals as goal
 
 pub returns : goal.returns
 unfolding frame_at
-returns c = rw (c.u64_at.ensures, c.u64_at-2.ensures, c.machine_of-machine.ensures, c.wide.ensures)
+returns c = rw (c.u64_at.ensures, c.u64_at-2.ensures, c.machine_of.ensures, c.from.ensures)
