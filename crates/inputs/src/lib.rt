@@ -14,6 +14,7 @@ pub fn read_full<R: Read>(reader: &mut R, buf: &mut [u8]) -> io::Result<usize>
     ensures bytes { IfOk result (λ n. Consumes (R.remaining reader.old) (R.remaining reader.new) (take n buf.new)) }
     ensures end { IfOk result (λ n. n < length buf.new → IsAtEnd (R.remaining reader.new)) }
 {
+    // Kept: the new form is no plainer; a read gives as many bytes as it likes, so that no range or iterator counts these steps.
     let mut done = 0;
     while done < buf.len() {
         let n = reader.read(&mut buf[done..])?;
