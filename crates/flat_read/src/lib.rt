@@ -1,12 +1,97 @@
 // Questions on a flat section by number. The functions that are not `pub` are no entry points: they require that their item is inside.
 #![tactic(auto)]
 
-ghost use Rattle.std.specs.Prelude.{◌≡◌, ◌+◌, ◌≤◌, length};
+ghost use Rattle.std.specs.Prelude.{◌≡◌, ◌+◌, ◌≤◌, length, MatchResult};
+ghost use Rattle.flat_check.specs.Check.{Accepted};
+ghost use Rattle.flat_read.specs.Code.{count_of, start_of, size_of, missing_of, Placed, Missed};
 ghost use Rattle.flat.specs.Layout.{constant_size, frame_size, register_size, record_size, location_size, live_out_size};
 ghost use Rattle.flat_data.specs.Data.{read_constant, read_frame, read_register, read_record, read_location, read_live_out};
 ghost use Rattle.flat_read.specs.Read.{no_constant, this_constant, constant_answer, no_frame, this_frame, frame_answer, no_register, this_register, register_answer, no_record, this_record, record_answer, no_location, this_location, location_answer, no_live_out, this_live_out, live_out_answer};
 
 use flat::{layout, offsets};
+
+// The arrays of a section.
+#[derive(Clone, Copy)]
+enum Array {
+    Constants,
+    Frames,
+    Registers,
+    Records,
+    Locations,
+    LiveOuts,
+}
+
+impl Array {
+    // How many items it has.
+    #[tactic(auto, using(flat_check::proofs::Accept::accepted_least, flat_check::proofs::Accept::accepted_arranged))]
+    fn count(self, s: &[u8]) -> usize
+        requires { Accepted s.now }
+        ensures { result ≡ count_of self s.now }
+    {
+        match self {
+            Array::Constants => offsets::num_constants(s),
+            Array::Frames => offsets::num_frames(s),
+            Array::Registers => offsets::num_registers(s),
+            Array::Records => offsets::num_records(s),
+            Array::Locations => offsets::num_locations(s),
+            Array::LiveOuts => offsets::num_live_outs(s),
+        }
+    }
+
+    // Where its items begin.
+    #[tactic(auto, using(flat_check::proofs::Accept::accepted_least, flat_check::proofs::Accept::accepted_arranged))]
+    fn start(self, s: &[u8]) -> usize
+        requires { Accepted s.now }
+        ensures { result ≡ start_of self s.now }
+    {
+        match self {
+            Array::Constants => layout::SECTION_LEAST,
+            Array::Frames => offsets::offset(s, layout::FRAMES_OFFSET_AT),
+            Array::Registers => offsets::offset(s, layout::REGISTERS_OFFSET_AT),
+            Array::Records => offsets::offset(s, layout::RECORDS_OFFSET_AT),
+            Array::Locations => offsets::offset(s, layout::LOCATIONS_OFFSET_AT),
+            Array::LiveOuts => offsets::offset(s, layout::LIVE_OUTS_OFFSET_AT),
+        }
+    }
+
+    // The size of each.
+    fn size(self) -> usize
+        ensures { result ≡ size_of self }
+    {
+        match self {
+            Array::Constants => layout::CONSTANT_SIZE,
+            Array::Frames => layout::FRAME_SIZE,
+            Array::Registers => layout::REGISTER_SIZE,
+            Array::Records => layout::RECORD_SIZE,
+            Array::Locations => layout::LOCATION_SIZE,
+            Array::LiveOuts => layout::LIVE_OUT_SIZE,
+        }
+    }
+
+    // The refusal where it has no such item.
+    fn missing(self) -> u8
+        ensures { result ≡ missing_of self }
+    {
+        match self {
+            Array::Frames | Array::Records => 10,
+            _ => 11,
+        }
+    }
+}
+
+// Where the item k of an array stands, or the refusal: the section's own first.
+fn place(s: &[u8], array: Array, k: u64) -> Result<usize, u8>
+    ensures { MatchResult result (λ at. Placed array s.now k at) (λ n. Missed array s.now k n) }
+{
+    let refusal = flat_check::check(s);
+    if refusal != 0 {
+        return Err(refusal);
+    }
+    if k >= array.count(s) as u64 {
+        return Err(array.missing());
+    }
+    Ok(array.start(s) + array.size() * (k as usize))
+}
 
 // Kept: each of the six answers has a refusal's number and place beside its fields, as the definitions that the contracts equal have them for C.
 #[derive(Clone, Copy, Default)]
@@ -38,21 +123,13 @@ fn constant_at(s: &[u8], at: usize) -> ConstantAnswer
 }
 
 // The constant k of the whole array.
-#[tactic(auto, using(flat_check::proofs::Accept::accepted_least, flat_check::proofs::Accept::accepted_arranged))]
 pub fn constant(s: &[u8], k: u64) -> ConstantAnswer
     ensures { result ≡ constant_answer s.now k }
 {
-    let refusal = flat_check::check(s);
-    if refusal != 0 {
-        return no_constant(refusal);
+    match place(s, Array::Constants, k) {
+        Ok(at) => constant_at(s, at),
+        Err(number) => no_constant(number),
     }
-    if k >= offsets::num_constants(s) as u64 {
-        return no_constant(11);
-    }
-    constant_at(
-        s,
-        layout::SECTION_LEAST + layout::CONSTANT_SIZE * (k as usize),
-    )
 }
 
 #[derive(Clone, Copy, Default)]
@@ -100,21 +177,13 @@ fn frame_at(s: &[u8], at: usize) -> FrameAnswer
 }
 
 // The frame k of the whole array.
-#[tactic(auto, using(flat_check::proofs::Accept::accepted_least, flat_check::proofs::Accept::accepted_arranged))]
 pub fn frame(s: &[u8], k: u64) -> FrameAnswer
     ensures { result ≡ frame_answer s.now k }
 {
-    let refusal = flat_check::check(s);
-    if refusal != 0 {
-        return no_frame(refusal);
+    match place(s, Array::Frames, k) {
+        Ok(at) => frame_at(s, at),
+        Err(number) => no_frame(number),
     }
-    if k >= offsets::num_frames(s) as u64 {
-        return no_frame(10);
-    }
-    frame_at(
-        s,
-        offsets::offset(s, layout::FRAMES_OFFSET_AT) + layout::FRAME_SIZE * (k as usize),
-    )
 }
 
 #[derive(Clone, Copy, Default)]
@@ -152,21 +221,13 @@ fn register_at(s: &[u8], at: usize) -> RegisterAnswer
 }
 
 // The frame register k of the whole array.
-#[tactic(auto, using(flat_check::proofs::Accept::accepted_least, flat_check::proofs::Accept::accepted_arranged))]
 pub fn register(s: &[u8], k: u64) -> RegisterAnswer
     ensures { result ≡ register_answer s.now k }
 {
-    let refusal = flat_check::check(s);
-    if refusal != 0 {
-        return no_register(refusal);
+    match place(s, Array::Registers, k) {
+        Ok(at) => register_at(s, at),
+        Err(number) => no_register(number),
     }
-    if k >= offsets::num_registers(s) as u64 {
-        return no_register(11);
-    }
-    register_at(
-        s,
-        offsets::offset(s, layout::REGISTERS_OFFSET_AT) + layout::REGISTER_SIZE * (k as usize),
-    )
 }
 
 #[derive(Clone, Copy, Default)]
@@ -212,21 +273,13 @@ fn record_at(s: &[u8], at: usize) -> RecordAnswer
 }
 
 // The record k of the whole array.
-#[tactic(auto, using(flat_check::proofs::Accept::accepted_least, flat_check::proofs::Accept::accepted_arranged))]
 pub fn record(s: &[u8], k: u64) -> RecordAnswer
     ensures { result ≡ record_answer s.now k }
 {
-    let refusal = flat_check::check(s);
-    if refusal != 0 {
-        return no_record(refusal);
+    match place(s, Array::Records, k) {
+        Ok(at) => record_at(s, at),
+        Err(number) => no_record(number),
     }
-    if k >= offsets::num_records(s) as u64 {
-        return no_record(10);
-    }
-    record_at(
-        s,
-        offsets::offset(s, layout::RECORDS_OFFSET_AT) + layout::RECORD_SIZE * (k as usize),
-    )
 }
 
 #[derive(Clone, Copy, Default)]
@@ -262,21 +315,13 @@ fn location_at(s: &[u8], at: usize) -> LocationAnswer
 }
 
 // The location k of the whole array.
-#[tactic(auto, using(flat_check::proofs::Accept::accepted_least, flat_check::proofs::Accept::accepted_arranged))]
 pub fn location(s: &[u8], k: u64) -> LocationAnswer
     ensures { result ≡ location_answer s.now k }
 {
-    let refusal = flat_check::check(s);
-    if refusal != 0 {
-        return no_location(refusal);
+    match place(s, Array::Locations, k) {
+        Ok(at) => location_at(s, at),
+        Err(number) => no_location(number),
     }
-    if k >= offsets::num_locations(s) as u64 {
-        return no_location(11);
-    }
-    location_at(
-        s,
-        offsets::offset(s, layout::LOCATIONS_OFFSET_AT) + layout::LOCATION_SIZE * (k as usize),
-    )
 }
 
 #[derive(Clone, Copy, Default)]
@@ -310,19 +355,11 @@ fn live_out_at(s: &[u8], at: usize) -> LiveOutAnswer
 }
 
 // The live-out k of the whole array.
-#[tactic(auto, using(flat_check::proofs::Accept::accepted_least, flat_check::proofs::Accept::accepted_arranged))]
 pub fn live_out(s: &[u8], k: u64) -> LiveOutAnswer
     ensures { result ≡ live_out_answer s.now k }
 {
-    let refusal = flat_check::check(s);
-    if refusal != 0 {
-        return no_live_out(refusal);
+    match place(s, Array::LiveOuts, k) {
+        Ok(at) => live_out_at(s, at),
+        Err(number) => no_live_out(number),
     }
-    if k >= offsets::num_live_outs(s) as u64 {
-        return no_live_out(11);
-    }
-    live_out_at(
-        s,
-        offsets::offset(s, layout::LIVE_OUTS_OFFSET_AT) + layout::LIVE_OUT_SIZE * (k as usize),
-    )
 }
