@@ -10,8 +10,8 @@ ghost use Rattle.stackmap.specs.Check.{Accepted};
 ghost use Rattle.relocate.specs.Code.{pool_of};
 ghost use Rattle.controller.specs.Profile.{first_breach, at_breach, profile_check};
 
-use relocate::Machine;
 use refusals::{Cause, Refusal};
+use relocate::Machine;
 use stackmap::{Turn, layout};
 use stackmap_check::walk;
 use stackmap_tables::{shape, tables};

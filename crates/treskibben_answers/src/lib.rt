@@ -36,9 +36,9 @@ pub fn check_answer(v: Result<usize, Refusal>) -> Answer
             place: 0,
             value: 0,
         },
-        Err(Refusal(cause, place)) => Answer {
+        Err(Refusal(cause, p)) => Answer {
             number: cause.number() as u64,
-            place: place as u64,
+            place: p as u64,
             value: 0,
         },
     }

@@ -7,8 +7,8 @@ use Rattle.index_rows.proofs.Walk.{tabled, next-head, next_address}
 use Rattle.controller_profile.proofs.Looking.{look-start, look_on, look_hit, look-end, next-stands}
 use Rattle.controller_profile.proofs.first_breach.Goals as goal
 
-pub u32_at-requires : goal.u32_at-requires
-u32_at-requires c = let t = tabled _ c.requires.0 in let i = t.inside in omega arith
+pub u32_at-count-requires : goal.u32_at-count-requires
+u32_at-count-requires c = let t = tabled _ c.requires.0 in let i = t.inside in omega arith
 
 pub first_record-p-requires : goal.first_record-p-requires
 first_record-p-requires c = (c.requires.1, (tabled _ c.requires.0).inside)
@@ -18,8 +18,8 @@ start-turn-requires c = (sym c.requires.1, (tabled _ c.requires.0).walkable)
 
 pub loop-number-init : goal.loop-number-init
 loop-number-init c =
-    let all : c.u32_at.result - 0 ≡ c.u32_at.result = omega arith in
-    rw all (look-start (tabled _ c.requires.0) c.start-turn.ensures c.first_record-p.ensures c.u32_at.ensures)
+    let all : c.u32_at-count.result - 0 ≡ c.u32_at-count.result = omega arith in
+    rw all (look-start (tabled _ c.requires.0) c.start-turn.ensures c.first_record-p.ensures c.u32_at-count.ensures)
 
 pub owner-t-requires : goal.owner-t-requires
 owner-t-requires c =
