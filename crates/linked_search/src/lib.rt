@@ -4,8 +4,7 @@
 #![tactic(auto)]
 
 ghost use Rattle.std.specs.Prelude.{◌≡◌, true, cond, List, ℕ, ◌+◌, ◌*◌, ◌≤◌, ◌<◌, eqb, length, drop, get_or, set};
-ghost use Rattle.stackmap.specs.Verdict.{Valid};
-ghost use Rattle.stackmap.specs.Verdict.{shift};
+ghost use Rattle.stackmap.specs.Verdict.{Valid, verdict, shift};
 ghost use Rattle.stackmap.specs.Section.{is_old, entries};
 ghost use Rattle.questions.specs.Kept.{no_hits};
 ghost use Rattle.questions_find.specs.Scan.{front_check};
@@ -19,7 +18,7 @@ ghost use Rattle.linked_search.specs.Check.{linked_check};
 ghost use Rattle.linked_search.specs.Found.{mark, Finding, SettlesOne, SiteStored, Put};
 
 use linked_moves::{SITE_NUMBERS, SITES_LENGTH};
-use stackmap::Verdict;
+use refusals::{Cause, Refusal};
 use stackmap_tables::tables;
 use thread::FRAMES_MOST;
 use thread_search::search;
@@ -28,10 +27,6 @@ use thread_search::search::HITS_LENGTH;
 const SIZE_LEAST: usize = 16;
 
 const SIZE_MOST: usize = 16777216;
-
-const WRONG_SIZE: u8 = 1;
-
-const OTHER_VERSION: u8 = 27;
 
 const HIT_NUMBERS: usize = 4;
 
@@ -91,10 +86,8 @@ fn settle(
     ensures { ((keys : List ℕ) (done : List LinkedMaps.Map) → Finding keys count table.now n sites.old hits.old done
         → Finding keys count table.now 0 sites.new hits.new done) × Grown hits.old hits.new 0 }
 {
-    let mut i: usize = 0;
-    while i < count {
+    for i in 0..count {
         settle_one(i, hits, sites, table, n);
-        i += 1;
     }
 }
 
@@ -123,10 +116,8 @@ fn close_map(
         × (result + 1 < frames_most) × Sorted table.new (result + 1) × (get_or table.new result 0 ≡ end) × (last ≡ true → result ≡ 0) × (n + 1 < length table.old) }
 {
     put_end(table, n + 1, end);
-    if n + 2 < FRAMES_MOST {
-        if !last {
-            return n + 1;
-        }
+    if n + 2 < FRAMES_MOST && !last {
+        return n + 1;
     }
     settle(count, hits, sites, table, n + 1);
     put_end(table, 0, end);
@@ -140,13 +131,13 @@ fn scan_at(
     count: usize,
     hits: &mut [usize; HITS_LENGTH],
     at: usize,
-) -> Verdict
+) -> Result<usize, Refusal>
     requires { (count ≤ frames_most) × Sorted keys.now count × Counted hits.old counted_most × (at ≤ length s.now) × (length s.now ≤ 16777216) }
-    ensures { (result ≡ shift at (front_check (drop at s.now))) × Scans keys.now count hits.old hits.new (mark + at) (entries (drop at s.now)) result }
+    ensures { (verdict result ≡ shift at (front_check (drop at s.now))) × Scans keys.now count hits.old hits.new (mark + at) (entries (drop at s.now)) (verdict result) }
 {
     match search::scan_all(&s[at..], keys, count, hits, MARK + at) {
-        Verdict::Refused(number, place) => Verdict::Refused(number, at + place),
-        Verdict::Valid(end) => Verdict::Valid(at + end),
+        Err(Refusal(cause, place)) => Err(Refusal(cause, at + place)),
+        Ok(end) => Ok(at + end),
     }
 }
 
@@ -172,34 +163,27 @@ pub fn find_all(
     count: usize,
     hits: &mut [usize; HITS_LENGTH],
     sites: &mut [usize; SITES_LENGTH],
-) -> Verdict
+) -> Result<usize, Refusal>
     requires { (count ≤ frames_most) × Sorted keys.now count × Holding keys.now count hits.old (λ a. no_hits) × Counted hits.old 0 }
-    ensures { (result ≡ linked_check section.now) × ((e : ℕ) → result ≡ Valid e
+    ensures { (verdict result ≡ linked_check section.now) × ((e : ℕ) → verdict result ≡ Valid e
         → SoughtIn (maps_in section.now) keys.now count hits.new sites.new × AllStanding section.now (maps_in section.now)) }
 {
     let size = section.len();
-    if size < SIZE_LEAST {
-        return Verdict::Refused(WRONG_SIZE, 0);
-    }
-    if size > SIZE_MOST {
-        return Verdict::Refused(WRONG_SIZE, 0);
+    if size < SIZE_LEAST || size > SIZE_MOST {
+        return Err(Refusal(Cause::WrongLength, 0));
     }
     let mut table = [0u64; FRAMES_MOST];
     let mut n: usize = 0;
     let mut at: usize = 0;
     let mut old = size;
     while at < size {
-        match scan_at(section, keys, count, hits, at) {
-            Verdict::Refused(number, place) => return Verdict::Refused(number, place),
-            Verdict::Valid(end) => {
-                old = first_old(section, at, old);
-                n = close_map(count, hits, sites, &mut table, n, end, end == size);
-                at = end;
-            }
-        }
+        let end = scan_at(section, keys, count, hits, at)?;
+        old = first_old(section, at, old);
+        n = close_map(count, hits, sites, &mut table, n, end, end == size);
+        at = end;
     }
     if old != size {
-        return Verdict::Refused(OTHER_VERSION, old);
+        return Err(Refusal(Cause::OtherVersion, old));
     }
-    Verdict::Valid(size)
+    Ok(size)
 }
