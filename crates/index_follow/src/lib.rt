@@ -24,6 +24,7 @@ pub fn first_place(list: &[u64], n: usize) -> usize
 
 // The place after that of the pair of record `number`, which stands at `at` and belongs to a function that starts at `start`; the pair is
 // looked for at `place` first. n + 1 if it is not there, or an earlier one was not.
+// Kept: what may not change, the public clause lets a place past n mean that the list is wrong (`Following` in specs/Seen.antt).
 pub fn next_place(
     s: &[u8],
     list: &[u64],

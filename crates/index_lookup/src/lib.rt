@@ -14,6 +14,7 @@ const NOT_FOUND: u64 = 10;
 
 // What is written for one address: a refusal's number, or 0, and its place, which is 0; and the record, its function and how many share
 // the address.
+// Kept: what may not change, `five` in specs/Looked.antt, which the clause of `look_up` names, reads these four numbers.
 #[derive(Clone, Copy)]
 pub struct Looked {
     pub number: u64,

@@ -47,6 +47,7 @@ pub fn listed_tables(l: &[u8]) -> Tables
 }
 
 // What a pass over the records finds.
+// Kept: what may not change, the clause of `survey_records` speaks of `crowded`.
 #[derive(Clone, Copy)]
 pub struct Survey {
     // How many records, and their bytes in a section.

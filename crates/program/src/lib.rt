@@ -10,11 +10,11 @@ ghost use Rattle.program.specs.Program.{written, output_room};
 const INPUT_MOST: usize = 40960;
 
 // Writes the line that says a refusal, and gives its length.
-fn put_line(out: &mut [u8; 65536], number: u8, place: usize) -> usize
+fn put_line(out: &mut [u8; 65536], number: usize, place: usize) -> usize
     ensures { (result ≡ length (line number place)) × (out.new ≡ sets out.old 0 (line number place)) × (result ≤ 53) }
 {
     let mut next = decimal::put_text(out, 0, b"refused ");
-    next = decimal::put_digits(out, next, number as usize, 20);
+    next = decimal::put_digits(out, next, number, 20);
     next = decimal::put_text(out, next, b" at ");
     next = decimal::put_digits(out, next, place, 20);
     out[next] = b'\n';
@@ -30,7 +30,7 @@ pub fn answer(input: &[u8], out: &mut [u8; 65536]) -> usize
     }
     let c = lister::to_listing(input, out);
     if c.number != 0 {
-        return put_line(out, c.number, c.place);
+        return put_line(out, usize::from(c.number), c.place);
     }
     c.written
 }

@@ -29,6 +29,7 @@ pub struct Counts {
 }
 
 // Whether all records of a section are valid and nothing follows them, and what they add.
+// Kept: what may not change, the clause of `records` speaks of `accepted`.
 #[derive(Clone, Copy)]
 pub struct Walked {
     pub accepted: bool,

@@ -14,7 +14,7 @@ returns-then-c-ne0 c =
     let room : length a.out.now ≡ 65536 = omega arith in
     let h = written-refused a.input.now a.out.now c.if-input-gt-INPUT_MOST.false room (rw t.number at c.if-c-ne0.true) in
     let l = h.line-is in
-    rw (l, ← t.number, ← t.place) (c.put_line-then-c-ne0.ensures.0, rw (← h.kept, ← t.output) c.put_line-then-c-ne0.ensures.1, omega arith)
+    rw (l, ← t.number, ← t.place, ← c.from.ensures) (c.put_line-then-c-ne0.ensures.0, rw (← h.kept, ← t.output) c.put_line-then-c-ne0.ensures.1, omega arith)
 
 pub returns : goal.returns
 returns c =
