@@ -17,10 +17,8 @@ fn copy(t: &[u8], i: usize, n: usize, keys: &mut [u64])
     requires { (step_size * (i + n) ≤ length t.now) × (n ≤ length keys.old) }
     ensures { (j : ℕ) → j < n → get_or keys.new j 0 ≡ (frame_at t.now (step_size * (i + j))).address }
 {
-    let mut k: usize = 0;
-    while k < n {
+    for k in 0..n {
         keys[k] = wire::u64_at(t, STEP_SIZE * (i + k) + ADDRESS_AT);
-        k += 1;
     }
 }
 

@@ -151,12 +151,10 @@ pub fn replay_steps(
     ensures { Done (restore s.now olds.now news.now first settings) t.now all i kept image.old (i + n) result image.new }
 {
     let mut known = kept;
-    let mut k = i;
-    while k < i + n {
+    for k in i..i + n {
         known = replay_step(
             s, image, first, olds, news, t, all, i, n, keys, hits, k, settings, fault, known,
         );
-        k += 1;
     }
     known
 }

@@ -106,6 +106,7 @@ pub fn replay_all(
     let tested = fault(image, first, olds, news);
     let mut known = Outcome::Same;
     let mut i: usize = 0;
+    // Kept: how many steps a part has is its own to say, up to the address list's length, so that no range counts the parts.
     while i < all {
         let part = replay_part(
             s, image, first, olds, news, t, all, i, settings, tested, known,

@@ -77,8 +77,7 @@ pub fn judge(
         × (image.new ≡ image.old) × (registers.new ≡ registers.old) }
 {
     let mut sum: usize = 0;
-    let mut k: usize = 0;
-    while k < count {
+    for k in 0..count {
         let m = settle_frame(
             s, image, registers, first, olds, news, machine, frames, count, keys, hits, k, false,
             settings,
@@ -87,7 +86,6 @@ pub fn judge(
             return moving::refused(m.number, k);
         }
         sum += m.count;
-        k += 1;
     }
     Move {
         number: 0,
@@ -115,12 +113,10 @@ pub fn move_all(
     ensures { (image.new ≡ final (restore s.now olds.now news.now first settings) (frames_from (thread_of machine frames.now registers.old) count 0) image.old)
         × (registers.new ≡ flatten (final_registers (restore s.now olds.now news.now first settings) (frames_from (thread_of machine frames.now registers.old) count 0) image.old)) }
 {
-    let mut next: usize = 0;
-    while next < count {
+    for next in 0..count {
         settle_frame(
             s, image, registers, first, olds, news, machine, frames, count, keys, hits, next, true,
             settings,
         );
-        next += 1;
     }
 }

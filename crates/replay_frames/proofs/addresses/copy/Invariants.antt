@@ -1,11 +1,7 @@
-use Prim.Native.Nat.{◌-◌, ◌≤◌}
 use mathlib.Core.Path.{◌≡◌}
 use lib.ListN.{length}
 use Rattle.replay_frames.proofs.Gathering.{Copied}
 use Rattle.replay_frames.proofs.addresses.copy.Given as goal
 
 abbrev pub invariant-loop-k : goal.invariant-loop-k
-invariant-loop-k l = Copied l.t l.i l.keys l.k × (l.k ≤ l.n) × (length l.keys ≡ length l.initial.keys)
-
-abbrev pub decreases-loop-k : goal.decreases-loop-k
-decreases-loop-k l = l.n - l.k
+invariant-loop-k l = Copied l.t l.i l.keys l.k × (length l.keys ≡ length l.initial.keys)

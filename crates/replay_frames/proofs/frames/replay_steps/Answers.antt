@@ -6,7 +6,7 @@ use Rattle.replay.proofs.Replaying.{done_join}
 use Rattle.replay_frames.proofs.frames.replay_steps.Goals as goal
 
 pub loop-k-init : goal.loop-k-init
-loop-k-init c = (record { outcome = refl; image = refl; long = refl }, omega arith, omega arith)
+loop-k-init c = (record { outcome = refl; image = refl; long = refl }, omega arith)
 
 pub overflow_add-i : goal.overflow_add-i
 overflow_add-i c = omega (arith, c.requires.looked.room)
@@ -16,17 +16,11 @@ replay_step-known-requires c =
     let inv = c.loop-k.invariant in
     (rw inv.0.long c.requires, inv.1, c.loop-k-test.true)
 
-pub overflow_add-k : goal.overflow_add-k
-overflow_add-k c = omega (arith, c.requires.looked.room)
-
-pub loop-k-smaller : goal.loop-k-smaller
-loop-k-smaller c = omega arith
-
 pub loop-k-preserved : goal.loop-k-preserved
 loop-k-preserved c =
     let a = c.args in
     let inv = c.loop-k.invariant in
-    (done_join (restore a.s.now a.olds.now a.news.now a.first a.settings) a.t.now a.all inv.0 c.replay_step-known.ensures, omega arith, omega arith)
+    (done_join (restore a.s.now a.olds.now a.news.now a.first a.settings) a.t.now a.all inv.0 c.replay_step-known.ensures, omega arith)
 
 pub shape_of-image : goal.shape_of-image
 shape_of-image c = c.loop-k.invariant.0.long

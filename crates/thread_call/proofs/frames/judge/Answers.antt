@@ -50,9 +50,6 @@ overflow_add-sum c =
     let w = judging_few R a.image.now th a.count (accepted_move (pointers_in R a.image.now (frames_from th a.count 0))) inv.0 c.loop-k-test.true m.result e in
     omega (arith, w, inv.0.few, inv.0.most, c.requires.looked.most, c.requires.most_right)
 
-pub overflow_add-k : goal.overflow_add-k
-overflow_add-k c = omega (arith, c.loop-k.invariant.0.most, c.requires.looked.most)
-
 pub loop-k-preserved : goal.loop-k-preserved
 loop-k-preserved c =
     let a = c.args in

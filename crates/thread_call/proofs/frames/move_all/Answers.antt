@@ -20,9 +20,6 @@ loop-next-preserved c =
     moving_on (restore a.s.now a.olds.now a.news.now a.first a.settings) a.image.now a.machine a.frames.now a.registers.now a.count c.requires.registers_right c.loop-next.invariant c.loop-next-test.true m.ensures.1 m.ensures.2
     m.auto.image m.auto.registers
 
-pub overflow_add-next : goal.overflow_add-next
-overflow_add-next c = omega (arith, c.loop-next.invariant.most, c.requires.looked.most)
-
 pub shape_of-image : goal.shape_of-image
 shape_of-image c = c.loop-next.invariant.long
 
