@@ -68,6 +68,18 @@ module _ (s : List ℕ) where
         short = omega (arith, listing_length, listing_short s (length s) k);
       }
 
+  -- the parts of the listing's length, which is at most 25/16 of the section's, so that no sum overflows
+  pub parts-long : Accepted s → {old : Bool} {functions constants records pool first : ℕ} → SectionLayout s old functions constants records pool first
+      → {v r : ℕ} → v ≡ version_length old → r ≡ in_listing old s records first
+      → (v + 25 * functions + 9 * constants + r + 1 ≡ length (encode_listing (read_section s))) × (length (encode_listing (read_section s)) ≤ 26214400)
+  parts-long k t v r =
+      let l = laid k in
+      let f = t.functions_are in
+      let c = t.constants_are in
+      let a = rw t.old_is at v in
+      let b = rw (t.old_is, t.records_are, t.first_is) at r in
+      (omega (arith, listing_length), omega (arith, listing_length))
+
   -- its parts are inside, and so is their listing in an output that is long enough
   pub record Parts (old : Bool) (functions constants records pool first room : ℕ) : Type 0 where
     pub functions_inside : 16 + function_size old * functions ≤ length s

@@ -29,7 +29,7 @@ pub struct Counts {
 }
 
 // Whether all records of a section are valid and nothing follows them, and what they add.
-// Kept: what may not change, the clause of `records` speaks of `accepted`.
+// Kept: a flag beside the counts, and no Option: the contract of `records` names both.
 #[derive(Clone, Copy)]
 pub struct Walked {
     pub accepted: bool,
