@@ -17,6 +17,7 @@ pub fn version() -> u32
     3
 }
 
+// Kept: number and place in each answer are the C interface.
 // A refusal's number and place, or 0 and 0 and the value that the call is for.
 #[repr(C)]
 #[derive(Clone, Copy)]

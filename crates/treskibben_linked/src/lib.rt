@@ -7,6 +7,7 @@ ghost use Rattle.treskibben_linked.specs.Answer.{count_answer, found_answer};
 use linked::{FoundIn, Maps};
 use treskibben_answers::Answer;
 
+// Kept: number and place in each answer are the C interface.
 // By address over all maps: the record's map, its number there, its function's number there, and how many records of all maps share the
 // address; 0 elsewhere.
 #[repr(C)]

@@ -10,6 +10,7 @@ ghost use Rattle.treskibben_reasons.specs.Answer.{reason_answer, unknown_machine
 use explain::{Asked, Reason};
 use refusals::Refusal;
 
+// Kept: number and place in each answer are the C interface.
 // The reason's number, 0 unlisted, 1 only a base, 2 null base, 3 moved, 4 refused; of refused its number and place; of moved the lowest pair that
 // derives the slot, the old base and the new base; 0 elsewhere.
 #[repr(C)]

@@ -6,6 +6,7 @@ ghost use Rattle.treskibben_replays.specs.Answer.{outcome_answer};
 
 use replay::Outcome;
 
+// Kept: number and place in each answer are the C interface.
 // 35 and the place of the trace's first bad item; or 0, 0 and whether a recorded answer differs (0 or 1), with the first answer item that does, counted
 // from 0 among answers, and the number and the place or count of the answer that its frame gets now; 0 elsewhere.
 #[repr(C)]
