@@ -39,6 +39,7 @@ fn renew_one(
 
 // The lowest pair whose old base, in `values`, is neither 0 nor an old start; `pairs` if there is none, and then `values` has the new
 // contents of the derived slots.
+// Kept: the contract of this public function (`Renews`) answers `pairs` where there is none.
 pub fn renew(
     window: &[u8],
     registers: &[u64],

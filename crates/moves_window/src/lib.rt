@@ -88,6 +88,7 @@ fn settle_pairs(
 }
 
 // The move of a frame whose window is image[off..end], or its judgement. `values` is lent for as many numbers as there are pairs.
+// Kept: the contract of this public function (`SettlesIn`) speaks of `write`, which its callers pass on.
 pub fn move_window(
     image: &mut [u8],
     registers: &mut [u64],
