@@ -1,10 +1,10 @@
 -- The stages of a plan, each by the tests that lead to it.
-use Prim.Native.Nat.{ℕ, ◌+◌, ◌-◌, ◌^◌, ◌≤◌, ◌<◌}
+use Prim.Native.Nat.{ℕ, ◌<◌}
 use mathlib.Core.Path.{◌≡◌, refl, sym}
 use mathlib.Core.Bool.{Bool, true, false, cond, ◌&&◌}
 use mathlib.Core.List.{List}
 use native.Mathlib.Omega.{arith}
-use borrow.Author.Tests.{eqb-true, le-leb, lt-leb}
+use borrow.Author.Tests.{eqb-true}
 use lib.ListN.{length}
 use Rattle.stackmap.specs.Section.{Entry, is_old}
 use Rattle.stackmap.specs.Check.{Accepted}
@@ -26,21 +26,6 @@ use Rattle.relocate.specs.Stopped.{Stopped, registers_right, cursor}
 use Rattle.relocate.specs.Plan.{records_of, only, image_right, plan_pairs, plan_record, plan}
 use Rattle.relocate.specs.Relocation.{answer, moved, moved_registers}
 use Rattle.relocate.specs.Code.{limited, plan_entry, Relocates}
-
--- 13
-
-module _ (first n : ℕ) where
-  pub image-long : 1048576 < n → false ≡ image_right first n
-  unfolding image_right
-  image-long h = rw (lt-leb n 1048576 h)
-
-  pub image_past : n ≤ 1048576 → 2 ^ 64 - 1 < first + n → false ≡ image_right first n
-  unfolding image_right
-  image_past l h = rw (le-leb n 1048576 l, lt-leb (first + n) (2 ^ 64 - 1) h)
-
-  pub image_fine : n ≤ 1048576 → first + n ≤ 2 ^ 64 - 1 → true ≡ image_right first n
-  unfolding image_right
-  image_fine l h = rw (le-leb n 1048576 l, le-leb (first + n) (2 ^ 64 - 1) h)
 
 -- 1 to 9, 33, 13, 14, 25
 

@@ -44,37 +44,17 @@ pub fn registers_right(registers: &[u64]) -> bool
     registers.len() == REGISTERS
 }
 
-// Whether two machines are the same.
-fn same_machine(a: Machine, b: Machine) -> bool
-    ensures { result ≡ same_machine a b }
-{
-    match a {
-        Machine::Amd64 => match b {
-            Machine::Amd64 => true,
-            Machine::Aarch64 => false,
-        },
-        Machine::Aarch64 => match b {
-            Machine::Amd64 => false,
-            Machine::Aarch64 => true,
-        },
-    }
-}
-
 // The test of refusal 33: `old` is true for a section of version 1.
+#[tactic(auto, unfolding(relocate::specs::Restore::same_machine))]
 pub fn allowed(old: bool, machine: Machine, settings: Settings) -> bool
     ensures { result ≡ (cond old settings.version1 settings.version3 && same_machine machine settings.machine) }
 {
-    let keeps = settings.machine;
-    if old {
-        if settings.version1 {
-            return same_machine(machine, keeps);
-        }
-        return false;
-    }
-    if settings.version3 {
-        return same_machine(machine, keeps);
-    }
-    false
+    let kept = if old {
+        settings.version1
+    } else {
+        settings.version3
+    };
+    kept && machine == settings.machine
 }
 
 // 13, 14, 25 and what follows, of an accepted section whose version is allowed, as the frame's machine is.
@@ -93,31 +73,31 @@ fn of_section(
         × (spec.allowed (restore section.now olds.now news.now first settings) frame.machine ≡ true) × (settings.most ≤ pairs_most) }
     ensures { Relocates (restore section.now olds.now news.now first settings) image.old (stopped frame registers.old) result image.new registers.new }
 {
-    if extent::image_right(first, image.len()) {
-        let right = table::table_right(olds, news);
-        let lent = registers_right(registers);
-        let named = find::named(section, found, frame.function);
-        if right {
-            if lent {
-                let at = cursor(frame, registers);
-                return moving::move_found(
-                    section,
-                    named,
-                    image,
-                    registers,
-                    first,
-                    olds,
-                    news,
-                    at,
-                    true,
-                    settings.most,
-                );
-            }
-            return moving::refused(25, 0);
-        }
+    if !extent::image_right(first, image.len()) {
+        return moving::refused(13, 0);
+    }
+    let right = table::table_right(olds, news);
+    let lent = registers_right(registers);
+    let named = find::named(section, found, frame.function);
+    if !right {
         return moving::refused(14, 0);
     }
-    moving::refused(13, 0)
+    if !lent {
+        return moving::refused(25, 0);
+    }
+    let at = cursor(frame, registers);
+    moving::move_found(
+        section,
+        named,
+        image,
+        registers,
+        first,
+        olds,
+        news,
+        at,
+        true,
+        settings.most,
+    )
 }
 
 // 33 and what follows, of a frame whose records are searched for in a section that is accepted.
@@ -136,13 +116,12 @@ pub fn relocate_found(
     requires { (found ≡ searched section.now frame.address) × (of_section found ≡ false) × (settings.most ≤ pairs_most) }
     ensures { Relocates (restore section.now olds.now news.now first settings) image.old (stopped frame registers.old) result image.new registers.new }
 {
-    let machine = frame.machine;
-    if allowed(tables::is_old(section), machine, settings) {
-        return of_section(
-            section, found, image, first, olds, news, frame, registers, settings,
-        );
+    if !allowed(tables::is_old(section), frame.machine, settings) {
+        return moving::refused(33, 0);
     }
-    moving::refused(33, 0)
+    of_section(
+        section, found, image, first, olds, news, frame, registers, settings,
+    )
 }
 
 // Relocates one frame in the stack image that starts at the address `first`, by the move table of old and new starts: a refusal's

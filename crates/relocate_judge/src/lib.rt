@@ -128,6 +128,7 @@ pub fn judge_found(
 }
 
 // 13, 14, 25 and what follows, of an accepted section whose version is allowed, as the frame's machine is.
+// Kept: relocate_frame makes the same three tests, since each crate's edits exchange their order in its own.
 fn of_section(
     section: &[u8],
     found: Found,
@@ -147,31 +148,31 @@ fn of_section(
     ensures { Judged (restore section.now olds.now news.now first settings) image.now (stopped frame registers.now)
         (StoppedSpec.cursor (stopped frame registers.now)) result live.new bases.new derived.new }
 {
-    if extent::image_right(first, image.len()) {
-        if table::table_right(olds, news) {
-            if relocate_frame::registers_right(registers) {
-                let named = find::named(section, found, frame.function);
-                let at = relocate_frame::cursor(frame, registers);
-                return judge_found(
-                    section,
-                    named,
-                    image,
-                    registers,
-                    first,
-                    olds,
-                    news,
-                    at,
-                    live,
-                    bases,
-                    derived,
-                    settings.most,
-                );
-            }
-            return plan::refused(25, 0);
-        }
+    if !extent::image_right(first, image.len()) {
+        return plan::refused(13, 0);
+    }
+    if !table::table_right(olds, news) {
         return plan::refused(14, 0);
     }
-    plan::refused(13, 0)
+    if !relocate_frame::registers_right(registers) {
+        return plan::refused(25, 0);
+    }
+    let named = find::named(section, found, frame.function);
+    let at = relocate_frame::cursor(frame, registers);
+    judge_found(
+        section,
+        named,
+        image,
+        registers,
+        first,
+        olds,
+        news,
+        at,
+        live,
+        bases,
+        derived,
+        settings.most,
+    )
 }
 
 // What `relocate_frame::relocate` with the same arguments answers where it refuses; and else the frame's outline, with the arrays that hold its
@@ -198,12 +199,10 @@ pub fn judge(
     if find::of_section(found) {
         return plan::refused(found.number, found.place);
     }
-    let machine = frame.machine;
-    if relocate_frame::allowed(tables::is_old(section), machine, settings) {
-        return of_section(
-            section, found, image, first, olds, news, frame, registers, live, bases, derived,
-            settings,
-        );
+    if !relocate_frame::allowed(tables::is_old(section), frame.machine, settings) {
+        return plan::refused(33, 0);
     }
-    plan::refused(33, 0)
+    of_section(
+        section, found, image, first, olds, news, frame, registers, live, bases, derived, settings,
+    )
 }

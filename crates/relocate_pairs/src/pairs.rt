@@ -79,6 +79,7 @@ fn form_of(machine: Machine, old: bool, s: &[u8], at: usize, j: usize) -> Option
 }
 
 // The lowest pair of wrong form, or how many pairs there are; and how many pointers the pairs before it are.
+// Kept: the contract of the public `check_forms` speaks of both fields.
 #[derive(Clone, Copy)]
 pub struct Forms {
     pub wrong: usize,

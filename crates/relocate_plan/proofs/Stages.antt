@@ -4,8 +4,8 @@ use mathlib.Core.Path.{◌≡◌, refl, ◌∙◌}
 use mathlib.Core.Bool.{Bool, true, false, not, ◌||◌}
 use mathlib.Core.List.{List, flatten}
 use native.Mathlib.Omega.{arith}
-use borrow.Author.Tests.{leb-true, leb-false, le-leb, lt-leb, lt-ltb, le-ltb, eq-eqb, ne_eqb}
-use lib.Dec.{leb, ltb}
+use borrow.Author.Tests.{leb-true, le-leb, lt-leb}
+use lib.Dec.{leb}
 use lib.ListN.{length}
 use Rattle.wire.specs.Word.{Bytes}
 use Rattle.stackmap.specs.Section.{Record, Entry, is_old}
@@ -51,26 +51,6 @@ pub image-most : (first n : ℕ) → image_right first n ≡ true → n ≤ imag
 unfolding image_right
 image-most first n h = leb-true _ _ (and_true (leb n 1048576) (leb (first + n) (2 ^ 64 - 1)) h).0
 
--- 16
-
-module _ (first n rsp size : ℕ) where
-  pub extent-unknown : size ≡ 2 ^ 64 - 1 → false ≡ extent_right first n rsp size
-  unfolding extent_right
-  extent-unknown h = rw (eq-eqb size (2 ^ 64 - 1) h)
-
-  module _ (known : size ≡ 2 ^ 64 - 1 → ⊥) where
-    pub extent-below : rsp < first → false ≡ extent_right first n rsp size
-    unfolding extent_right
-    extent-below h = rw (ne_eqb size (2 ^ 64 - 1) known, lt-leb first rsp h)
-
-    pub extent_past : first ≤ rsp → first + n < rsp + size → false ≡ extent_right first n rsp size
-    unfolding extent_right
-    extent_past l h = rw (ne_eqb size (2 ^ 64 - 1) known, le-leb first rsp l, lt-leb (rsp + size) (first + n) h)
-
-    pub extent_fine : first ≤ rsp → rsp + size ≤ first + n → true ≡ extent_right first n rsp size
-    unfolding extent_right
-    extent_fine l h = rw (ne_eqb size (2 ^ 64 - 1) known, le-leb first rsp l, le-leb (rsp + size) (first + n) h)
-
 -- 18, 17 over the pointers
 
 module _ (R : Restore) (f : Cursor) (size : ℕ) (r : Record) (count : ℕ) (c : count ≡ length (pairs r)) (old : Bool) (is : old ≡ is_old R.section) where
@@ -101,14 +81,6 @@ module _ (R : Restore) (f : Cursor) (size : ℕ) (r : Record) (count : ℕ) (c :
 -- in version 1 there are few pairs
 pub few-old : (old : Bool) (n most : ℕ) → (not old || leb n most) ≡ true → old ≡ true → n ≤ most
 few-old old n most h e = leb-true n most (rw e at h)
-
--- more than the most, as the code compares
-pub many-old : (n most : ℕ) → not (ltb most n) ≡ leb n most
-many-old n most = go (leb n most) refl
-  where
-    go : (b : Bool) → leb n most ≡ b → not (ltb most n) ≡ leb n most
-    go true e = rw (e, le-ltb most n (leb-true n most e))
-    go false e = rw (e, lt-ltb most n (leb-false n most e))
 
 -- 12, 16, 17
 

@@ -6,21 +6,12 @@ ghost use Rattle.relocate.specs.Plan.{extent_right};
 const STACK_SIZE_UNKNOWN: u64 = 18446744073709551615;
 
 // The test of refusal 16, of an extent of `size` bytes from the stack pointer.
+#[tactic(auto, unfolding(relocate::specs::Plan::extent_right))]
 pub fn extent_right(first: u64, long: usize, sp: u64, size: u64) -> bool
     ensures { result ≡ extent_right first long sp size }
 {
-    if size == STACK_SIZE_UNKNOWN {
-        return false;
-    }
-    if sp < first {
-        return false;
-    }
-    let gap = sp - first;
-    if gap > long as u64 {
-        return false;
-    }
-    if size > long as u64 - gap {
-        return false;
-    }
-    true
+    size != STACK_SIZE_UNKNOWN
+        && sp >= first
+        && sp - first <= long as u64
+        && size <= long as u64 - (sp - first)
 }

@@ -7,6 +7,7 @@ pub mod plan;
 
 // A refusal's number and place; or 0, and the frame's extent of `size` bytes from the stack pointer, with the record at `at` of the section:
 // its `count` pairs from location `start` on have the right form, and are `pointers` pointers. `old` is true for version 1.
+// Kept: the contracts of the public `outline_found` and `judge` (`Outlines`, `Judged`) speak of `number` and `place`.
 #[derive(Clone, Copy)]
 pub struct Outline {
     pub number: u8,

@@ -75,10 +75,7 @@ fn outline_pairs(
 fn too_many(old: bool, count: usize, most: usize) -> bool
     ensures { not result ≡ (not old || leb count most) }
 {
-    if old {
-        return count > most;
-    }
-    false
+    old && count > most
 }
 
 // 12, 16, version 1's 17 and what follows, of the record at `at`, of a function with this stack size.
@@ -95,19 +92,18 @@ fn outline_record(
     ensures { (olds news : List ℕ) → Outlines (restore s.now olds news first (limited most)) long frame
         (plan_record (restore s.now olds news first (limited most)) long frame size (record_of s.now at)) result }
 {
-    if statepoint::is_statepoint(s, at) {
-        if extent::extent_right(first, long, frame.sp, size) {
-            let p = statepoint::pairs_of(s, at);
-            let count = p.count;
-            let old = tables::is_old(s);
-            if too_many(old, count, most) {
-                return refused(17, 0);
-            }
-            return outline_pairs(s, at, p.start, count, size as usize, frame, old, most);
-        }
+    if !statepoint::is_statepoint(s, at) {
+        return refused(12, 0);
+    }
+    if !extent::extent_right(first, long, frame.sp, size) {
         return refused(16, 0);
     }
-    refused(12, 0)
+    let p = statepoint::pairs_of(s, at);
+    let old = tables::is_old(s);
+    if too_many(old, p.count, most) {
+        return refused(17, 0);
+    }
+    outline_pairs(s, at, p.start, p.count, size as usize, frame, old, most)
 }
 
 // 10, 15 and what follows, of an accepted section.

@@ -27,18 +27,12 @@ pub fn at_pair(m: Move, old: bool, s: &[u8], at: usize, start: usize, count: usi
     requires { Paired s.now at start count }
     ensures { (f : CursorType.Cursor) → result ≡ at_pair (pointers_by old (pool_of s.now) f (record_of s.now at)) m }
 {
-    if m.number == 0 {
-        return Move {
-            number: 0,
-            place: 0,
-            count: m.count,
-        };
-    }
-    Move {
-        number: m.number,
-        place: pairs::pair_of(old, s, at, start, count, m.place),
-        count: m.count,
-    }
+    let place = if m.number == 0 {
+        0
+    } else {
+        pairs::pair_of(old, s, at, start, count, m.place)
+    };
+    Move { place, ..m }
 }
 
 // 19, and the move of the window of `size` bytes from the stack pointer. The record at `at` has `count` pairs, from location `start` on; they

@@ -25,25 +25,25 @@ is_old-requires c =
     let i = tables-inside a.section.now (length a.section.now) (section-accepted a.section.now a.frame.address r.result r.ensures (sym c.of_section.ensures ∙ c.if-of_section.false)) in
     omega arith
 
-pub of_section-requires-then-allowed : goal.of_section-requires-then-allowed
-of_section-requires-then-allowed c =
+pub of_section-requires-2 : goal.of_section-requires-2
+of_section-requires-2 c =
     let a = c.args in
     let R = restore a.section.now a.olds.now a.news.now a.first a.settings in (
       c.records-found.ensures,
       sym c.of_section.ensures ∙ c.if-of_section.false,
-      allowed-is R a.frame.machine _ _ c.is_old.ensures c.allowed.ensures ∙ c.if-allowed.true,
+      allowed-is R a.frame.machine _ _ c.is_old.ensures c.allowed.ensures ∙ c.if-not-allowed.false,
       c.requires,
     )
 
-pub returns-then-allowed : goal.returns-then-allowed
-returns-then-allowed c = c.of_section-then-allowed.ensures
-
 pub returns : goal.returns
-returns c =
+returns c = c.of_section-2.ensures
+
+pub returns-then-not-allowed : goal.returns-then-not-allowed
+returns-then-not-allowed c =
     let a = c.args in
     let r = c.records-found in
     let R = restore a.section.now a.olds.now a.news.now a.first a.settings in
     let st = stopped a.frame a.registers.now in
     let k = section-accepted a.section.now a.frame.address r.result r.ensures (sym c.of_section.ensures ∙ c.if-of_section.false) in
-    let l = allowed-is R a.frame.machine _ _ c.is_old.ensures c.allowed.ensures ∙ c.if-allowed.false in
-    refuses_at R a.image.now st _ _ _ _ 33 0 _ c.refused-2.ensures (plan_33 R a.image.now st k l) (λ z. absurd (omega arith))
+    let l = allowed-is R a.frame.machine _ _ c.is_old.ensures c.allowed.ensures ∙ c.if-not-allowed.true in
+    refuses_at R a.image.now st _ _ _ _ 33 0 _ c.refused-then-not-allowed.ensures (plan_33 R a.image.now st k l) (λ z. absurd (omega arith))

@@ -17,7 +17,7 @@ named-named-requires c =
     omega arith
 
 pub cursor-at-requires : goal.cursor-at-requires
-cursor-at-requires c = registers_32 _ (sym c.registers_right.ensures ∙ c.if-registers_right.true)
+cursor-at-requires c = registers_32 _ (sym c.registers_right.ensures ∙ c.if-not-registers_right.false)
 
 pub judge_found-requires : goal.judge_found-requires
 judge_found-requires c =
@@ -27,45 +27,11 @@ judge_found-requires c =
       c.named-named.ensures
           ∙ named-sought a.section.now a.frame.function a.frame.address a.found (first_found a.section.now a.frame.address a.found c.requires.0 c.requires.1)
           ∙ ap first_of (sym (records-at a.section.now st c.cursor-at.result c.cursor-at.ensures)),
-      sym c.image_right.ensures ∙ c.if-image_right.true,
-      sym c.table_right.ensures ∙ c.if-table_right.true,
+      sym c.image_right.ensures ∙ c.if-not-image_right.false,
+      sym c.table_right.ensures ∙ c.if-not-table_right.false,
       c.requires.3,
-      registers_32 _ (sym c.registers_right.ensures ∙ c.if-registers_right.true),
+      registers_32 _ (sym c.registers_right.ensures ∙ c.if-not-registers_right.false),
     )
-
-pub returns-then-registers_right : goal.returns-then-registers_right
-returns-then-registers_right c =
-    let a = c.args in
-    let R = restore a.section.now a.olds.now a.news.now a.first a.settings in
-    let st = stopped a.frame a.registers.now in
-    let k = section-accepted a.section.now a.frame.address a.found c.requires.0 c.requires.1 in
-    let f = c.cursor-at.result in
-    let i = sym c.image_right.ensures ∙ c.if-image_right.true in
-    let t = sym c.table_right.ensures ∙ c.if-table_right.true in
-    let g = sym c.registers_right.ensures ∙ c.if-registers_right.true in
-    judged-cursor R a.image.now st f _ _ _ _ _ c.cursor-at.ensures
-    (c.judge_found.ensures a.frame a.settings c.cursor-at.ensures
-    (plan-at R a.image.now st k c.requires.2 i t g f c.cursor-at.ensures
-    ∙ sym (limited-entry a.section.now a.olds.now a.news.now a.first a.settings (length a.image.now) f (sought a.section.now f.function f.address))))
-
-pub returns-then-table_right : goal.returns-then-table_right
-returns-then-table_right c =
-    let a = c.args in
-    let R = restore a.section.now a.olds.now a.news.now a.first a.settings in
-    let st = stopped a.frame a.registers.now in
-    let k = section-accepted a.section.now a.frame.address a.found c.requires.0 c.requires.1 in
-    let i = sym c.image_right.ensures ∙ c.if-image_right.true in
-    let t = sym c.table_right.ensures ∙ c.if-table_right.true in
-    refuses_at R a.image.now st _ _ _ _ 25 0 _ c.refused.ensures (plan_25 R a.image.now st k c.requires.2 i t (sym c.registers_right.ensures ∙ c.if-registers_right.false)) (λ z. absurd (omega arith))
-
-pub returns-then-image_right : goal.returns-then-image_right
-returns-then-image_right c =
-    let a = c.args in
-    let R = restore a.section.now a.olds.now a.news.now a.first a.settings in
-    let st = stopped a.frame a.registers.now in
-    let k = section-accepted a.section.now a.frame.address a.found c.requires.0 c.requires.1 in
-    let i = sym c.image_right.ensures ∙ c.if-image_right.true in
-    refuses_at R a.image.now st _ _ _ _ 14 0 _ c.refused-then-image_right.ensures (plan_14 R a.image.now st k c.requires.2 i (sym c.table_right.ensures ∙ c.if-table_right.false)) (λ z. absurd (omega arith))
 
 pub returns : goal.returns
 returns c =
@@ -73,4 +39,38 @@ returns c =
     let R = restore a.section.now a.olds.now a.news.now a.first a.settings in
     let st = stopped a.frame a.registers.now in
     let k = section-accepted a.section.now a.frame.address a.found c.requires.0 c.requires.1 in
-    refuses_at R a.image.now st _ _ _ _ 13 0 _ c.refused-2.ensures (plan_13 R a.image.now st k c.requires.2 (sym c.image_right.ensures ∙ c.if-image_right.false)) (λ z. absurd (omega arith))
+    let f = c.cursor-at.result in
+    let i = sym c.image_right.ensures ∙ c.if-not-image_right.false in
+    let t = sym c.table_right.ensures ∙ c.if-not-table_right.false in
+    let g = sym c.registers_right.ensures ∙ c.if-not-registers_right.false in
+    judged-cursor R a.image.now st f _ _ _ _ _ c.cursor-at.ensures
+    (c.judge_found.ensures a.frame a.settings c.cursor-at.ensures
+    (plan-at R a.image.now st k c.requires.2 i t g f c.cursor-at.ensures
+    ∙ sym (limited-entry a.section.now a.olds.now a.news.now a.first a.settings (length a.image.now) f (sought a.section.now f.function f.address))))
+
+pub returns-then-not-registers_right : goal.returns-then-not-registers_right
+returns-then-not-registers_right c =
+    let a = c.args in
+    let R = restore a.section.now a.olds.now a.news.now a.first a.settings in
+    let st = stopped a.frame a.registers.now in
+    let k = section-accepted a.section.now a.frame.address a.found c.requires.0 c.requires.1 in
+    let i = sym c.image_right.ensures ∙ c.if-not-image_right.false in
+    let t = sym c.table_right.ensures ∙ c.if-not-table_right.false in
+    refuses_at R a.image.now st _ _ _ _ 25 0 _ c.refused-then-not-registers_right.ensures (plan_25 R a.image.now st k c.requires.2 i t (sym c.registers_right.ensures ∙ c.if-not-registers_right.true)) (λ z. absurd (omega arith))
+
+pub returns-then-not-table_right : goal.returns-then-not-table_right
+returns-then-not-table_right c =
+    let a = c.args in
+    let R = restore a.section.now a.olds.now a.news.now a.first a.settings in
+    let st = stopped a.frame a.registers.now in
+    let k = section-accepted a.section.now a.frame.address a.found c.requires.0 c.requires.1 in
+    let i = sym c.image_right.ensures ∙ c.if-not-image_right.false in
+    refuses_at R a.image.now st _ _ _ _ 14 0 _ c.refused-then-not-table_right.ensures (plan_14 R a.image.now st k c.requires.2 i (sym c.table_right.ensures ∙ c.if-not-table_right.true)) (λ z. absurd (omega arith))
+
+pub returns-then-not-image_right : goal.returns-then-not-image_right
+returns-then-not-image_right c =
+    let a = c.args in
+    let R = restore a.section.now a.olds.now a.news.now a.first a.settings in
+    let st = stopped a.frame a.registers.now in
+    let k = section-accepted a.section.now a.frame.address a.found c.requires.0 c.requires.1 in
+    refuses_at R a.image.now st _ _ _ _ 13 0 _ c.refused.ensures (plan_13 R a.image.now st k c.requires.2 (sym c.image_right.ensures ∙ c.if-not-image_right.true)) (λ z. absurd (omega arith))

@@ -8,7 +8,7 @@ use Rattle.relocate_plan.proofs.Stages.{refuses, outlined, image-most, few-old, 
 use Rattle.relocate_plan.proofs.plan.outline_record.Goals as goal
 
 pub pairs_of-p-requires : goal.pairs_of-p-requires
-pairs_of-p-requires c = (c.requires.0, sym c.is_statepoint.ensures ∙ c.if-is_statepoint.true)
+pairs_of-p-requires c = (c.requires.0, sym c.is_statepoint.ensures ∙ c.if-not-is_statepoint.false)
 
 pub is_old-old-requires : goal.is_old-old-requires
 is_old-old-requires c = let t = c.requires.0.tables in omega arith
@@ -17,33 +17,33 @@ pub returns-then-too_many : goal.returns-then-too_many
 returns-then-too_many c olds news =
     let a = c.args in
     let R = restore a.s.now olds news a.first (limited a.most) in
-    refuses R a.frame _ _ a.long 17 0 (omega arith) c.refused.ensures
-    (record_17 R a.long a.frame a.size (record_of a.s.now a.at) (sym c.is_statepoint.ensures ∙ c.if-is_statepoint.true) (sym c.extent_right.ensures ∙ c.if-extent_right.true) _ c.pairs_of-p.ensures.counted
+    refuses R a.frame _ _ a.long 17 0 (omega arith) c.refused-then-too_many.ensures
+    (record_17 R a.long a.frame a.size (record_of a.s.now a.at) (sym c.is_statepoint.ensures ∙ c.if-not-is_statepoint.false) (sym c.extent_right.ensures ∙ c.if-not-extent_right.false) _ c.pairs_of-p.ensures.counted
     (rw c.is_old-old.ensures at (sym c.too_many.ensures ∙ ap not c.if-too_many.true)))
 
 pub outline_pairs-requires : goal.outline_pairs-requires
 outline_pairs-requires c = (c.pairs_of-p.ensures, c.is_old-old.ensures, few-old _ _ _ (sym c.too_many.ensures ∙ ap not c.if-too_many.false), c.requires.2)
 
-pub returns-then-extent_right : goal.returns-then-extent_right
-returns-then-extent_right c olds news =
-    let a = c.args in
-    let R = restore a.s.now olds news a.first (limited a.most) in
-    let x = sym c.extent_right.ensures ∙ c.if-extent_right.true in
-    let t = extent_tells a.first a.long a.frame.sp a.size x in
-    let m = image-most a.first a.long c.requires.1 in
-    rw (record_on R a.long a.frame a.size (record_of a.s.now a.at) (sym c.is_statepoint.ensures ∙ c.if-is_statepoint.true) x _ c.pairs_of-p.ensures.counted)
-    (outlined R a.frame _ _ a.long a.size x (omega arith) (c.outline_pairs.ensures olds news a.first))
-
-pub returns-then-is_statepoint : goal.returns-then-is_statepoint
-returns-then-is_statepoint c olds news =
-    let a = c.args in
-    let R = restore a.s.now olds news a.first (limited a.most) in
-    refuses R a.frame _ _ a.long 16 0 (omega arith) c.refused-then-is_statepoint.ensures
-    (record_16 R a.long a.frame a.size (record_of a.s.now a.at) (sym c.is_statepoint.ensures ∙ c.if-is_statepoint.true) (sym c.extent_right.ensures ∙ c.if-extent_right.false))
-
 pub returns : goal.returns
 returns c olds news =
     let a = c.args in
     let R = restore a.s.now olds news a.first (limited a.most) in
-    refuses R a.frame _ _ a.long 12 0 (omega arith) c.refused-2.ensures
-    (record_12 R a.long a.frame a.size (record_of a.s.now a.at) (sym c.is_statepoint.ensures ∙ c.if-is_statepoint.false))
+    let x = sym c.extent_right.ensures ∙ c.if-not-extent_right.false in
+    let t = extent_tells a.first a.long a.frame.sp a.size x in
+    let m = image-most a.first a.long c.requires.1 in
+    rw (record_on R a.long a.frame a.size (record_of a.s.now a.at) (sym c.is_statepoint.ensures ∙ c.if-not-is_statepoint.false) x _ c.pairs_of-p.ensures.counted)
+    (outlined R a.frame _ _ a.long a.size x (omega arith) (c.outline_pairs.ensures olds news a.first))
+
+pub returns-then-not-extent_right : goal.returns-then-not-extent_right
+returns-then-not-extent_right c olds news =
+    let a = c.args in
+    let R = restore a.s.now olds news a.first (limited a.most) in
+    refuses R a.frame _ _ a.long 16 0 (omega arith) c.refused-then-not-extent_right.ensures
+    (record_16 R a.long a.frame a.size (record_of a.s.now a.at) (sym c.is_statepoint.ensures ∙ c.if-not-is_statepoint.false) (sym c.extent_right.ensures ∙ c.if-not-extent_right.true))
+
+pub returns-then-not-is_statepoint : goal.returns-then-not-is_statepoint
+returns-then-not-is_statepoint c olds news =
+    let a = c.args in
+    let R = restore a.s.now olds news a.first (limited a.most) in
+    refuses R a.frame _ _ a.long 12 0 (omega arith) c.refused.ensures
+    (record_12 R a.long a.frame a.size (record_of a.s.now a.at) (sym c.is_statepoint.ensures ∙ c.if-not-is_statepoint.true))
