@@ -37,7 +37,7 @@ returns-then-not-lent c =
     let im = a.image.now in
     let k = section-accepted a.section.now a.frame.address a.found c.requires.0 c.requires.1 in
     relocates R im st _ _ _
-    (refuses _ _ _ _ _ _ 25 0 c.refused-then-not-lent.ensures (plan_25 R im st k c.requires.2 (sym c.image_right.ensures ∙ c.if-not-image_right.false) (sym c.table_right-right.ensures ∙ c.if-not-right.false) (sym c.registers_right-lent.ensures ∙ c.if-not-lent.true)))
+    (refuses _ _ _ _ _ _ 25 0 c.refused-then-not-lent.ensures (plan_25 R im st k c.requires.2 (sym c.image_right.ensures ∙ c.if-not-image_right.false) (cc) (sym c.registers_right-lent.ensures ∙ c.if-not-lent.true)))
 
 pub returns : goal.returns
 returns c =
