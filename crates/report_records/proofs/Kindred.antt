@@ -4,7 +4,6 @@ use mathlib.Core.Path.{◌≡◌, sym, ◌∙◌}
 use mathlib.Core.Bool.{Bool, true, false}
 use mathlib.Core.List.{List}
 use native.Mathlib.Omega.{arith}
-use native.Mathlib.Nat.{mul-le-mul_left}
 use lib.Dec.{eqb}
 use lib.ListN.{length, get_or}
 use Rattle.wire.specs.Word.{word}
@@ -34,40 +33,30 @@ one-kind k = record { register = one-most (eqb k 1); direct = one-most (eqb k 2)
 abbrev locations : Bool → ℕ → List ℕ → ℕ → List Location
 locations old n s p = many (read_location old) (location_size old) n s p
 
--- The first i of the locations are counted.
-pub record Counting (old : Bool) (s : List ℕ) (count i : ℕ) (kinds : Kinds) : Type 0 where
-  pub all : kinds_of (locations old count s 16) ≡ plus_kinds kinds (kinds_of (locations old (count - i) s (16 + location_size old * i)))
-  pub most : KindsMost i kinds
-  pub inside : 16 + location_size old * count ≤ length s
-  pub few : i ≤ count
+-- So many locations are left, from p on, of those that are counted.
+pub record Counting (old : Bool) (s : List ℕ) (count p left : ℕ) (kinds : Kinds) : Type 0 where
+  pub all : kinds_of (locations old count s 16) ≡ plus_kinds kinds (kinds_of (locations old left s p))
+  pub most : KindsMost (count - left) kinds
+  pub inside : p + location_size old * left ≤ length s
+  pub few : left ≤ count
 
 no_kinds_lem : (n : ℕ) → KindsMost n no_kinds
 no_kinds_lem n = record { register = omega arith; direct = omega arith; indirect = omega arith; constant = omega arith; pool = omega arith }
 
 module _ (old : Bool) (s : List ℕ) (count : ℕ) where
-  pub count-start : 16 + location_size old * count ≤ length s → Counting old s count 0 no_kinds
-  count-start h =
-      let p : 16 + location_size old * 0 ≡ 16 = omega arith in
-      let n : count - 0 ≡ count = omega arith in
-      record { all = rw (p, n) (sym (kinds-start _)); most = no_kinds_lem _; inside = h; few = omega arith }
+  pub count-start : 16 + location_size old * count ≤ length s → Counting old s count 16 count no_kinds
+  count-start h = record { all = sym (kinds-start _); most = no_kinds_lem _; inside = h; few = omega arith }
 
-  -- the next location is inside
-  pub count_here : (i : ℕ) (kinds : Kinds) → Counting old s count i kinds → i < count → 16 + location_size old * i + location_size old ≤ length s
-  count_here i kinds h l =
-      let f : i + 1 ≤ count = omega arith in
-      omega (arith, h.inside, mul-le-mul_left (location_size old) f)
-
-  pub count_on : (i : ℕ) (kinds kinds' : Kinds) → Counting old s count i kinds → i < count
-      → kinds' ≡ plus_kinds kinds (of_kind (get_or s (16 + location_size old * i) 0)) → Counting old s count (i + 1) kinds'
+  pub count_on : (p left : ℕ) (kinds kinds' : Kinds) → Counting old s count p left kinds → 0 < left → kinds' ≡ plus_kinds kinds (of_kind (get_or s p 0))
+      → Counting old s count (p + location_size old) (left - 1) kinds'
   unfolding kinds_of
-  count_on i kinds kinds' h l e =
-      let n : count - (i + 1) ≡ count - i - 1 = omega arith in
-      let p : 16 + location_size old * (i + 1) ≡ 16 + location_size old * i + location_size old = omega arith in
+  count_on p left kinds kinds' h l e =
+      let n : count - (left - 1) ≡ count - left + 1 = omega (arith, h.few) in
       record {
-        all = h.all ∙ rw (many_step (read_location old) (location_size old) (count - i) s (16 + location_size old * i) (omega arith), kind-here old s (16 + location_size old * i), e, n, p) (sym (kinds_assoc _ _ _));
-        most = rw e (kinds-most _ _ _ _ h.most (one-kind _));
-        inside = h.inside;
-        few = omega arith;
+        all = h.all ∙ rw (many_step (read_location old) (location_size old) left s p l, kind-here old s p, e) (sym (kinds_assoc _ _ _));
+        most = rw (n, e) (kinds-most _ _ _ _ h.most (one-kind _));
+        inside = let k = mul_step (location_size old) left l in omega (arith, h.inside);
+        few = omega (arith, h.few);
       }
 
   -- the same for a loop that counts up: location number i of them
@@ -78,6 +67,6 @@ module _ (old : Bool) (s : List ℕ) (count : ℕ) where
 
   pub count-end : (p left : ℕ) (kinds : Kinds) → Counting old s count p left kinds → left ≡ 0 → (kinds ≡ kinds_of (locations old count s 16)) × KindsMost count kinds
   unfolding kinds_of many
-  count-end i kinds h z =
-      let n : count - i ≡ 0 = omega arith in
-      (sym (rw (n, kinds-none) at h.all), rw z at h.most)
+  count-end p left kinds h z =
+      let n : count - 0 ≡ count = omega arith in
+      (sym (rw (z, kinds-none) at h.all), rw (z, n) at h.most)

@@ -2,7 +2,7 @@ use Prim.Native.Nat.{◌+◌, ◌*◌, ◌-◌}
 use mathlib.Core.Path.{◌≡◌}
 use native.Mathlib.Omega.{arith}
 use Rattle.stackmap.specs.Layout.{location_size}
-use Rattle.stackmap.proofs.Steps.{times_most, location_least}
+use Rattle.stackmap.proofs.Steps.{mul_step, times_most, location_least}
 use Rattle.report.proofs.Plus.{kinds-below}
 use Rattle.report_records.proofs.Kindred.{count-start, count_turn, count-end}
 use Rattle.report_records.proofs.kinds_of.Goals as goal
