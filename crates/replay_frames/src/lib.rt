@@ -29,16 +29,6 @@ struct Part {
     known: Outcome,
 }
 
-// The smaller of two numbers.
-fn least(a: usize, b: usize) -> usize
-    ensures { result ≡ a - (a - b) }
-{
-    if a < b {
-        return a;
-    }
-    b
-}
-
 // 13, 14: once for all frames.
 fn fault(image: &[u8], first: u64, olds: &[u64], news: &[u64]) -> u8
     ensures { (s : List ℕ) (settings : SettingsType.Settings) → result ≡ spec.fault (restore s olds.now news.now first settings) (length image.now) }
@@ -70,7 +60,7 @@ fn replay_part(
     ensures { Done (restore s.now olds.now news.now first settings) t.now all i kept image.old result.next result.known image.new
         × (i < result.next) × (result.next ≤ all) }
 {
-    let n = least(all - i, FRAMES_MOST);
+    let n = FRAMES_MOST.min(all - i);
     let mut keys = [0u64; FRAMES_MOST];
     addresses::gather(t, i, n, &mut keys);
     let mut hits = [0usize; search::HITS_LENGTH];

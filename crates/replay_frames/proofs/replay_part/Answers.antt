@@ -8,14 +8,13 @@ use Rattle.thread_call.proofs.Whole.{valid-accepted, blank_holds, blank_counted}
 use Rattle.replay_frames.proofs.replay_part.Goals as goal
 
 pub find_all-requires : goal.find_all-requires
-find_all-requires c = (omega (arith, c.least-n.ensures), c.gather.ensures.sorted, blank_holds _ _ 16384, blank_counted 16384)
+find_all-requires c = (omega arith, c.gather.ensures.sorted, blank_holds _ _ 16384, blank_counted 16384)
 
 pub replay_steps-requires : goal.replay_steps-requires
 replay_steps-requires c =
     let a = c.args in
     let v = ap verdict c.in-Ok.is in
     let f = c.find_all.ensures in
-    let e = c.least-n.ensures in
     record {
       looked = record {
         section_right = valid-accepted a.s.now _ (sym v ∙ f.0);

@@ -8,9 +8,6 @@ use Rattle.replay_frames.proofs.frames.replay_steps.Goals as goal
 pub loop-k-init : goal.loop-k-init
 loop-k-init c = (record { outcome = refl; image = refl; long = refl }, omega arith)
 
-pub overflow_add-i : goal.overflow_add-i
-overflow_add-i c = omega (arith, c.requires.looked.room)
-
 pub replay_step-known-requires : goal.replay_step-known-requires
 replay_step-known-requires c =
     let inv = c.loop-k.invariant in
