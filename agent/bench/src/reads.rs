@@ -1,5 +1,5 @@
 //! Both proved ways to read eight little-endian bytes (`crates/reads`) beside a plain read in Rust, each over the same
-//! million places of a section. The library reads by `u64::from_le_bytes`, which is neither.
+//! million places of a section. The library reads by `u64::from_le_bytes` of a part of the slice.
 
 mod ffi;
 #[cfg(test)]
