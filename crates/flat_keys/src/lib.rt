@@ -39,7 +39,8 @@ pub fn order(s: &[u8], keys: &mut [u64]) -> usize
     let records = offsets::num_records(s);
     let count = records.min(KEYS_MOST);
     fill(s, &mut keys[..count]);
-    sorted_numbers::sort(keys, count);
+    // Kept: std's sort calls itself, and a lookup would need 3.7 KiB of stack over the 1 MiB that it is said to need.
+    sorted_numbers::shell::sort(keys, count);
     count
 }
 
