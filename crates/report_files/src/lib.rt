@@ -2,7 +2,7 @@
 // What an operating system call reads is outside every contract; all that matters is in `report_totals` and `report_lines`.
 #![tactic(auto)]
 
-ghost use Rattle.std.specs.Prelude.{◌≡◌, ◌≤◌, ◌⊎◌, [], length, IfSome};
+ghost use Rattle.std.specs.Prelude.{◌≡◌, ◌≤◌, ◌<◌, ◌⊎◌, [], length, IfSome};
 ghost use Rattle.report.specs.Totals.{add_section};
 
 use report::{Kinds, Reported, Totals};
@@ -24,6 +24,18 @@ fn add_refused(totals: Totals) -> Reported
     report_totals::add(&[], totals)
 }
 
+// What was read of a file that ended, or as much of it as there is room for: it counts, but where it is longer than a file may be.
+fn add_read(bytes: &[u8], totals: Totals) -> Reported
+    ensures whole { length bytes.now ≤ 65536 → result ≡ add_section bytes.now totals }
+    ensures longer { 65536 < length bytes.now → result ≡ add_section [] totals }
+{
+    if bytes.len() < ROOM {
+        report_totals::add(bytes, totals)
+    } else {
+        add_refused(totals)
+    }
+}
+
 // The file's bytes count where they all came: no read failed, and none came beyond the most that a file may have.
 fn add_open<R: Read>(file: &mut R, totals: Totals) -> Reported
     ensures { IfSome (R.remaining file.old) (λ bytes. (result ≡ add_section [] totals)
@@ -31,8 +43,8 @@ fn add_open<R: Read>(file: &mut R, totals: Totals) -> Reported
 {
     let mut bytes = [0u8; ROOM];
     match inputs::read_full(file, &mut bytes) {
-        Ok(n) if n < ROOM => report_totals::add(&bytes[..n], totals),
-        _ => add_refused(totals),
+        Ok(n) => add_read(&bytes[..n], totals),
+        Err(_) => add_refused(totals),
     }
 }
 
