@@ -1,11 +1,11 @@
 -- What std's search tells of pairs that rise, and what that tells of a pair's place.
 use Prim.Native.Nat.{ℕ, zero, suc, ◌+◌, ◌*◌, ◌-◌, ◌/◌, ◌≤◌, ◌<◌}
 use mathlib.Core.Path.{◌≡◌, refl, sym, ap, ◌∙◌}
-use mathlib.Core.Bool.{Bool, true, false, ◌&&◌, cond}
+use mathlib.Core.Bool.{Bool, true, false, ◌&&◌, ◌||◌}
 use mathlib.Core.List.{List, []}
 use native.Mathlib.Omega.{arith}
-use native.Mathlib.Decide.{dec_lt}
-use borrow.Author.Tests.{eq-eqb, ltb-true, ltb-false, lt-ltb, le-ltb}
+use native.Mathlib.Decide.{dec_lt, ℕ_discrete}
+use borrow.Author.Tests.{eq-eqb, ne_eqb, ltb-true, ltb-false, lt-ltb, le-ltb}
 use lib.Dec.{eqb, ltb}
 use lib.ListN.{length, get_or, take, drop}
 use lib.Seq.{get_or-take, get_or-drop, drop-drop, length-take-le}
@@ -31,17 +31,17 @@ rising_climb xs n r i j l m = let z : i + (j - i) ≡ j = omega arith in rw z at
 -- The search: the rows of two numbers, each before (a, b) or not, and what std tells of them.
 
 abbrev pub before_pair : ℕ → ℕ → List ℕ → Bool
-before_pair a b row = cond (ltb (get_or row 0 0) a) true (cond (ltb a (get_or row 0 0)) false (ltb (get_or row 1 0) b))
+before_pair a b row = ltb (get_or row 0 0) a || (eqb (get_or row 0 0) a && ltb (get_or row 1 0) b)
 
 by_rank : (c d a b : ℕ) → d < 18446744073709551616 → b < 18446744073709551616
-    → cond (ltb c a) true (cond (ltb a c) false (ltb d b)) ≡ ltb (c * 18446744073709551616 + d) (a * 18446744073709551616 + b)
-by_rank c d a b h k = go (dec_lt c a) (dec_lt a c) (dec_lt d b)
+    → (ltb c a || (eqb c a && ltb d b)) ≡ ltb (c * 18446744073709551616 + d) (a * 18446744073709551616 + b)
+by_rank c d a b h k = go (dec_lt c a) (ℕ_discrete c a) (dec_lt d b)
   where
-    go : Dec (c < a) → Dec (a < c) → Dec (d < b) → cond (ltb c a) true (cond (ltb a c) false (ltb d b)) ≡ ltb (c * 18446744073709551616 + d) (a * 18446744073709551616 + b)
+    go : Dec (c < a) → Dec (c ≡ a) → Dec (d < b) → (ltb c a || (eqb c a && ltb d b)) ≡ ltb (c * 18446744073709551616 + d) (a * 18446744073709551616 + b)
     go (yes l) m n = rw (lt-ltb c a l) (sym (lt-ltb _ _ (omega arith)))
-    go (no l) (yes m) n = rw (le-ltb c a (omega arith), lt-ltb a c m) (sym (le-ltb _ _ (omega arith)))
-    go (no l) (no m) (yes n) = rw (le-ltb c a (omega arith), le-ltb a c (omega arith), lt-ltb d b n) (sym (lt-ltb _ _ (omega arith)))
-    go (no l) (no m) (no n) = rw (le-ltb c a (omega arith), le-ltb a c (omega arith), le-ltb d b (omega arith)) (sym (le-ltb _ _ (omega arith)))
+    go (no l) (no m) n = rw (le-ltb c a (omega arith), ne_eqb c a m) (sym (le-ltb _ _ (omega (arith, m))))
+    go (no l) (yes m) (yes n) = rw (le-ltb c a (omega arith), eq-eqb c a m, lt-ltb d b n) (sym (lt-ltb _ _ (omega arith)))
+    go (no l) (yes m) (no n) = rw (le-ltb c a (omega arith), eq-eqb c a m, le-ltb d b (omega arith)) (sym (le-ltb _ _ (omega arith)))
 
 row_at : (n k : ℕ) (xs : List ℕ) (d : List ℕ) → k < n → get_or (first_chunks 2 n xs) k d ≡ take 2 (drop (2 * k) xs)
 row_at zero k xs d h = absurd (omega arith)
