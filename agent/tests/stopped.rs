@@ -317,7 +317,7 @@ fn registers_of_several_maps_are_put_back_together() {
     let session = |load: &str| {
         let first = restore(0, "saved/image", "");
         let second = restore(1, "saved/moved0/image", " --again");
-        let begin = "break stop\nrun\ntreskibben-save saved\ncall (void)move_heap()\n";
+        let begin = "break stop\nrun\ntreskibben-save saved\nset {int}&move_wanted = 1\ntbreak moved\ncontinue\n";
         let script = format!("{begin}{first}{second}treskibben-load {load}\ncontinue\n");
         fs::write(place.0.join("session.gdb"), script).unwrap();
         place.says("rm -rf saved; gdb --batch -x tools/stopped.py -x session.gdb program")

@@ -1,5 +1,6 @@
-/* A host with one heap object. While gdb has stopped the program, it calls move_heap: the object is copied to another page, the
- * old one can't be read any more, and the file `moves` says where the object was and where it is. */
+/* A host with one heap object. While gdb has stopped the program in `stop`, it sets move_wanted and lets it run to `moved`: the
+ * object is copied to another page, the old one can't be read any more, and the file `moves` says where the object was and where
+ * it is. (gdb could call move_heap itself, but gdb 13 can't call functions on a processor with AMX.) */
 #define _GNU_SOURCE
 #include <stdint.h>
 #include <stdio.h>
@@ -13,9 +14,7 @@ int64_t outer(int64_t *object, int64_t at);
 
 static int64_t *old_page;
 
-void stop(void)
-{
-}
+volatile int move_wanted;
 
 static int64_t *new_page(void)
 {
@@ -27,7 +26,7 @@ static int64_t *new_page(void)
     return page;
 }
 
-void move_heap(void)
+static void move_heap(void)
 {
     int64_t *page = new_page() + 32;
     FILE *moves = fopen("moves", "w");
@@ -37,6 +36,18 @@ void move_heap(void)
     }
     memcpy(page, old_page, WORDS * sizeof *page);
     mprotect(old_page, PAGE, PROT_NONE);
+}
+
+void moved(void)
+{
+}
+
+void stop(void)
+{
+    if (move_wanted) {
+        move_heap();
+        moved();
+    }
 }
 
 int main(void)

@@ -2,7 +2,9 @@
 break stop
 run
 treskibben-save saved
-call (void)move_heap()
+set {int}&move_wanted = 1
+tbreak moved
+continue
 shell treskibben restore --section saved/0.section --image saved/image --output saved/new-image --first $(cat saved/first) --moves moves --frames saved/0.frames
 restore saved/new-image binary $first
 continue
